@@ -1,0 +1,16 @@
+pub mod SignedLaws
+pub mod TagLaws
+pub mod FnvLaws
+pub mod NameLaws
+pub mod NamesLaws
+pub mod LinkLaws
+pub mod HoldsLaws
+pub mod WalkLaws
+pub mod LookupLaws
+pub mod ChainLaws
+pub mod UnchainLaws
+pub mod LeaveSteps
+pub mod LeaveLaws
+pub mod TestLaws
+pub mod SpendLaws
+pub mod CheckLaws

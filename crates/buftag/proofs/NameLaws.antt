@@ -1,0 +1,89 @@
+-- Laws of page names: the test of equality, the bytes back to the name, the hash continued from the file's.
+use mathlib.Core.Path.{_≡_, refl, sym, _∙_, ap}
+use mathlib.Core.Bool.{Bool, true, false, _&&_}
+use mathlib.Core.List.{List, [], _∷_, _++_}
+use Prim.Native.Nat.{ℕ, _+_, _*_, _/_, _%_, _^_, _<_}
+use native.Mathlib.Nat.{mod-lt, mod-eq-of-lt, div-add-mod, div-div-eq-div-mul}
+use native.Mathlib.Omega.{arith}
+use lib.ListN.{length, getD}
+use lib.Seq.{sets}
+use Rattle.laws.specs.Says.{Says}
+use Rattle.laws.proofs.Sets.{sets-append, sets-whole}
+use Rattle.laws.proofs.Says.{says-eq, says-and, says-as}
+use Rattle.buftag.specs.declared.name.FileName.{FileName}
+use Rattle.buftag.specs.declared.name.PageName.{PageName}
+use Rattle.buftag.specs.Bytes.{wordBytes, wordAt}
+use Rattle.buftag.specs.Fnv.{fnv, fnvStart}
+use Rattle.buftag.specs.Name.{fileOf, nameOf, fileBytes, nameBytes, nameOfBytes, hashOf, bucketOf, sameFile, sameName, Fits}
+use Rattle.buftag.proofs.FnvLaws.{fnv-append}
+
+-- ---- equality
+file-parts : {t t′ d d′ r r′ f f′ : ℕ} → t ≡ t′ → d ≡ d′ → r ≡ r′ → f ≡ f′ → fileOf t d r f ≡ fileOf t′ d′ r′ f′
+file-parts p q r s = cc
+
+pub name-parts : {t t′ d d′ r r′ f f′ b b′ : ℕ} → t ≡ t′ → d ≡ d′ → r ≡ r′ → f ≡ f′ → b ≡ b′ → nameOf t d r f b ≡ nameOf t′ d′ r′ f′ b′
+name-parts p q r s t = cc
+
+pub says-same-file : (a b : FileName) → Says (sameFile a b) (a ≡ b)
+says-same-file a b =
+    says-as
+    (λ s. file-parts (s .0 .0 .0) (s .0 .0 .1) (s .0 .1) (s .1))
+    (λ e. (((ap (λ x. x .tablespace) e, ap (λ x. x .database) e), ap (λ x. x .relation) e), ap (λ x. x .fork) e))
+    (says-and (says-and (says-and (says-eq _ _) (says-eq _ _)) (says-eq _ _)) (says-eq _ _))
+
+with-block : {f g : FileName} {b c : ℕ} → f ≡ g → b ≡ c
+    → _≡_ {A = PageName} (record { file = f; block = record { 0 = b } }) (record { file = g; block = record { 0 = c } })
+with-block p q = cc
+
+pub says-same-name : (a b : PageName) → Says (sameName a b) (a ≡ b)
+says-same-name a b =
+    says-as (λ s. with-block (s .0) (s .1)) (λ e. (ap (λ (n : PageName). n .file) e, ap (λ (n : PageName). n .block .0) e))
+    (says-and (says-same-file (a .file) (b .file)) (says-eq _ _))
+
+-- ---- hash
+-- continued over the block's bytes from the hash of the file's
+pub hash-continued : (n : PageName) → fnv (wordBytes (n .block .0)) (fnv (fileBytes (n .file)) fnvStart) ≡ hashOf n
+unfolding hashOf
+hash-continued n = sym (fnv-append (fileBytes (n .file)) (wordBytes (n .block .0)) fnvStart)
+
+pub bucket-lt : (n : PageName) (buckets : ℕ) → 0 < buckets → bucketOf n buckets < buckets
+unfolding bucketOf
+bucket-lt n buckets h = mod-lt _ h
+
+-- ---- bytes and back
+word-back : (w : ℕ) → w < 2 ^ 32 → w % 256 + w / 256 % 256 * 256 + w / 65536 % 256 * 65536 + w / 16777216 % 256 * 16777216 ≡ w
+word-back w h =
+    let e : w / 256 / 256 ≡ w / 65536 = div-div-eq-div-mul w 256 256 in
+    let f : w / 65536 / 256 ≡ w / 16777216 = div-div-eq-div-mul w 65536 256 in
+    let a : 256 * (w / 256) + w % 256 ≡ w = div-add-mod w 256 in
+    let b : 256 * (w / 65536) + w / 256 % 256 ≡ w / 256 = rw e at (div-add-mod (w / 256) 256) in
+    let c : 256 * (w / 16777216) + w / 65536 % 256 ≡ w / 65536 = rw f at (div-add-mod (w / 65536) 256) in
+    let d : w / 16777216 % 256 ≡ w / 16777216 = mod-eq-of-lt (omega arith) in
+    omega arith
+
+pub name-of-bytes : (n : PageName) → Fits n → nameOfBytes (nameBytes n) ≡ n
+name-of-bytes n f =
+    name-parts (word-back (n .file .tablespace) (f .tablespace)) (word-back (n .file .database) (f .database))
+    (word-back (n .file .relation) (f .relation)) (word-back (n .file .fork) (f .fork)) (word-back (n .block .0) (f .block))
+
+-- the five words stored one after the other fill 20 bytes
+pub bytes-put : (out : List ℕ) (n : PageName) → length out ≡ 20
+    → sets
+    (sets
+    (sets
+    (sets
+    (sets out 0 (wordBytes (n .file .tablespace))) 4 (wordBytes (n .file .database))) 8 (wordBytes (n .file .relation)))
+    12 (wordBytes (n .file .fork)))
+    16 (wordBytes (n .block .0))
+    ≡ nameBytes n
+bytes-put out n h =
+    let t = wordBytes (n .file .tablespace) in
+    let d = wordBytes (n .file .database) in
+    let r = wordBytes (n .file .relation) in
+    let f = wordBytes (n .file .fork) in
+    let b = wordBytes (n .block .0) in
+    sets-append (sets (sets (sets out 0 t) 4 d) 8 r) 12 f b
+    ∙ sets-append (sets (sets out 0 t) 4 d) 8 r (f ++ b)
+    ∙ sets-append (sets out 0 t) 4 d (r ++ (f ++ b))
+    ∙ sets-append out 0 t (d ++ (r ++ (f ++ b)))
+    ∙ sets-whole out (nameBytes n) h

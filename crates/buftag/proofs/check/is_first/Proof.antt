@@ -1,0 +1,43 @@
+use Rattle.buftag.specs.Check.{isAt, isFirst}
+use Rattle.buftag.specs.Lookup.{walk}
+use lib.ListN.{length}
+use denote.Ref.{now}
+use mathlib.Core.Path.{_≡_, sym, _∙_, ap}
+use borrow.Author.Needs.{needs}
+use Rattle.buftag.proofs.check.is_first.Statement.{statement}
+use Rattle.buftag.proofs.check.is_first.Tie as tie
+
+stored-requires : tie.Need-stored-requires
+stored-requires c κs = search needs
+
+find-from-requires : tie.Need-find-from-requires
+find-from-requires c κs = search needs
+
+enum-known-found : tie.Need-enum-known-found
+enum-known-found c = search needs
+
+enum-told : tie.Need-enum-told
+enum-told c = search needs
+
+returns : tie.Need-returns
+unfolding isFirst
+returns c =
+    let f = c .before .before in
+    let a = f .before .before .before .args in
+    ap (isAt (a .i))
+    (sym (c .enum-told .given .1) ∙ f .find-from .ensures
+    ∙ ap (λ n. walk (now (a .chain)) (now (a .names)) n (length (now (a .chain))) (a .first)) (f .before .stored .ensures))
+
+returns-2 : tie.Need-returns-2
+unfolding isFirst
+returns-2 c =
+    let f = c .before .before .before .before in
+    let a = f .before .before .before .args in
+    ap (isAt (a .i))
+    (sym (c .before .before .found .given .1) ∙ f .find-from .ensures
+    ∙ ap (λ n. walk (now (a .chain)) (now (a .names)) n (length (now (a .chain))) (a .first)) (f .before .stored .ensures))
+
+pub is-first-spec : {M : Type 1} → statement M
+is-first-spec =
+    tie.close
+    (tie.spec stored-requires find-from-requires enum-known-found enum-told returns returns-2)

@@ -1,0 +1,18 @@
+use borrow.Author.Needs.{needs}
+use Rattle.buftag.proofs.check.is_spent.Statement.{statement}
+use Rattle.buftag.proofs.check.is_spent.Tie as tie
+
+enum-known-w : tie.Need-enum-known-w
+enum-known-w c = search needs
+
+enum-told : tie.Need-enum-told
+enum-told c = search needs
+
+returns : tie.Need-returns
+returns c = rw (c .before .w .given .1)
+
+returns-2 : tie.Need-returns-2
+returns-2 c = search needs
+
+pub is-spent-spec : {M : Type 1} → statement M
+is-spent-spec = tie.close (tie.spec enum-known-w enum-told returns returns-2)

@@ -1,0 +1,31 @@
+use mathlib.Core.Path.{refl}
+use denote.Ref.{now}
+use lib.ListN.{length}
+use Rattle.buftag.specs.Name.{nameBytes}
+use mathlib.Core.Path.{_≡_, sym, _∙_, ap}
+use borrow.Author.Tests.{eq-eqb, ne-eqb}
+use borrow.Author.Needs.{needs}
+use Rattle.buftag.proofs.export.buftag_bytes.Statement.{statement}
+use Rattle.buftag.proofs.export.buftag_bytes.Tie as tie
+
+returns : tie.Need-returns
+returns c = rw (ne-eqb (length (now (c .before .before .args .out))) 20 (c .if1 .taken)) (refl, refl)
+
+name-of-requires : tie.Need-name-of-requires
+name-of-requires c κs = search needs
+
+put-bytes-requires : tie.Need-put-bytes-requires
+put-bytes-requires c κs = search needs
+
+same-length : tie.Need-same-length
+same-length c = search needs
+
+returns-2 : tie.Need-returns-2
+returns-2 c =
+    let s = c .before .before .before .before .before .before .before in
+    rw (eq-eqb (length (now (s .args .out))) 20 (c .before .before .before .before .before .if1 .left))
+    (refl, c .before .before .put-bytes .ensures ∙ ap nameBytes (c .before .before .before .name-of .ensures))
+
+pub buftag-bytes-spec : {M : Type 1} → statement M
+buftag-bytes-spec =
+    tie.close (tie.spec returns name-of-requires put-bytes-requires same-length returns-2)

@@ -1,0 +1,19 @@
+-- 32-bit FNV-1a over bytes.
+use mathlib.Core.List.{List, [], _∷_}
+use Prim.Native.Nat.{ℕ, _*_, _%_, _^_}
+use lib.Bits.{bitXor}
+
+abbrev pub fnvStart : ℕ
+fnvStart = 2166136261
+
+abbrev pub fnvPrime : ℕ
+fnvPrime = 16777619
+
+-- a byte is exclusive-ored in, and the product with the prime keeps its low 32 bits
+unfoldable pub fnvStep : ℕ → ℕ → ℕ
+fnvStep b h = bitXor b h * fnvPrime % 2 ^ 32
+
+-- the hash continued over some bytes
+abbrev pub fnv : List ℕ → ℕ → ℕ
+fnv [] h = h
+fnv (b ∷ bs) h = fnv bs (fnvStep b h)

@@ -1,0 +1,98 @@
+// A page's name: the file's four numbers, and the block's. Its bytes, its hash, its bucket.
+
+ghost use mathlib.Core.Path.{_≡_};
+ghost use Prim.Native.Nat.{_<_};
+ghost use lib.ListN.{length};
+ghost use Rattle.buftag.specs.Bytes.{wordBytes};
+ghost use Rattle.buftag.specs.Fnv.{fnv, fnvStart};
+ghost use Rattle.buftag.specs.Name.{fileBytes, nameBytes, hashOf, bucketOf, sameFile, sameName, isFork};
+use crate::bytes::put_word;
+use crate::fnv::mix_word;
+use crate::number::BlockNumber;
+
+// The forks of a file.
+pub const TABLE: u32 = 0;
+
+pub const FREE_SPACE_MAP: u32 = 1;
+
+pub const VISIBILITY_MAP: u32 = 2;
+
+pub struct FileName {
+    pub tablespace: u32,
+    pub database: u32,
+    pub relation: u32,
+    pub fork: u32,
+}
+
+pub struct PageName {
+    pub file: FileName,
+    pub block: BlockNumber,
+}
+
+pub fn is_fork(fork: u32) -> bool
+    ensures { λ r. ⌜ r ≡ isFork fork ⌝ }
+{
+    fork <= VISIBILITY_MAP
+}
+
+// The hash of a file's 16 bytes: what the hash of each of its pages' names begins with.
+pub fn hash_file(file: FileName) -> u32
+    ensures { λ r. ⌜ r ≡ fnv (fileBytes file) fnvStart ⌝ }
+{
+    let h1 = mix_word(2166136261, file.tablespace);
+    let h2 = mix_word(h1, file.database);
+    let h3 = mix_word(h2, file.relation);
+    mix_word(h3, file.fork)
+}
+
+// A hash continued over a block number's four bytes.
+pub fn hash_block(h: u32, block: BlockNumber) -> u32
+    ensures { λ r. ⌜ r ≡ fnv (wordBytes (block .0)) h ⌝ }
+{
+    mix_word(h, block.0)
+}
+
+pub fn hash(name: PageName) -> u32
+    ensures { λ r. ⌜ r ≡ hashOf name ⌝ }
+{
+    let file = name.file;
+    let block = name.block;
+    hash_block(hash_file(file), block)
+}
+
+// The bucket of a name.
+pub fn bucket(name: PageName, buckets: usize) -> usize
+    requires { ⌜ 0 < buckets ⌝ }
+    ensures { λ r. ⌜ r ≡ bucketOf name buckets ⌝ }
+{
+    hash(name) as usize % buckets
+}
+
+pub fn same_file(a: FileName, b: FileName) -> bool
+    ensures { λ r. ⌜ r ≡ sameFile a b ⌝ }
+{
+    (a.tablespace == b.tablespace)
+        & (a.database == b.database)
+        & (a.relation == b.relation)
+        & (a.fork == b.fork)
+}
+
+pub fn same(a: PageName, b: PageName) -> bool
+    ensures { λ r. ⌜ r ≡ sameName a b ⌝ }
+{
+    let file_a = a.file;
+    let file_b = b.file;
+    same_file(file_a, file_b) & (a.block.0 == b.block.0)
+}
+
+// Fills 20 bytes with a name's.
+pub fn put_bytes(out: &mut [u8], name: PageName)
+    requires { ⌜ length (now out) ≡ 20 ⌝ }
+    ensures { λ _. ⌜ now (out .exit) ≡ nameBytes name ⌝ }
+{
+    put_word(out, 0, name.file.tablespace);
+    put_word(out, 4, name.file.database);
+    put_word(out, 8, name.file.relation);
+    put_word(out, 12, name.file.fork);
+    put_word(out, 16, name.block.0);
+}

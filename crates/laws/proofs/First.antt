@@ -1,0 +1,54 @@
+-- Laws of the first index that passes a test.
+use Prim.Native.Nat.{ℕ, zero, suc, _<_}
+use native.Mathlib.Omega.{arith}
+use native.Mathlib.Numerals.{add-one}
+use native.Mathlib.Nat.{not-suc-le-zero}
+use mathlib.Core.Path.{_≡_, refl, sym, ap, _∙_, subst}
+use mathlib.Core.Bool.{Bool, true, false, cond}
+use borrow.Author.Count.{below-more}
+use Rattle.laws.specs.First.{Found, found, missing, orElse, first}
+use Rattle.laws.proofs.Tests.{never}
+
+pub found-same : {i j : ℕ} → found i ≡ found j → i ≡ j
+found-same e = cc
+
+module _ (p : ℕ → Bool) where
+  -- what is found passes
+  pub first-found : (n : ℕ) {i : ℕ} → first n p ≡ found i → (i < n) × (p i ≡ true)
+  unfolding first
+  first-found zero e = absurd (let z : _≡_ {A = ℕ} 0 1 = cc in omega arith)
+  first-found (suc n) {i} e = go (first n p) refl (p n) refl e (λ q. first-found n q)
+    where
+      go : (f : Found) → first n p ≡ f → (t : Bool) → p n ≡ t → orElse f (cond t (found n) missing) ≡ found i
+          → (first n p ≡ found i → (i < n) × (p i ≡ true)) → (i < suc n) × (p i ≡ true)
+      go (found j) q t r e ih = let w = ih (q ∙ e) in (omega (arith, w .0), w .1)
+      go missing q true r e ih = let s : n ≡ i = found-same e in (omega arith, subst (λ (k : ℕ). p k ≡ true) s r)
+      go missing q false r e ih = absurd (let z : _≡_ {A = ℕ} 0 1 = cc in omega arith)
+
+  -- where none is found, none passes
+  pub first-missing : (n : ℕ) → first n p ≡ missing → (i : ℕ) → i < n → p i ≡ false
+  unfolding first
+  first-missing zero e i l = absurd (not-suc-le-zero l)
+  first-missing (suc n) e i l = go (first n p) refl (p n) refl e (first-missing n)
+    where
+      go : (f : Found) → first n p ≡ f → (t : Bool) → p n ≡ t → orElse f (cond t (found n) missing) ≡ missing
+          → (first n p ≡ missing → (j : ℕ) → j < n → p j ≡ false) → p i ≡ false
+      go (found j) q t r e ih = absurd (let z : _≡_ {A = ℕ} 0 1 = cc in omega arith)
+      go missing q true r e ih = absurd (let z : _≡_ {A = ℕ} 0 1 = cc in omega arith)
+      go missing q false r e ih = below-more (λ k. p k ≡ false) n (ih q) r i (rw add-one l)
+
+  -- the one that passes is found
+  pub first-only : (n i : ℕ) → i < n → p i ≡ true → ((j : ℕ) → j < n → p j ≡ true → j ≡ i) → first n p ≡ found i
+  first-only n i l h only = go (first n p) refl
+    where
+      go : (f : Found) → first n p ≡ f → f ≡ found i
+      go (found j) q = let w = first-found n q in ap found (only j (w .0) (w .1))
+      go missing q = never h (first-missing n q i l)
+
+  -- where none passes, none is found
+  pub first-none : (n : ℕ) → ((i : ℕ) → i < n → p i ≡ false) → first n p ≡ missing
+  first-none n none = go (first n p) refl
+    where
+      go : (f : Found) → first n p ≡ f → f ≡ missing
+      go (found j) q = let w = first-found n q in never (w .1) (none j (w .0))
+      go missing q = refl

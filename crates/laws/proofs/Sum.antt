@@ -1,0 +1,144 @@
+-- Laws of sums and counts, the pigeonhole among them.
+use Prim.Native.Nat.{ℕ, zero, suc, _+_, _≤_, _<_, zero-le}
+use native.Mathlib.Numerals.{add-one}
+use native.Mathlib.Nat.{not-suc-le-zero, le-antisymm, eq-or-lt-of-le}
+use native.Mathlib.Omega.{arith}
+use mathlib.Core.Path.{_≡_, refl, sym, ap, _∙_, subst}
+use mathlib.Core.Bool.{Bool, true, false, _&&_}
+use mathlib.Core.Logic.{⊎-elim}
+use lib.Dec.{eqb}
+use borrow.Author.Count.{below-more}
+use borrow.Author.Tests.{eq-eqb, ne-eqb, eqb-true}
+use Rattle.laws.specs.Sum.{sum, ind, count}
+use Rattle.laws.proofs.Tests.{at-end, lt-or-le, same-tests, true-or-false}
+
+module _ (f : ℕ → ℕ) where
+  pub sum-none : sum 0 f ≡ 0
+  unfolding sum
+  sum-none = refl
+
+  pub sum-one-more : (n : ℕ) → sum (n + 1) f ≡ sum n f + f n
+  unfolding sum
+  sum-one-more n = rw add-one
+
+  -- the end of a loop that sums
+  pub sum-done : (n i x : ℕ) → i ≤ n → n ≤ i → x ≡ sum i f → x ≡ sum n f
+  sum-done n i x l m h = at-end (λ k. x ≡ sum k f) n i l m h
+
+  pub sum-grows : (i n : ℕ) → i ≤ n → sum i f ≤ sum n f
+  unfolding sum
+  sum-grows i zero l = subst (λ (k : ℕ). sum i f ≤ sum k f) (le-antisymm l zero-le) (omega arith)
+  sum-grows i (suc n) l =
+      ⊎-elim (λ e. omega (arith, ap (λ (k : ℕ). sum k f) e)) (λ m. omega (arith, sum-grows i n (omega arith)))
+      (eq-or-lt-of-le l)
+
+module _ (f g : ℕ → ℕ) where
+  pub sum-same : (n : ℕ) → ((i : ℕ) → i < n → f i ≡ g i) → sum n f ≡ sum n g
+  unfolding sum
+  sum-same zero h = refl
+  sum-same (suc n) h = omega (arith, sum-same n (λ i l. h i (omega arith)), h n (omega arith))
+
+  pub sum-below : (n : ℕ) → ((i : ℕ) → i < n → f i ≤ g i) → sum n f ≤ sum n g
+  unfolding sum
+  sum-below zero h = omega arith
+  sum-below (suc n) h = omega (arith, sum-below n (λ i l. h i (omega arith)), h n (omega arith))
+
+  pub sum-plus : (n : ℕ) → sum n (λ i. f i + g i) ≡ sum n f + sum n g
+  unfolding sum
+  sum-plus zero = refl
+  sum-plus (suc n) = omega (arith, sum-plus n)
+
+  -- the pigeonhole: no part above, and equal sums, so equal parts
+  pub sum-tight : (n : ℕ) → ((i : ℕ) → i < n → f i ≤ g i) → sum n f ≡ sum n g → (i : ℕ) → i < n → f i ≡ g i
+  unfolding sum
+  sum-tight zero h e i l = absurd (not-suc-le-zero l)
+  sum-tight (suc n) h e i l =
+      below-more (λ k. f k ≡ g k) n
+      (sum-tight n (λ j m. h j (omega arith)) (omega (arith, sum-below n (λ j m. h j (omega arith)), h n (omega arith))))
+      (omega (arith, sum-below n (λ j m. h j (omega arith)), h n (omega arith))) i (rw add-one l)
+
+pub ind-one : {b : Bool} → b ≡ true → ind b ≡ 1
+ind-one e = rw e
+
+pub ind-none : {b : Bool} → b ≡ false → ind b ≡ 0
+ind-none e = rw e
+
+pub ind-le : (b : Bool) → ind b ≤ 1
+ind-le true = omega arith
+ind-le false = omega arith
+
+module _ (p : ℕ → Bool) where
+  pub count-none : count 0 p ≡ 0
+  unfolding count
+  count-none = sum-none _
+
+  pub count-hit : (n : ℕ) → p n ≡ true → count (n + 1) p ≡ count n p + 1
+  unfolding count
+  count-hit n h = omega (arith, sum-one-more (λ i. ind (p i)) n, ind-one h)
+
+  pub count-miss : (n : ℕ) → p n ≡ false → count (n + 1) p ≡ count n p
+  unfolding count
+  count-miss n h = omega (arith, sum-one-more (λ i. ind (p i)) n, ind-none h)
+
+  -- the end of a loop that counts
+  pub count-done : (n i x : ℕ) → i ≤ n → n ≤ i → x ≡ count i p → x ≡ count n p
+  count-done n i x l m h = at-end (λ k. x ≡ count k p) n i l m h
+
+  pub count-le : (n : ℕ) → count n p ≤ n
+  unfolding count sum
+  count-le zero = omega arith
+  count-le (suc n) = omega (arith, count-le n, ind-le (p n))
+
+-- ---- sums of one index, and sums in two orders
+eqb-turn : (a b : ℕ) → eqb a b ≡ eqb b a
+eqb-turn a b = same-tests (eqb a b) (eqb b a) (λ h. eq-eqb b a (sym (eqb-true a b h))) (λ h. eq-eqb a b (sym (eqb-true b a h)))
+
+pub sum-zero : (f : ℕ → ℕ) (n : ℕ) → ((i : ℕ) → i < n → f i ≡ 0) → sum n f ≡ 0
+unfolding sum
+sum-zero f zero h = refl
+sum-zero f (suc n) h = omega (arith, sum-zero f n (λ i l. h i (omega arith)), h n (omega arith))
+
+pub sum-point : (x n : ℕ) → x < n → sum n (λ k. ind (eqb k x)) ≡ 1
+unfolding sum
+sum-point x zero l = absurd (not-suc-le-zero l)
+sum-point x (suc n) l =
+    ⊎-elim (λ m. omega (arith, sum-point x n m, ind-none (ne-eqb n x (λ e. omega arith))))
+    (λ m.
+    omega (
+      arith,
+      sum-zero (λ k. ind (eqb k x)) n (λ i j. ind-none (ne-eqb i x (λ e. omega arith))),
+      ind-one (eq-eqb n x (omega arith)),
+    ))
+    (lt-or-le x n)
+
+pub sum-point′ : (x n : ℕ) → x < n → sum n (λ k. ind (eqb x k)) ≡ 1
+sum-point′ x n l =
+    sum-same (λ k. ind (eqb x k)) (λ k. ind (eqb k x)) n (λ k m. ap ind (eqb-turn x k)) ∙ sum-point x n l
+
+pub sum-swap : (f : ℕ → ℕ → ℕ) (m n : ℕ) → sum m (λ b. sum n (λ k. f b k)) ≡ sum n (λ k. sum m (λ b. f b k))
+unfolding sum
+sum-swap f zero n = sym (sum-zero (λ k. 0) n (λ k l. refl))
+sum-swap f (suc m) n = ap (λ (x : ℕ). x + sum n (f m)) (sum-swap f m n) ∙ sym (sum-plus (λ k. sum m (λ b. f b k)) (f m) n)
+
+module _ (p : ℕ → Bool) (home : ℕ → ℕ) (B n : ℕ) (homes : (k : ℕ) → k < n → p k ≡ true → home k < B) where
+  row-is : (k : ℕ) → k < n → sum B (λ b. ind (p k && eqb (home k) b)) ≡ ind (p k)
+  row-is k l =
+      ⊎-elim
+      (λ y. rw y (sum-point′ (home k) B (homes k l y)))
+      (λ f. rw f (sum-zero (λ b. 0) B (λ b m. refl)))
+      (true-or-false (p k))
+
+  pub count-parts : count n p ≡ sum B (λ b. count n (λ k. p k && eqb (home k) b))
+  unfolding count
+  count-parts =
+      sym (sum-same (λ k. sum B (λ b. ind (p k && eqb (home k) b))) (λ k. ind (p k)) n row-is)
+      ∙ sym (sum-swap (λ b k. ind (p k && eqb (home k) b)) B n)
+
+pub sum-ones : (n : ℕ) → sum n (λ k. 1) ≡ n
+unfolding sum
+sum-ones zero = refl
+sum-ones (suc n) = omega (arith, sum-ones n)
+
+pub ind-some : (b : Bool) → 0 < ind b → b ≡ true
+ind-some true h = refl
+ind-some false h = absurd (not-suc-le-zero h)

@@ -1,0 +1,36 @@
+# shellcheck shell=bash disable=SC2034
+# What the runs of the folders beside this file share. Each says, from its own folder: . "$(dirname "$0")/../lib.sh"
+# It goes to the top of the repository, makes the temporary folder $room, and counts what is checked.
+set -u
+here=$(cd "$(dirname "$0")" && pwd) || exit 2
+cd "$here/../.." || exit 2
+room=$(mktemp -d) || exit 2
+trap 'rm -rf "$room"' EXIT
+
+passed=0 failed=0
+c_flags=(-std=c11 -Wall -Wextra -Werror -O2 -Iinclude)
+
+pass() { printf 'passed: %s\n' "$*"; passed=$((passed + 1)); }
+fail() { printf 'FAILED: %s\n' "$*"; failed=$((failed + 1)); }
+
+# A check with a name: it passes if the command's status is 0.
+check() { # NAME COMMAND [ARGUMENT..]
+    local name=$1
+    shift
+    if "$@"; then pass "$name"; else fail "$name"; fi
+}
+
+# The static library of a crate, built unless it is newer than every file of the crates. Without it the run ends here.
+library() { # CRATE
+    archive=target/staticlib/lib$1.a
+    if ! make -s -C examples "../$archive"; then
+        fail "the static library of $1 is built"
+        finish
+    fi
+}
+
+finish() {
+    printf '%d passed, %d failed\n' "$passed" "$failed"
+    [ "$failed" -eq 0 ]
+    exit
+}
