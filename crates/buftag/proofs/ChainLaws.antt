@@ -23,7 +23,7 @@ use Rattle.buftag.proofs.LinkLaws.{links-kept, links-push}
 use Rattle.buftag.proofs.NameLaws.{bucket-lt}
 use Rattle.buftag.proofs.HoldsLaws.{times-in, empty-out}
 
--- how the memory afterwards differs from the memory before in buffer i alone
+-- the memory afterwards differs from the memory before in buffer i alone
 pub record Apart (i : ℕ) (words names words′ names′ : List ℕ) : Type 0 where
   pub used : (k : ℕ) → k ≢ i → used words′ k ≡ used words k
   pub name : (k : ℕ) → k ≢ i → nameAt names′ k ≡ nameAt names k

@@ -32,7 +32,7 @@ use Rattle.buftag.specs.Chain.{inBucket, Distinct, idle, eachTest, disti
 use Rattle.buftag.specs.Check.{isAt, isFirst, sits, spend, spendAll, spent}
 use Rattle.buftag.proofs.NameLaws.{bucket-lt}
 use Rattle.buftag.proofs.LinkLaws.{isEnd-true, links-out, links-once, links-fit, holds-pass}
-use Rattle.buftag.proofs.HoldsLaws.{used-in}
+use Rattle.buftag.proofs.HoldsLaws.{bucket-in}
 use Rattle.buftag.proofs.WalkLaws.{walk-hit, walk-miss}
 use Rattle.buftag.proofs.SpendLaws.{Left-same, onward-left, spend-links, links-spend}
 use Rattle.buftag.proofs.TestLaws.{chains-say}
@@ -93,7 +93,7 @@ module _ (words names : List ℕ) (heads chain : List ℤ) (some : 0 < length he
 
   here-in : (b j : ℕ) → here b j ≡ true → j < length chain
   unfolding here
-  here-in b j h = omega (arith, used-in words j (and-left (used words j) _ h))
+  here-in b j h = omega (arith, bucket-in words names (length heads) b j h)
 
   -- the budget is what the chains hold together
   total : count (length words) (used words) ≡ sum (length heads) many

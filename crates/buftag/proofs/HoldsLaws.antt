@@ -20,12 +20,17 @@ use Rattle.buftag.specs.Lookup.{used}
 use Rattle.buftag.specs.Chain.{inBucket, ChainsSound}
 use Rattle.buftag.proofs.LinkLaws.{links-same, links-in}
 
--- a buffer in use is one of the buffers
+-- past the last buffer none is in use
 pub used-out : (words : List ℕ) (i : ℕ) → length words ≤ i → used words i ≡ false
 used-out words i h = ap (λ (w : ℕ). not (eqb w 0)) (List·getD-eq-default words 0 h)
 
+-- a buffer in use is one of the buffers
 pub used-in : (words : List ℕ) (i : ℕ) → used words i ≡ true → i < length words
 used-in words i u = ⊎-elim (λ h. h) (λ h. never u (used-out words i h)) (lt-or-le i (length words))
+
+-- and so is one whose name falls in a bucket
+pub bucket-in : (words names : List ℕ) (buckets b i : ℕ) → inBucket words names buckets b i ≡ true → i < length words
+bucket-in words names buckets b i h = used-in words i (and-left (used words i) _ h)
 
 module _ {words names : List ℕ} {heads chain : List ℤ} (sound : ChainsSound words names heads chain) where
   module _ {b : ℕ} {xs : List ℕ} (h : b < length heads) (r : Links chain (linkAt heads b) xs) (k : ℕ) where

@@ -9,28 +9,28 @@ use native.Mathlib.Omega.{arith}
 use lib.IntN.{ℤ, pos}
 use lib.ListN.{length, set, length-set, length-map}
 use lib.Seq.{getD-set-same, getD-set-other, ext-getD}
-use borrow.Author.Tests.{lt-ltb, eqb-false}
+use borrow.Author.Tests.{eqb-false}
 use Rattle.laws.specs.Times.{times}
 use Rattle.laws.proofs.Tests.{true-or-false, eq-or-ne, never}
 use Rattle.laws.proofs.Times.{times-here, times-later, present}
 use Rattle.buftag.specs.declared.link.Link.{Link}
-use Rattle.buftag.specs.declared.link.Link.the-variants.{To, End}
+use Rattle.buftag.specs.declared.link.Link.the-variants.{To}
 use Rattle.buftag.specs.Name.{bucketOf}
 use Rattle.buftag.specs.Names.{nameAt}
 use Rattle.buftag.specs.Link.{none, numberAt, linkAt, isTo, Links, done, step}
 use Rattle.buftag.specs.Lookup.{used}
-use Rattle.buftag.specs.Chain.{ChainsSound, past, unchainHeads, unchainChain}
-use Rattle.buftag.specs.Chain.{prev, pastAt, pastHeads, pastChain, leaveChain}
-use Rattle.buftag.proofs.LinkLaws.{isTo-true, to-isTo, To-same, links-in, links-fit, links-fresh}
+use Rattle.buftag.specs.Chain.{ChainsSound, past, unchainHeads, unchainChain, prev, pastAt, pastHeads, pastChain, leaveChain}
+use Rattle.buftag.proofs.LinkLaws.{isTo-true, to-isTo, To-same, end-to, links-in, links-fit, links-fresh}
 use Rattle.buftag.proofs.NameLaws.{bucket-lt}
 use Rattle.buftag.proofs.HoldsLaws.{in-its-bucket, stands-in, other-out}
 use Rattle.buftag.proofs.UnchainLaws.{links-not-to, map-past}
+use Rattle.buftag.proofs.LeaveSteps.{prev-hit, prev-step}
 
 -- ---- which links of a list lead to i
 module _ {ls : List ℤ} where
   -- the place that a link leads to is in its list
   links-leads : {l : Link} {xs : List ℕ} (i : ℕ) → Links ls l xs → l ≡ To i → 0 < times i xs
-  links-leads i done e = absurd (let z : _≡_ {A = ℕ} 0 1 = cc in omega arith)
+  links-leads i done e = end-to e
   links-leads i (step {i = j} {is = js} h r) e = let q : i ≡ j = cc in rw q (times-here j js)
 
   -- what a place's link leads to is in the list, and not its first place
@@ -78,14 +78,6 @@ module _ (ls : List ℤ) (i : ℕ) (own : ℤ) where
 
 -- ---- the search for the place before i
 module _ (chain : List ℤ) (i : ℕ) where
-  prev-hit : (n p : ℕ) → p < length chain → isTo i (linkAt chain p) ≡ true → prev chain i (suc n) (To p) ≡ To p
-  unfolding prev
-  prev-hit n p h e = rw (lt-ltb p (length chain) h, e)
-
-  prev-on : (n p : ℕ) → p < length chain → isTo i (linkAt chain p) ≡ false → prev chain i (suc n) (To p) ≡ prev chain i n (linkAt chain p)
-  unfolding prev
-  prev-on n p h e = rw (lt-ltb p (length chain) h, e)
-
   -- in a list that i is in, not in front, it finds the place whose link leads to i
   prev-finds : (n : ℕ) {l : Link} {xs : List ℕ} → Links chain l xs → length xs ≤ n → 0 < times i xs → isTo i l ≡ false
       → (p : ℕ) × (prev chain i n l ≡ To p) × (0 < times p xs) × (linkAt chain p ≡ To i)
@@ -94,11 +86,11 @@ module _ (chain : List ℤ) (i : ℕ) where
   prev-finds zero (step h r) f m e = absurd (omega arith)
   prev-finds (suc n) (step {i = j} {is = js} h r) f m e =
       ⊎-elim
-      (λ t. (j, prev-hit n j h t, times-here j js, isTo-true i _ t))
+      (λ t. (j, prev-hit chain i (suc n) j (omega arith) h t, times-here j js, isTo-true i _ t))
       (λ t.
       let rest : 0 < times i js = ⊎-elim (λ q. absurd (eqb-false j i e (sym q))) (λ q. q) (present i j js m) in
       let s = prev-finds n r (omega arith) rest t in
-      (s .0, prev-on n j h t ∙ s .1, times-later (s .0) j js (s .2), s .3))
+      (s .0, prev-step chain i n j h t ∙ s .1, times-later (s .0) j js (s .2), s .3))
       (true-or-false (isTo i (linkAt chain j)))
 
 -- ---- leaving bucket b, whose list is xs
@@ -115,7 +107,7 @@ module _ {words names : List ℕ} {heads chain : List ℤ} (sound : ChainsSound 
       (λ u.
       let m = links-next k i (s .linked) (stands-in sound ha (s .linked) k w u refl) e .0 in
       stands-in sound h r k w u (sym (in-its-bucket sound ha (s .linked) i m) ∙ home))
-      (λ u. let z : _≡_ {A = Link} (To i) End = sym e ∙ sound .idle k w u in absurd (let n : _≡_ {A = ℕ} 0 1 = cc in omega arith))
+      (λ u. end-to (sym (sound .idle k w u) ∙ e))
       (true-or-false (used words k))
 
   -- no other bucket's head leads to i

@@ -9,6 +9,7 @@ pub mod WalkLaws
 pub mod LookupLaws
 pub mod ChainLaws
 pub mod UnchainLaws
+pub mod MoveLaws
 pub mod LeaveSteps
 pub mod LeaveLaws
 pub mod TestLaws

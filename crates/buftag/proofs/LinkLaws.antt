@@ -1,9 +1,9 @@
 -- Laws of lists kept as links.
 use mathlib.Core.Path.{_≡_, refl, sym, _∙_, ap, subst}
-use mathlib.Core.Bool.{Bool, true, false, _&&_, false≢true}
+use mathlib.Core.Bool.{Bool, true, false≢true}
 use mathlib.Core.Logic.{_≢_, ⊎-elim}
-use mathlib.Core.List.{List, [], _∷_}
-use Prim.Native.Nat.{ℕ, zero, suc, _+_, _≤_, _<_}
+use mathlib.Core.List.{List, _∷_}
+use Prim.Native.Nat.{ℕ, zero, suc, _≤_, _<_}
 use native.Mathlib.Nat.{not-suc-le-zero}
 use native.Mathlib.Omega.{arith}
 use lib.Dec.{ltb, eqb}
@@ -12,18 +12,19 @@ use lib.ListN.{length, set, length-set}
 use lib.Seq.{getD-set-same, getD-set-other}
 use borrow.Author.Tests.{lt-ltb, ltb-true, eqb-true, eq-eqb}
 use Rattle.laws.specs.Every.{all}
-use Rattle.laws.specs.Sum.{sum, ind}
+use Rattle.laws.specs.Sum.{ind}
 use Rattle.laws.specs.Times.{times}
 use Rattle.laws.specs.Says.{Says}
-use Rattle.laws.proofs.Tests.{and-true, and-left, and-right, lt-or-le, true-or-false, never}
+use Rattle.laws.proofs.Tests.{and-true, and-left, and-right, lt-or-le, true-or-false}
 use Rattle.laws.proofs.Every.{all-at, all-of}
 use Rattle.laws.proofs.Sum.{ind-none, ind-some, ind-le, sum-below, sum-ones}
-use Rattle.laws.proofs.Times.{times-here, times-self, absent, sum-times}
+use Rattle.laws.proofs.Times.{times-self, present, absent, sum-times}
 use Rattle.buftag.specs.declared.link.Link.{Link}
 use Rattle.buftag.specs.declared.link.Link.the-variants.{To, End, Off, Bad}
 use Rattle.buftag.specs.Link.{linkOf, linkAt, isEnd, isTo, Links, done, step, Holds, ends, members, holdsTest}
 
 -- ---- what a link says
+-- the tests that a link leads to i, and that it ends
 pub isTo-true : (i : ℕ) (l : Link) → isTo i l ≡ true → l ≡ To i
 isTo-true i (To j) e = ap To (eqb-true j i e)
 isTo-true i End e = absurd (false≢true e)
@@ -42,6 +43,10 @@ isEnd-true Bad e = absurd (false≢true e)
 pub To-same : {i j : ℕ} → To i ≡ To j → i ≡ j
 To-same e = cc
 
+-- the end leads to no place
+pub end-to : {A : Type 0} {i : ℕ} → End ≡ To i → A
+end-to e = absurd (let z : _≡_ {A = ℕ} 0 1 = cc in omega arith)
+
 -- ---- the list of a link
 module _ {ls : List ℤ} where
   -- there is only one
@@ -53,12 +58,9 @@ module _ {ls : List ℤ} where
   pub links-in : {l : Link} {xs : List ℕ} → Links ls l xs → (k : ℕ) → 0 < times k xs → k < length ls
   unfolding times
   links-in done k m = absurd (not-suc-le-zero m)
-  links-in (step {i = i} h r) k m =
-      ⊎-elim
-      (λ e. subst (λ (j : ℕ). j < length ls) (sym (eqb-true k i e)) h)
-      (λ e. links-in r k (omega (arith, ind-none e)))
-      (true-or-false (eqb k i))
+  links-in (step {i = i} {is = is} h r) k m = ⊎-elim (λ e. rw e h) (links-in r k) (present k i is m)
 
+  -- so it has none outside
   pub links-out : {l : Link} {xs : List ℕ} → Links ls l xs → (k : ℕ) → length ls ≤ k → times k xs ≡ 0
   links-out {xs = xs} r k h = ⊎-elim (λ m. omega (arith, links-in r k m)) (λ m. omega arith) (lt-or-le 0 (times k xs))
 
@@ -69,9 +71,9 @@ module _ {ls : List ℤ} where
   links-from k done m = absurd (not-suc-le-zero m)
   links-from k (step {i = i} {is = is} h r) m =
       ⊎-elim
-      (λ e. (i ∷ is, subst (λ (j : ℕ). Links ls (To j) (i ∷ is)) (sym (eqb-true k i e)) (step h r), omega arith))
-      (λ e. let t = links-from k r (omega (arith, ind-none e)) in (t .0, t .1, omega (arith, t .2)))
-      (true-or-false (eqb k i))
+      (λ e. (i ∷ is, rw e (step h r), omega arith))
+      (λ q. let t = links-from k r q in (t .0, t .1, omega (arith, t .2)))
+      (present k i is m)
 
   -- it has no place twice
   pub links-once : {l : Link} {xs : List ℕ} → Links ls l xs → (k : ℕ) → times k xs ≤ 1
@@ -104,6 +106,7 @@ module _ {ls : List ℤ} where
   pub links-first : {l : Link} {i : ℕ} {xs : List ℕ} → Links ls l (i ∷ xs) → (l ≡ To i) × (i < length ls) × Links ls (linkAt ls i) xs
   links-first (step h r) = (refl, h, r)
 
+  -- its first place does not stand in it again
   pub links-fresh : {l : Link} {i : ℕ} {xs : List ℕ} → Links ls l (i ∷ xs) → times i xs ≡ 0
   links-fresh {i = i} {xs = xs} r = omega (arith, links-once r i, times-self i xs)
 

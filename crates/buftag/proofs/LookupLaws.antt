@@ -1,15 +1,16 @@
 -- The look-up answers the buffer that has the name, where the chains are sound and the names distinct.
 use mathlib.Core.Path.{_≡_, refl, sym, _∙_, ap}
-use mathlib.Core.Bool.{Bool, true, false, _&&_}
+use mathlib.Core.Bool.{Bool, true, _&&_}
 use mathlib.Core.Logic.{⊎-elim}
 use mathlib.Core.List.{List}
 use Prim.Native.Nat.{ℕ, _<_}
 use native.Mathlib.Omega.{arith}
 use lib.IntN.{ℤ}
 use lib.ListN.{length}
-use Rattle.laws.proofs.Tests.{and-left, and-right, and-true, true-or-false}
+use Rattle.laws.proofs.Tests.{and-left, and-right, and-true, true-or-false, never}
+use Rattle.laws.specs.First.{Found, found, missing}
 use Rattle.laws.specs.Times.{times}
-use Rattle.laws.proofs.First.{first-only, first-none}
+use Rattle.laws.proofs.First.{first-missing, first-only, first-none}
 use Rattle.buftag.specs.declared.name.PageName.{PageName}
 use Rattle.buftag.specs.declared.lookup.Held.{Held}
 use Rattle.buftag.specs.declared.lookup.Held.the-variants.{At, Nowhere}
@@ -21,8 +22,23 @@ use Rattle.buftag.specs.Chain.{inBucket, ChainsSound, Distinct}
 use Rattle.buftag.proofs.LinkLaws.{links-fit}
 use Rattle.buftag.proofs.NameLaws.{says-same-name, bucket-lt}
 use Rattle.buftag.proofs.HoldsLaws.{used-in, in-used, stands-in}
-use Rattle.buftag.proofs.WalkLaws.{walk-hit, walk-miss}
+use Rattle.buftag.proofs.WalkLaws.{not-at, walk-hit, walk-miss}
 
+-- ---- a name that no buffer has
+-- the answer that none has it comes from a search that found none
+nowhere-missing : (f : Found) → heldOf f ≡ Nowhere → f ≡ missing
+nowhere-missing (found i) e = not-at (sym e)
+nowhere-missing missing e = refl
+
+-- where the look-up answers that none has a name, no buffer in use has it
+pub held-nowhere : (words names : List ℕ) (n : PageName) → held words names n ≡ Nowhere → (i : ℕ) → used words i ≡ true
+    → nameAt names i ≡ n → ⊥
+unfolding held
+held-nowhere words names n e i u q =
+    never (and-true u (says-same-name (nameAt names i) n .shown q))
+    (first-missing (λ k. used words k && sameName (nameAt names k) n) (length words) (nowhere-missing _ e) i (used-in words i u))
+
+-- ---- the look-up
 module _ (words names : List ℕ) (heads chain : List ℤ) (n : PageName) (some : 0 < length heads) (len : length chain ≡ length words)
     (sound : ChainsSound words names heads chain) (distinct : Distinct words names) where
   has : ℕ → Bool
@@ -68,6 +84,7 @@ module _ (words names : List ℕ) (heads chain : List ℤ) (n : PageName) (some 
       (λ h. h)
       (true-or-false (has i)))))
 
+  -- the code's walk of the name's bucket answers what the definition does
   pub look-up-held : lookUp heads chain names n ≡ held words names n
   unfolding lookUp b
   look-up-held = go (walk chain names n (length chain) (linkAt heads b)) refl

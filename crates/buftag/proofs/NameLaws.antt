@@ -1,12 +1,11 @@
 -- Laws of page names: the test of equality, the bytes back to the name, the hash continued from the file's.
-use mathlib.Core.Path.{_≡_, refl, sym, _∙_, ap}
-use mathlib.Core.Bool.{Bool, true, false, _&&_}
+use mathlib.Core.Path.{_≡_, sym, _∙_, ap}
 use mathlib.Core.List.{List, [], _∷_, _++_}
-use Prim.Native.Nat.{ℕ, _+_, _*_, _/_, _%_, _^_, _<_}
+use Prim.Native.Nat.{ℕ, suc, _+_, _*_, _/_, _%_, _^_, _≤_, _<_}
 use native.Mathlib.Nat.{mod-lt, mod-eq-of-lt, div-add-mod, div-div-eq-div-mul}
 use native.Mathlib.Omega.{arith}
-use lib.ListN.{length, getD}
-use lib.Seq.{sets}
+use lib.ListN.{length, getD, drop, drop-of-length-le}
+use lib.Seq.{sets, drop-cons}
 use Rattle.laws.specs.Says.{Says}
 use Rattle.laws.proofs.Sets.{sets-append, sets-whole}
 use Rattle.laws.proofs.Says.{says-eq, says-and, says-as}
@@ -18,12 +17,14 @@ use Rattle.buftag.specs.Name.{fileOf, nameOf, fileBytes, nameBytes, name
 use Rattle.buftag.proofs.FnvLaws.{fnv-append}
 
 -- ---- equality
+-- equal numbers make equal names
 file-parts : {t t′ d d′ r r′ f f′ : ℕ} → t ≡ t′ → d ≡ d′ → r ≡ r′ → f ≡ f′ → fileOf t d r f ≡ fileOf t′ d′ r′ f′
 file-parts p q r s = cc
 
 pub name-parts : {t t′ d d′ r r′ f f′ b b′ : ℕ} → t ≡ t′ → d ≡ d′ → r ≡ r′ → f ≡ f′ → b ≡ b′ → nameOf t d r f b ≡ nameOf t′ d′ r′ f′ b′
 name-parts p q r s t = cc
 
+-- the tests of equality decide it
 pub says-same-file : (a b : FileName) → Says (sameFile a b) (a ≡ b)
 says-same-file a b =
     says-as
@@ -46,11 +47,13 @@ pub hash-continued : (n : PageName) → fnv (wordBytes (n .block .0)) (fnv (file
 unfolding hashOf
 hash-continued n = sym (fnv-append (fileBytes (n .file)) (wordBytes (n .block .0)) fnvStart)
 
+-- a bucket is one of the buckets
 pub bucket-lt : (n : PageName) (buckets : ℕ) → 0 < buckets → bucketOf n buckets < buckets
 unfolding bucketOf
 bucket-lt n buckets h = mod-lt _ h
 
 -- ---- bytes and back
+-- a word is the word of its bytes
 word-back : (w : ℕ) → w < 2 ^ 32 → w % 256 + w / 256 % 256 * 256 + w / 65536 % 256 * 65536 + w / 16777216 % 256 * 16777216 ≡ w
 word-back w h =
     let e : w / 256 / 256 ≡ w / 65536 = div-div-eq-div-mul w 256 256 in
@@ -61,10 +64,48 @@ word-back w h =
     let d : w / 16777216 % 256 ≡ w / 16777216 = mod-eq-of-lt (omega arith) in
     omega arith
 
+-- a name is the name of its bytes
 pub name-of-bytes : (n : PageName) → Fits n → nameOfBytes (nameBytes n) ≡ n
 name-of-bytes n f =
-    name-parts (word-back (n .file .tablespace) (f .tablespace)) (word-back (n .file .database) (f .database))
-    (word-back (n .file .relation) (f .relation)) (word-back (n .file .fork) (f .fork)) (word-back (n .block .0) (f .block))
+    name-parts (word-back (n .file .tablespace) (f .file .tablespace)) (word-back (n .file .database) (f .file .database))
+    (word-back (n .file .relation) (f .file .relation)) (word-back (n .file .fork) (f .file .fork)) (word-back (n .block .0) (f .block))
+
+-- four bytes are the bytes of their word
+bytes-back : (a b c d : ℕ) → a < 256 → b < 256 → c < 256 → d < 256
+    → wordBytes (a + b * 256 + c * 65536 + d * 16777216) ≡ a ∷ b ∷ c ∷ d ∷ []
+bytes-back a b c d ha hb hc hd =
+    let w = a + b * 256 + c * 65536 + d * 16777216 in
+    let p : w % 256 ≡ a = omega arith in
+    let q : w / 256 ≡ b + c * 256 + d * 65536 = omega arith in
+    let r : w / 65536 ≡ c + d * 256 = omega arith in
+    let s : w / 16777216 ≡ d = omega arith in
+    let q′ : (b + c * 256 + d * 65536) % 256 ≡ b = omega arith in
+    let r′ : (c + d * 256) % 256 ≡ c = omega arith in
+    let s′ : d % 256 ≡ d = omega arith in
+    rw (p, q, r, s, q′, r′, s′)
+
+module _ (bs : List ℕ) (len : length bs ≡ 20) (bytes : (i : ℕ) → i < 20 → getD bs i 0 < 256) where
+  -- from place k on there stand its byte and the bytes from the next place on
+  byte-first : (k j : ℕ) → k < 20 → j ≡ suc k → {rest : List ℕ} → rest ≡ drop j bs → getD bs k 0 ∷ rest ≡ drop k bs
+  byte-first k j h n e = rw (e, n) (sym (drop-cons bs k 0 (omega arith)))
+
+  -- and so a word's bytes and those from the fourth place after on
+  word-first : (at : ℕ) → at + 4 ≤ 20 → {rest : List ℕ} → rest ≡ drop (at + 4) bs → wordBytes (wordAt bs at) ++ rest ≡ drop at bs
+  word-first at h {rest} e =
+      let byte : (k : ℕ) → k < 4 → getD bs (at + k) 0 < 256 = λ k l. bytes (at + k) (omega arith) in
+      ap (λ (l : List ℕ). l ++ rest)
+      (bytes-back _ _ _ _ (bytes at (omega arith)) (byte 1 (omega arith)) (byte 2 (omega arith)) (byte 3 (omega arith)))
+      ∙ byte-first at (at + 1) (omega arith) (omega arith)
+      (byte-first (at + 1) (at + 2) (omega arith) (omega arith)
+      (byte-first (at + 2) (at + 3) (omega arith) (omega arith) (byte-first (at + 3) (at + 4) (omega arith) (omega arith) e)))
+
+  -- twenty bytes are the bytes of their name
+  pub bytes-of-name : nameBytes (nameOfBytes bs) ≡ bs
+  bytes-of-name =
+      word-first 0 (omega arith)
+      (word-first 4 (omega arith)
+      (word-first 8 (omega arith)
+      (word-first 12 (omega arith) (word-first 16 (omega arith) (sym (drop-of-length-le bs {i = 20} (omega arith)))))))
 
 -- the five words stored one after the other fill 20 bytes
 pub bytes-put : (out : List ℕ) (n : PageName) → length out ≡ 20

@@ -1,12 +1,12 @@
 -- Laws of the names in memory: the name of a buffer after a store, and the others'.
-use mathlib.Core.Path.{_≡_, refl, sym, _∙_, ap}
+use mathlib.Core.Path.{_≡_, _∙_, ap}
 use mathlib.Core.Logic.{_≢_, ⊎-elim}
-use mathlib.Core.List.{List, [], _∷_}
+use mathlib.Core.List.{List}
 use Prim.Native.Nat.{ℕ, _+_, _*_, _≤_, _<_}
 use native.Mathlib.Nat.{add-zero}
 use native.Mathlib.Omega.{arith}
 use lib.ListN.{length, getD}
-use lib.Seq.{sets, length-sets}
+use lib.Seq.{length-sets}
 use Rattle.laws.proofs.Tests.{lt-or-le}
 use Rattle.laws.proofs.Sets.{sets-among, sets-before, sets-behind}
 use Rattle.buftag.specs.declared.name.PageName.{PageName}

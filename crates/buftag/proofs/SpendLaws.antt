@@ -1,6 +1,6 @@
 -- Laws of the walks with a budget, step by step, and of the lists that they walk.
 use mathlib.Core.Path.{_≡_, refl, sym, subst}
-use mathlib.Core.Bool.{Bool, true, false, cond, false≢true}
+use mathlib.Core.Bool.{Bool, true, false, cond}
 use mathlib.Core.Logic.{_⊎_, ⊎-elim}
 use mathlib.Core.List.{List, [], _∷_}
 use Prim.Native.Nat.{ℕ, zero, suc, _+_, _-_, _≤_, _<_}
@@ -9,26 +9,22 @@ use native.Mathlib.Nat.{not-suc-le-zero, suc-add, zero-add, eq-or-lt-of-le}
 use native.Mathlib.Omega.{arith}
 use types.Run.{OneOf}
 use denote.Enum.Declared.{tagOf}
-use lib.Dec.{eqb}
 use lib.IntN.{ℤ}
 use lib.ListN.{length}
-use borrow.Author.Tests.{eqb-true}
 use Rattle.laws.specs.Times.{times}
-use Rattle.laws.proofs.Tests.{and-left, at-end, true-or-false, never}
-use Rattle.laws.proofs.Sum.{ind-none}
-use Rattle.laws.proofs.Times.{times-here}
+use Rattle.laws.proofs.Tests.{and-left, at-end, never}
+use Rattle.laws.proofs.Times.{times-here, present}
 use Rattle.buftag.specs.declared.link.Link.{Link}
 use Rattle.buftag.specs.declared.link.Link.the-variants.{To, End, Off, Bad}
 use Rattle.buftag.specs.declared.check.Walked.{Walked}
 use Rattle.buftag.specs.declared.check.Walked.the-variants.{Left, Wrong}
 use Rattle.buftag.specs.Link.{linkAt, isEnd, Links, done, step}
-use Rattle.buftag.specs.Lookup.{used}
 use Rattle.buftag.specs.Chain.{inBucket}
 use Rattle.buftag.specs.Check.{sits, spend, onward, spendAll}
 use Rattle.buftag.proofs.link.Link.{the-type}
 use Rattle.buftag.proofs.TagLaws.{no-tag}
 use Rattle.buftag.proofs.LinkLaws.{isEnd-true}
-use Rattle.buftag.proofs.HoldsLaws.{used-in}
+use Rattle.buftag.proofs.HoldsLaws.{bucket-in}
 
 -- ---- how a walk went that did not go wrong
 wrong-left : {A : Type 0} {m : ℕ} → Wrong ≡ Left m → A
@@ -41,6 +37,7 @@ cond-left : (t : Bool) (w : Walked) {m : ℕ} → cond t w Wrong ≡ Left m → 
 cond-left true w e = (refl, e)
 cond-left false w e = wrong-left e
 
+-- two walks one after the other that did not go wrong
 pub onward-left : (w : Walked) (f : ℕ → Walked) {m : ℕ} → onward w f ≡ Left m → (a : ℕ) × (w ≡ Left a) × (f a ≡ Left m)
 onward-left (Left a) f e = (a, refl, e)
 onward-left Wrong f e = wrong-left e
@@ -93,9 +90,7 @@ module _ (ok : ℕ → Bool) (ls : List ℤ) where
         i ∷ r .0,
         step (low i (p .0)) (r .1),
         omega (arith, r .2),
-        λ j h.
-            ⊎-elim (λ q. subst (λ (n : ℕ). ok n ≡ true) (sym (eqb-true j i q)) (p .0)) (λ q. r .3 j (omega (arith, ind-none q)))
-            (true-or-false (eqb j i)),
+        λ j h. ⊎-elim (λ q. rw q (p .0)) (r .3 j) (present j i (r .0) h),
       )
   spend-links low (suc k) End e = ([], done, omega (arith, Left-same e), λ j h. absurd (not-suc-le-zero h))
   spend-links low (suc k) Off e = wrong-left e
@@ -142,4 +137,4 @@ module _ (words names : List ℕ) (heads chain : List ℤ) (t : ℕ) where
 pub sits-in : (words names : List ℕ) (chain : List ℤ) (buckets b : ℕ) (l : Link) (i : ℕ) → sits words names chain buckets b l i ≡ true
     → i < length words
 unfolding sits
-sits-in words names chain buckets b l i h = used-in words i (and-left (used words i) _ (and-left (inBucket words names buckets b i) _ h))
+sits-in words names chain buckets b l i h = bucket-in words names buckets b i (and-left (inBucket words names buckets b i) _ h)

@@ -16,6 +16,7 @@ use Rattle.buftag.specs.Link.{isTo}
 pub no-tag : OneOf (1 ∷ 2 ∷ 3 ∷ []) 0 → ⊥
 no-tag = ⊎-elim (λ (e : 0 ≡ 1). omega arith) (⊎-elim (λ (e : 0 ≡ 2). omega arith) (λ (e : 0 ≡ 3). omega arith))
 
+-- so such a link leads to no place
 pub isTo-other : (i : ℕ) (l : Link) → OneOf (1 ∷ 2 ∷ 3 ∷ []) (tagOf the-type l) → isTo i l ≡ false
 isTo-other i (To j) h = absurd (no-tag h)
 isTo-other i End h = refl

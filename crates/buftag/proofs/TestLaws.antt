@@ -1,6 +1,6 @@
 -- The test of the chains decides that they are sound, and the names distinct.
-use mathlib.Core.Path.{_≡_, refl, sym}
-use mathlib.Core.Bool.{true, false, false≢true}
+use mathlib.Core.Path.{_≡_, sym}
+use mathlib.Core.Bool.{true, false}
 use mathlib.Core.Logic.{⊎-elim}
 use mathlib.Core.List.{List}
 use Prim.Native.Nat.{ℕ, _<_}
@@ -11,20 +11,14 @@ use Rattle.laws.specs.Says.{Says}
 use Rattle.laws.proofs.Tests.{lt-or-le}
 use Rattle.laws.proofs.Says.{says-it, says-and, says-not, says-all, says-else, says-as}
 use Rattle.buftag.specs.declared.link.Link.{Link}
-use Rattle.buftag.specs.declared.link.Link.the-variants.{To, End, Off, Bad}
+use Rattle.buftag.specs.declared.link.Link.the-variants.{End}
 use Rattle.buftag.specs.Names.{nameAt}
 use Rattle.buftag.specs.Link.{linkAt, isEnd, Holds}
 use Rattle.buftag.specs.Lookup.{used}
 use Rattle.buftag.specs.Chain.{inBucket, ChainsSound, Distinct, idle, twins, distinctTest, eachTest, chainsTest}
-use Rattle.buftag.proofs.LinkLaws.{holds-says}
+use Rattle.buftag.proofs.LinkLaws.{isEnd-true, holds-says}
 use Rattle.buftag.proofs.NameLaws.{says-same-name}
 use Rattle.buftag.proofs.HoldsLaws.{used-in}
-
-isEnd-true : (l : Link) → isEnd l ≡ true → l ≡ End
-isEnd-true (To i) e = absurd (false≢true e)
-isEnd-true End e = refl
-isEnd-true Off e = absurd (false≢true e)
-isEnd-true Bad e = absurd (false≢true e)
 
 says-end : (l : Link) → Says (isEnd l) (l ≡ End)
 says-end l = record { holds = isEnd-true l; shown = λ e. rw e }

@@ -45,6 +45,7 @@ module _ (chain : List ℤ) (i : ℕ) where
   link-past : (ls : List ℤ) (k : ℕ) → k < length ls → linkAt (map (past i (numberAt chain i)) ls) k ≡ pastLink chain i (linkAt ls k)
   link-past ls k h = ap linkOf (map-past ls i (numberAt chain i) k h) ∙ link-cond (isTo i (linkAt ls k)) (numberAt chain i) (numberAt ls k)
 
+  -- a head afterwards, and another place's link
   pub unchain-head : (heads : List ℤ) (c : ℕ) → c < length heads → linkAt (unchainHeads heads chain i) c ≡ pastLink chain i (linkAt heads c)
   unfolding unchainHeads
   unchain-head heads c h = link-past heads c h

@@ -32,7 +32,8 @@ use Rattle.buftag.proofs.NameLaws.{says-same-name}
 At-same : {a b : BufferNumber} → At a ≡ At b → a .0 ≡ b .0
 At-same e = cc
 
-not-at : {A : Type 0} {b : BufferNumber} → Nowhere ≡ At b → A
+-- no buffer is not a buffer
+pub not-at : {A : Type 0} {b : BufferNumber} → Nowhere ≡ At b → A
 not-at e = absurd (let z : _≡_ {A = ℕ} 0 1 = cc in omega arith)
 
 module _ (chain : List ℤ) (names : List ℕ) (n : PageName) where
@@ -72,6 +73,7 @@ module _ (chain : List ℤ) (names : List ℕ) (n : PageName) where
   unfolding walk
   walk-on k i h e = rw (lt-ltb i (length chain) h, e)
 
+  -- the same with the steps counted as the code does
   pub walk-next : (k i : ℕ) → 0 < k → i < length chain → sameName (nameAt names i) n ≡ false
       → walk chain names n k (To i) ≡ walk chain names n (k - 1) (linkAt chain i)
   walk-next zero i p h e = absurd (omega arith)

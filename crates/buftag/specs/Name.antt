@@ -7,7 +7,7 @@ use lib.Dec.{eqb, leb}
 use Rattle.buftag.specs.declared.name.FileName.{FileName}
 use Rattle.buftag.specs.declared.name.PageName.{PageName}
 use Rattle.buftag.specs.Bytes.{wordBytes, wordAt}
-use Rattle.buftag.specs.Fnv.{fnv, fnvStart, fnvStep}
+use Rattle.buftag.specs.Fnv.{fnv, fnvStart}
 
 abbrev pub fileOf : ℕ → ℕ → ℕ → ℕ → FileName
 fileOf t d r f = record { tablespace = t; database = d; relation = r; fork = f }
@@ -19,12 +19,15 @@ nameOf t d r f b = record { file = fileOf t d r f; block = record { 0 = b } }
 abbrev pub isFork : ℕ → Bool
 isFork f = leb f 2
 
--- the five numbers of a name fit their words
+-- the numbers of a file's name and of a page's name fit their words
+pub record FitsFile (f : FileName) : Type 0 where
+  pub tablespace : f .tablespace < 2 ^ 32
+  pub database : f .database < 2 ^ 32
+  pub relation : f .relation < 2 ^ 32
+  pub fork : f .fork < 2 ^ 32
+
 pub record Fits (n : PageName) : Type 0 where
-  pub tablespace : n .file .tablespace < 2 ^ 32
-  pub database : n .file .database < 2 ^ 32
-  pub relation : n .file .relation < 2 ^ 32
-  pub fork : n .file .fork < 2 ^ 32
+  pub file : FitsFile (n .file)
   pub block : n .block .0 < 2 ^ 32
 
 -- ---- as bytes: 20, in this order, with fork before block

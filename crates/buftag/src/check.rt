@@ -2,7 +2,7 @@
 // Nothing left at the end means that each is in its chain once.
 
 ghost use mathlib.Core.Path.{_≡_};
-ghost use Prim.Native.Nat.{_+_, _*_, _≤_, _<_};
+ghost use Prim.Native.Nat.{_*_, _<_};
 ghost use lib.ListN.{length};
 ghost use Rattle.laws.specs.Every.{all};
 ghost use Rattle.laws.specs.Sum.{count};
@@ -154,7 +154,8 @@ fn chains_walk(words: &[u32], names: &[u32], heads: &[i32], chain: &[i32], budge
     requires { ⌜ (length (now names) ≡ nameWords * length (now words)) × (length (now chain) ≡ length (now words)) ⌝ }
     ensures { λ r.
         ⌜ r
-        ≡ spendAll (now (words .entry)) (now (names .entry)) (now (heads .entry)) (now (chain .entry)) (length (now (heads .entry))) budget ⌝ }
+        ≡ spendAll (now (words .entry)) (now (names .entry)) (now (heads .entry)) (now (chain .entry))
+        (length (now (heads .entry))) budget ⌝ }
 {
     let mut left = budget;
     let mut b = 0;

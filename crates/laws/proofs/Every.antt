@@ -23,6 +23,7 @@ module _ (p : ℕ → Bool) where
   pub all-more : (i : ℕ) → all i p ≡ true → p i ≡ true → all (i + 1) p ≡ true
   all-more i h here = all-one-more i ∙ and-true h here
 
+  -- every index passes where all do, and the other way round
   pub all-at : (n : ℕ) → all n p ≡ true → (i : ℕ) → i < n → p i ≡ true
   unfolding all
   all-at zero h i l = absurd (not-suc-le-zero l)
@@ -43,6 +44,7 @@ module _ (p : ℕ → Bool) where
   all-passes n i l m h = sym (at-end (λ k. all k p ≡ true) n i l m h)
 
 module _ (p : ℕ → Bool) where
+  -- where not all pass, one fails
   pub all-false-at : (n : ℕ) → all n p ≡ false → (i : ℕ) × (i < n) × (p i ≡ false)
   unfolding all
   all-false-at zero h = absurd (true≢false h)

@@ -3,7 +3,7 @@ use Prim.Native.Nat.{ℕ, zero, suc, _<_}
 use native.Mathlib.Omega.{arith}
 use native.Mathlib.Numerals.{add-one}
 use native.Mathlib.Nat.{not-suc-le-zero}
-use mathlib.Core.Path.{_≡_, refl, sym, ap, _∙_, subst}
+use mathlib.Core.Path.{_≡_, refl, ap, _∙_, subst}
 use mathlib.Core.Bool.{Bool, true, false, cond}
 use borrow.Author.Count.{below-more}
 use Rattle.laws.specs.First.{Found, found, missing, orElse, first}
@@ -52,3 +52,14 @@ module _ (p : ℕ → Bool) where
       go : (f : Found) → first n p ≡ f → f ≡ missing
       go (found j) q = let w = first-found n q in never (w .1) (none j (w .0))
       go missing q = refl
+
+-- two tests that agree below n find the same
+pub first-same : (p q : ℕ → Bool) (n : ℕ) → ((i : ℕ) → i < n → p i ≡ q i) → first n p ≡ first n q
+unfolding first
+first-same p q zero h = refl
+first-same p q (suc n) h = rw (first-same p q n (λ i l. h i (omega arith)), h n (omega arith))
+
+-- what is found where a test decides: the test held
+pub cond-found : (t : Bool) {i j : ℕ} → cond t (found i) missing ≡ found j → (t ≡ true) × (i ≡ j)
+cond-found true e = (refl, found-same e)
+cond-found false e = absurd (let z : _≡_ {A = ℕ} 0 1 = cc in omega arith)

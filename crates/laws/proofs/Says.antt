@@ -2,7 +2,7 @@
 use Prim.Native.Nat.{ℕ, _≤_, _<_}
 use mathlib.Core.Path.{_≡_, refl, sym}
 use mathlib.Core.Bool.{Bool, true, false, not, _&&_, _||_, true≢false, cond}
-use mathlib.Core.Logic.{⊎-elim}
+use mathlib.Core.Logic.{_⊎_, inl, inr, ⊎-elim}
 use lib.Dec.{eqb, leb, ltb}
 use borrow.Author.Tests.{eq-eqb, eqb-true, le-leb, leb-true, lt-ltb, ltb-true, not-true, not-false}
 use Rattle.laws.specs.Every.{all, any}
@@ -84,3 +84,13 @@ says-it b = record { holds = λ h. h; shown = λ h. h }
 pub says-else : (a : Bool) {b : Bool} {Q : Type 0} → Says b Q → Says (a || b) (a ≡ false → Q)
 says-else true s = record { holds = λ h e. never refl e; shown = λ f. refl }
 says-else false s = record { holds = λ h e. s .holds h; shown = λ f. s .shown (f refl) }
+
+-- if a then b
+pub says-if : (a : Bool) {b : Bool} {Q : Type 0} → Says b Q → Says (not a || b) (a ≡ true → Q)
+says-if true s = record { holds = λ h e. s .holds h; shown = λ f. s .shown (f refl) }
+says-if false s = record { holds = λ h e. never e refl; shown = λ f. refl }
+
+-- a or b
+pub says-or : {a b : Bool} {P Q : Type 0} → Says a P → Says b Q → Says (a || b) (P ⊎ Q)
+says-or {a = true} s t = record { holds = λ h. inl (s .holds refl); shown = λ p. refl }
+says-or {a = false} s t = record { holds = λ h. inr (t .holds h); shown = λ p. ⊎-elim (λ q. never (s .shown q) refl) (t .shown) p }

@@ -1,7 +1,6 @@
 -- Elements of a list after a run of stores.
 use Prim.Native.Nat.{ℕ, zero, suc, _+_, _≤_, _<_}
-use mathlib.Core.Path.{_≡_, refl, sym, _∙_, ap}
-use mathlib.Core.Logic.{_⊎_, inl, inr}
+use mathlib.Core.Path.{_≡_, refl, _∙_, ap}
 use mathlib.Core.List.{List, [], _∷_, _++_, append-nil}
 use native.Mathlib.Nat.{not-suc-le-zero, add-zero}
 use native.Mathlib.Omega.{arith}
@@ -39,6 +38,7 @@ setsBy-from l i k (v ∷ vs) =
     let e : i + suc k ≡ suc (i + k) = omega arith in
     setsBy-from (set l (i + k) v) i (suc k) vs ∙ ap (λ (j : ℕ). sets (set l (i + k) v) j vs) e
 
+-- the first of them at i itself
 pub sets-by : (l : List ℕ) (i v : ℕ) (vs : List ℕ) → setsBy (set l i v) i 1 vs ≡ sets l i (v ∷ vs)
 sets-by l i v vs =
     let e : i + 1 ≡ suc i = omega arith in

@@ -98,6 +98,7 @@ unfolding sum
 sum-zero f zero h = refl
 sum-zero f (suc n) h = omega (arith, sum-zero f n (λ i l. h i (omega arith)), h n (omega arith))
 
+-- one index below n is x
 pub sum-point : (x n : ℕ) → x < n → sum n (λ k. ind (eqb k x)) ≡ 1
 unfolding sum
 sum-point x zero l = absurd (not-suc-le-zero l)
@@ -115,6 +116,7 @@ pub sum-point′ : (x n : ℕ) → x < n → sum n (λ k. ind (eqb x k)) ≡ 1
 sum-point′ x n l =
     sum-same (λ k. ind (eqb x k)) (λ k. ind (eqb k x)) n (λ k m. ap ind (eqb-turn x k)) ∙ sum-point x n l
 
+-- the sum of sums by rows is that by columns
 pub sum-swap : (f : ℕ → ℕ → ℕ) (m n : ℕ) → sum m (λ b. sum n (λ k. f b k)) ≡ sum n (λ k. sum m (λ b. f b k))
 unfolding sum
 sum-swap f zero n = sym (sum-zero (λ k. 0) n (λ k l. refl))
@@ -128,6 +130,7 @@ module _ (p : ℕ → Bool) (home : ℕ → ℕ) (B n : ℕ) (homes : (k : ℕ) 
       (λ f. rw f (sum-zero (λ b. 0) B (λ b m. refl)))
       (true-or-false (p k))
 
+  -- what passes is counted home by home
   pub count-parts : count n p ≡ sum B (λ b. count n (λ k. p k && eqb (home k) b))
   unfolding count
   count-parts =

@@ -2,8 +2,6 @@ use Rattle.laws.proofs.Sets.{sets-by}
 use mathlib.Core.List.{[], _∷_}
 use Prim.Native.Nat.{_/_, _%_}
 use denote.Ref.{now}
-use mathlib.Core.Path.{refl}
-use native.Mathlib.Numerals.{add-one}
 use lib.ListN.{length-set}
 use native.Mathlib.Omega.{arith}
 use borrow.Author.Needs.{needs}

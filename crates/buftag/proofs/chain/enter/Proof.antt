@@ -1,4 +1,4 @@
-use Rattle.buftag.proofs.SignedLaws.{elt, idx}
+use Rattle.buftag.proofs.SignedLaws.{element-back, index-back}
 use Rattle.buftag.specs.Chain.{enterHeads, enterChain}
 use denote.Ref.{now}
 use lib.ListN.{set}
@@ -38,8 +38,8 @@ returns : tie.Need-returns
 unfolding enterHeads enterChain
 returns c =
     let a = c .before .args in (
-      ap (set (now (a .heads)) (a .b)) (idx (a .i) (c .before .pre .2)),
-      ap (set (now (a .chain)) (a .i)) (elt (now (a .heads)) (a .b) (c .first .given)),
+      ap (set (now (a .heads)) (a .b)) (index-back (a .i) (c .before .pre .2)),
+      ap (set (now (a .chain)) (a .i)) (element-back (now (a .heads)) (a .b) (c .first .given)),
     )
 
 pub enter-spec : {M : Type 1} → statement M

@@ -1,11 +1,11 @@
 use Rattle.buftag.proofs.LeaveSteps.{led-head, led-none, led-prev, prev-range}
-use Rattle.buftag.proofs.SignedLaws.{elt}
+use Rattle.buftag.proofs.SignedLaws.{element-back}
 use Rattle.buftag.specs.Chain.{prev}
 use Rattle.buftag.specs.Link.{linkAt, isTo}
 use lib.ListN.{length}
 use denote.Ref.{now}
 use mathlib.Core.Path.{_≡_, sym, _∙_, ap}
-use mathlib.Core.Bool.{true, false}
+use mathlib.Core.Bool.{false}
 use Prim.Native.Nat.{_<_}
 use native.Mathlib.Omega.{arith}
 use borrow.Author.Needs.{needs}
@@ -37,7 +37,7 @@ returns : tie.Need-returns
 returns c =
     let s = c .before .before .before .before .before in
     led-head (now (s .args .heads)) (now (s .args .chain)) (s .args .b) (s .args .i) _
-    (elt (now (s .args .chain)) (s .args .i) (c .before .before .before .before .next .given))
+    (element-back (now (s .args .chain)) (s .args .i) (c .before .before .before .before .next .given))
     (sym (c .before .leads-to .ensures ∙ ap (isTo (s .args .i)) (c .before .before .link-at .ensures)) ∙ c .if1 .taken)
 
 prev-of-requires : tie.Need-prev-of-requires
@@ -99,7 +99,7 @@ returns-3 c =
     let q = c .before .before .before in
     let a = start q .args in
     led-prev (now (a .heads)) (now (a .chain)) (a .b) (a .i) _ (c .before .p .given .0 .0)
-    (elt (now (a .chain)) (a .i) (q .before .before .before .before .before .before .next .given))
+    (element-back (now (a .chain)) (a .i) (q .before .before .before .before .before .before .next .given))
     (sym (c .before .p .given .1) ∙ found q) (not-head q)
 
 pub lead-past-spec : {M : Type 1} → statement M

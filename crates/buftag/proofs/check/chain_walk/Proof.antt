@@ -1,10 +1,6 @@
 use borrow.Author.Needs.{needs}
 use Rattle.buftag.proofs.SpendLaws.{spend-ends, spend-stops, spend-fails, spend-goes, sits-in}
-use Rattle.buftag.proofs.HoldsLaws.{used-in}
 use Rattle.buftag.specs.Check.{sits, spend}
-use Rattle.buftag.specs.Chain.{inBucket}
-use Rattle.buftag.specs.Lookup.{used}
-use Rattle.laws.proofs.Tests.{and-left}
 use borrow.Author.Tests.{not-true, not-false}
 use denote.Ref.{now}
 use mathlib.Core.Logic.{inl, inr}

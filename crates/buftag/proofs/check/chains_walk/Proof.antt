@@ -6,7 +6,6 @@ use Rattle.buftag.specs.declared.check.Walked.the-variants.{Left}
 use lib.ListN.{length}
 use Prim.Native.Nat.{_≤_, _-_, _+_}
 use mathlib.Core.Path.{_≡_, sym, _∙_, ap}
-use native.Mathlib.Omega.{arith}
 use Rattle.buftag.proofs.check.chains_walk.Statement.{statement}
 use Rattle.buftag.proofs.check.chains_walk.Tie as tie
 
@@ -42,7 +41,8 @@ turn c =
     let a = c .before .before .before .before .before .before .args in
     spendAll-more _ _ _ _ _ (l .b) (l .left) (l .inv .1)
     (c .chain-walk .ensures
-    ∙ ap (λ f. spend (sits (now (a .words)) (now (a .names)) (now (a .chain)) (length (now (a .heads))) (l .b) f) (now (a .chain)) (l .left) f)
+    ∙ ap
+    (λ f. spend (sits (now (a .words)) (now (a .names)) (now (a .chain)) (length (now (a .heads))) (l .b) f) (now (a .chain)) (l .left) f)
     (c .before .link-at .ensures))
 
 returns : tie.Need-returns Inv-loop μ-loop

@@ -5,7 +5,7 @@ use Rattle.laws.proofs.Sum.{count-none, count-hit, count-miss, count-done, coun
 use Rattle.laws.specs.Sum.{count}
 use lib.ListN.{length}
 use mathlib.Core.Logic.{⊎-elim}
-use mathlib.Core.Path.{_≡_, sym, _∙_, ap}
+use mathlib.Core.Path.{_≡_, sym, _∙_}
 use Prim.Native.Nat.{_≤_, _-_}
 use native.Mathlib.Omega.{arith}
 use Rattle.buftag.proofs.check.count_used.Statement.{statement}
@@ -38,7 +38,8 @@ loop-again c =
     let i = c .before .before .before .loop .i in
     let h = c .before .is-used .ensures in (
       search needs,
-      ⊎-elim (λ w. omega (arith, count-hit p i (sym h ∙ w .0 .taken))) (λ w. omega (arith, count-miss p i (sym h ∙ w .0 .left))) (c .if1 .came),
+      ⊎-elim (λ w. omega (arith, count-hit p i (sym h ∙ w .0 .taken))) (λ w. omega (arith, count-miss p i (sym h ∙ w .0 .left)))
+          (c .if1 .came),
     )
 
 returns : tie.Need-returns Inv-loop μ-loop

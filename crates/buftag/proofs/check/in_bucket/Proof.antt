@@ -1,12 +1,11 @@
 use Rattle.buftag.proofs.HoldsLaws.{used-in}
-use Rattle.buftag.specs.Lookup.{used}
 use Rattle.buftag.specs.Names.{nameAt}
 use denote.Ref.{now}
 use Rattle.buftag.specs.Name.{bucketOf}
 use lib.Dec.{eqb}
 use borrow.Author.Tests.{not-true, not-false}
 use mathlib.Core.Bool.{_&&_}
-use mathlib.Core.Path.{_≡_, sym, _∙_, ap}
+use mathlib.Core.Path.{sym, _∙_, ap}
 use native.Mathlib.Omega.{arith}
 use borrow.Author.Needs.{needs}
 use Rattle.buftag.proofs.check.in_bucket.Statement.{statement}

@@ -1,7 +1,6 @@
 use Rattle.buftag.specs.Chain.{idle}
 use Rattle.buftag.specs.Link.{isEnd}
-use mathlib.Core.Bool.{_||_}
-use mathlib.Core.Path.{_≡_, sym, _∙_, ap}
+use mathlib.Core.Path.{_∙_, ap}
 use borrow.Author.Needs.{needs}
 use Rattle.buftag.proofs.check.is_idle.Statement.{statement}
 use Rattle.buftag.proofs.check.is_idle.Tie as tie

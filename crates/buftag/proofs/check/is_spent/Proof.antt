@@ -1,3 +1,5 @@
+use Rattle.buftag.specs.Check.{spent}
+use mathlib.Core.Path.{sym, ap}
 use borrow.Author.Needs.{needs}
 use Rattle.buftag.proofs.check.is_spent.Statement.{statement}
 use Rattle.buftag.proofs.check.is_spent.Tie as tie
@@ -9,7 +11,7 @@ enum-told : tie.Need-enum-told
 enum-told c = search needs
 
 returns : tie.Need-returns
-returns c = rw (c .before .w .given .1)
+returns c = sym (ap spent (c .before .w .given .1))
 
 returns-2 : tie.Need-returns-2
 returns-2 c = search needs

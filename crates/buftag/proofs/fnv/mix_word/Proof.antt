@@ -1,3 +1,6 @@
+use Rattle.buftag.specs.Fnv.{fnvStep}
+use Prim.Native.Nat.{_/_, _%_}
+use mathlib.Core.Path.{_∙_, ap}
 use borrow.Author.Needs.{needs}
 use Rattle.buftag.proofs.fnv.mix_word.Statement.{statement}
 use Rattle.buftag.proofs.fnv.mix_word.Tie as tie
@@ -15,7 +18,15 @@ mix-byte-requires-4 : tie.Need-mix-byte-requires-4
 mix-byte-requires-4 c κs = search needs
 
 returns : tie.Need-returns
-returns c = cc
+returns c =
+    let c3 = c .before in
+    let c2 = c3 .before in
+    let c1 = c2 .before in
+    let w = c1 .before .args .w in
+    c .mix-byte4 .ensures
+    ∙ ap (fnvStep (w / 16777216 % 256))
+    (c3 .mix-byte3 .ensures
+    ∙ ap (fnvStep (w / 65536 % 256)) (c2 .mix-byte2 .ensures ∙ ap (fnvStep (w / 256 % 256)) (c1 .mix-byte .ensures)))
 
 pub mix-word-spec : {M : Type 1} → statement M
 mix-word-spec =

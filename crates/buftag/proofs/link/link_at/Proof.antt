@@ -1,4 +1,4 @@
-use Rattle.buftag.proofs.SignedLaws.{back}
+use Rattle.buftag.proofs.SignedLaws.{bits-back}
 use Rattle.buftag.specs.Link.{linkOf}
 use denote.Ref.{now}
 use lib.IntN.{pos}
@@ -21,7 +21,7 @@ returns : tie.Need-returns
 returns c =
     let a = c .before .before .args in
     c .read-link .ensures
-    ∙ ap linkOf (back (getD (now (a .links)) (a .i) (pos 0)) (record { sfits = c .before .read-link-arg .given }))
+    ∙ ap linkOf (bits-back (getD (now (a .links)) (a .i) (pos 0)) (record { sfits = c .before .read-link-arg .given }))
 
 pub link-at-spec : {M : Type 1} → statement M
 link-at-spec =

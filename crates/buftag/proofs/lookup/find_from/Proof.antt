@@ -2,7 +2,7 @@ use borrow.Author.Needs.{needs}
 use Rattle.buftag.proofs.WalkLaws.{walk-none, walk-other, walk-past, walk-found, walk-next}
 use Rattle.buftag.specs.Lookup.{walk}
 use lib.ListN.{length}
-use mathlib.Core.Path.{_≡_, sym, _∙_, ap}
+use mathlib.Core.Path.{_≡_, sym, _∙_}
 use Prim.Native.Nat.{_≤_}
 use native.Mathlib.Omega.{arith}
 use Rattle.buftag.proofs.lookup.find_from.Statement.{statement}

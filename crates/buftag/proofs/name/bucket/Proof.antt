@@ -1,4 +1,6 @@
 use Rattle.buftag.specs.Name.{bucketOf}
+use Prim.Native.Nat.{_%_}
+use mathlib.Core.Path.{ap}
 use borrow.Author.Needs.{needs}
 use Rattle.buftag.proofs.name.bucket.Statement.{statement}
 use Rattle.buftag.proofs.name.bucket.Tie as tie
@@ -14,7 +16,7 @@ rem-result c = search needs
 
 returns : tie.Need-returns
 unfolding bucketOf
-returns c = cc
+returns c = ap (λ h. h % c .before .args .buckets) (c .hash .ensures)
 
 pub bucket-spec : {M : Type 1} → statement M
 bucket-spec = tie.close (tie.spec hash-requires cast-result rem-result returns)

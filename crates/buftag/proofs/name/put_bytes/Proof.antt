@@ -1,7 +1,7 @@
 use Rattle.buftag.proofs.NameLaws.{bytes-put}
 use Rattle.buftag.specs.Bytes.{wordBytes}
 use lib.Seq.{sets}
-use mathlib.Core.Path.{_≡_, sym, _∙_, ap}
+use mathlib.Core.Path.{_∙_, ap}
 use denote.Ref.{now}
 use borrow.Author.Needs.{needs}
 use Rattle.buftag.proofs.name.put_bytes.Statement.{statement}

@@ -1,0 +1,32 @@
+-- Memory that passes the places 1 and 2.
+use mathlib.Core.Path.{_≡_, _∙_, ap}
+use mathlib.Core.Bool.{true, false, not}
+use mathlib.Core.List.{List, _∷_}
+use Rattle.bufmodel.specs.Memory.{Memory, size}
+use Rattle.bufmodel.specs.Sizes.{SizedFor, sized}
+use Rattle.bufmodel.specs.Books.{BooksSound, sound}
+use Rattle.bufmodel.specs.Outcome.{Place, place, refusalOf, checked}
+use Rattle.bufmodel.proofs.SizesLaws.{sizes-say}
+use Rattle.bufmodel.proofs.BooksLaws.{books-say}
+use Rattle.bufmodel.proofs.OutcomeLaws.{refusal-past}
+
+pub record Good (m : Memory) : Type 0 where
+  pub sizes : SizedFor (size m) m
+  pub books : BooksSound m
+
+pub good-sized : (m : Memory) → Good m → sized m ≡ true
+unfolding sized
+good-sized m g = sizes-say (size m) m .shown (g .sizes)
+
+pub good-sound : (m : Memory) → Good m → sound m ≡ true
+good-sound m g = books-say m .shown (g .books)
+
+pub good-of : (m : Memory) → sized m ≡ true → sound m ≡ true → Good m
+unfolding sized
+good-of m s b = record { sizes = sizes-say (size m) m .holds s; books = books-say m .holds b }
+
+-- only a call's own places are left
+pub checked-good : (m : Memory) → Good m → (own : List Place) → checked m own ≡ refusalOf own
+unfolding checked
+checked-good m g own =
+    refusal-past 1 (place 2 (not (sound m)) ∷ own) (ap not (good-sized m g)) ∙ refusal-past 2 own (ap not (good-sound m g))

@@ -1,0 +1,85 @@
+-- Which buffer has a page, in memory that passes the places 1 and 2.
+use Prim.Native.Nat.{ℕ, _<_}
+use mathlib.Core.Path.{_≡_, sym, ap, _∙_}
+use mathlib.Core.Bool.{Bool, true, false, not, _&&_}
+use borrow.Author.Tests.{not-true}
+use Rattle.laws.specs.First.{Found, found, missing, first}
+use Rattle.laws.proofs.Tests.{and-true, and-left, and-right}
+use Rattle.laws.proofs.First.{first-found, first-only}
+use Rattle.buftag.specs.declared.name.PageName.{PageName}
+use Rattle.buftag.specs.declared.number.BufferNumber.{BufferNumber}
+use Rattle.buftag.specs.declared.lookup.Held.the-variants.{At, Nowhere}
+use Rattle.buftag.specs.Name.{sameName}
+use Rattle.buftag.specs.Lookup.{used, heldOf, held}
+use Rattle.buftag.proofs.NameLaws.{says-same-name}
+use Rattle.buftag.proofs.WalkLaws.{not-at}
+use Rattle.buftag.proofs.LookupLaws.{held-nowhere}
+use Rattle.bufmodel.specs.Word.{empty}
+use Rattle.bufmodel.specs.Memory.{Memory, buffers, wordOf, nameOf}
+use Rattle.bufmodel.specs.Books.{emptyAt}
+use Rattle.bufmodel.specs.Pin.{heldIn}
+use Rattle.bufmodel.proofs.GoodLaws.{Good}
+
+-- ---- a buffer is empty or in use
+module _ (m : Memory) (i : ℕ) where
+  pub empty-unused : emptyAt m i ≡ true → used (m .states) i ≡ false
+  unfolding emptyAt empty
+  empty-unused e = ap not e
+
+  pub full-used : emptyAt m i ≡ false → used (m .states) i ≡ true
+  unfolding emptyAt empty
+  full-used e = ap not e
+
+  pub used-full : used (m .states) i ≡ true → emptyAt m i ≡ false
+  unfolding emptyAt empty
+  used-full u = not-true _ u
+
+-- buffers with equal words are both empty or both in use
+pub empty-same : (m o : Memory) (i j : ℕ) → wordOf m i ≡ wordOf o j → emptyAt m i ≡ emptyAt o j
+unfolding emptyAt
+empty-same m o i j e = ap empty e
+
+-- ---- the answer of the look-up
+same-buffer : {a b : BufferNumber} → At a ≡ At b → a .0 ≡ b .0
+same-buffer e = cc
+
+-- the answer that a buffer has a name comes from a search that found it
+at-found : (f : Found) {b : BufferNumber} → heldOf f ≡ At b → f ≡ found (b .0)
+at-found (found i) e = ap found (same-buffer e)
+at-found missing e = not-at e
+
+module _ (m : Memory) (n : PageName) where
+  -- the search's test: a buffer in use with the name
+  abbrev has : ℕ → Bool
+  has i = used (m .states) i && sameName (nameOf m i) n
+
+  has-of : (i : ℕ) → emptyAt m i ≡ false → nameOf m i ≡ n → has i ≡ true
+  has-of i e q = and-true (full-used m i e) (says-same-name (nameOf m i) n .shown q)
+
+  has-says : (i : ℕ) → has i ≡ true → (emptyAt m i ≡ false) × (nameOf m i ≡ n)
+  has-says i h = (
+    used-full m i (and-left (used (m .states) i) (sameName (nameOf m i) n) h),
+    says-same-name (nameOf m i) n .holds (and-right (used (m .states) i) (sameName (nameOf m i) n) h),
+  )
+
+  -- where the look-up names no buffer, none holds a page of that name
+  pub held-none : heldIn m n ≡ Nowhere → (i : ℕ) → i < buffers m → emptyAt m i ≡ false → nameOf m i ≡ n → ⊥
+  unfolding heldIn
+  held-none e i l f q = held-nowhere (m .states) (m .names) n e i (full-used m i f) q
+
+module _ (m : Memory) (k : Good m) (n : PageName) where
+  -- the buffer that it names does
+  pub held-at : (b : BufferNumber) → heldIn m n ≡ At b → (b .0 < buffers m) × (emptyAt m (b .0) ≡ false) × (nameOf m (b .0) ≡ n)
+  unfolding heldIn held
+  held-at b e =
+      let w = first-found (has m n) (buffers m) (at-found (first (buffers m) (has m n)) e) in
+      let q = has-says m n (b .0) (w .1) in
+      (w .0, q .0, q .1)
+
+  -- a buffer that does is the one it names, since names are distinct
+  pub held-of : (i : ℕ) → i < buffers m → emptyAt m i ≡ false → nameOf m i ≡ n → heldIn m n ≡ At (record { 0 = i })
+  unfolding heldIn held
+  held-of i l f q =
+      ap heldOf
+      (first-only (has m n) (buffers m) i l (has-of m n i f q) (λ j b h.
+      let w = has-says m n j h in k .books .distinct j i (full-used m j (w .0)) (full-used m i f) (w .1 ∙ sym q)))

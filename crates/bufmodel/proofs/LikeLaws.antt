@@ -1,0 +1,120 @@
+-- One law for all calls that leave names, lists of links and rows alone: such a change keeps the memory good.
+use Prim.Native.Nat.{ℕ, _≤_, _<_}
+use mathlib.Core.Path.{_≡_, sym, ap, _∙_}
+use mathlib.Core.Bool.{Bool, true, not, _&&_}
+use mathlib.Core.Logic.{⊎-elim}
+use mathlib.Core.List.{List}
+use native.Mathlib.Omega.{arith}
+use lib.ListN.{length, getD}
+use lib.IntN.{ℤ}
+use lib.Dec.{eqb}
+use Rattle.laws.specs.Block.{block}
+use Rattle.laws.proofs.Tests.{lt-or-le}
+use Rattle.buftag.specs.Name.{bucketOf}
+use Rattle.buftag.specs.Names.{nameAt}
+use Rattle.buftag.specs.Lookup.{used}
+use Rattle.buftag.specs.Chain.{inBucket, ChainsSound, Distinct}
+use Rattle.buftag.proofs.LinkLaws.{holds-like}
+use Rattle.buftag.proofs.HoldsLaws.{used-out}
+use Rattle.bufmodel.specs.Word.{empty, dirty, soundWord}
+use Rattle.bufmodel.specs.Position.{position}
+use Rattle.bufmodel.specs.Memory.{Memory, buffers, size}
+use Rattle.bufmodel.specs.Sizes.{SizedFor}
+use Rattle.bufmodel.specs.Books.{emptyAt, BooksSound}
+use Rattle.bufmodel.proofs.GoodLaws.{Good}
+
+-- the memory with another hand, other log positions, words, pool and store
+abbrev pub like : Memory → ℕ → ℕ → ℕ → List ℕ → List ℕ → List ℕ → Memory
+like m hand inserted flushed words pool store =
+    record {
+      control = record { size = m .control .size; hand = hand; top = m .control .top; inserted = inserted; flushed = flushed };
+      states = words;
+      names = m .names;
+      pool = pool;
+      free = m .free;
+      heads = m .heads;
+      chain = m .chain;
+      rows = m .rows;
+      store = store;
+    }
+
+-- ---- words with the same buffers in use
+module _ (words news : List ℕ) (many : length news ≡ length words) where
+  -- beyond the buffers none is in use
+  used-like : ((i : ℕ) → i < length words → empty (getD news i 0) ≡ empty (getD words i 0)) → (i : ℕ) → used news i ≡ used words i
+  unfolding empty
+  used-like same i =
+      ⊎-elim (λ l. ap not (same i l)) (λ l. used-out news i (omega arith) ∙ sym (used-out words i l)) (lt-or-le i (length words))
+
+module _ (words news names : List ℕ) (same : (i : ℕ) → used news i ≡ used words i) where
+  distinct-like : Distinct words names → Distinct news names
+  distinct-like d i j u v e = d i j (sym (same i) ∙ u) (sym (same j) ∙ v) e
+
+  chains-like : {heads chain : List ℤ} → ChainsSound words names heads chain → ChainsSound news names heads chain
+  chains-like {heads} s =
+      record {
+        each = λ b l.
+            holds-like (inBucket words names (length heads) b) (inBucket news names (length heads) b)
+            (λ i h. ap (λ (t : Bool). t && eqb (bucketOf (nameAt names i) (length heads)) b) (sym (same i))) (s .each b l);
+        idle = λ i l u. s .idle i l (sym (same i) ∙ u);
+      }
+
+-- ---- the change
+module _ (m : Memory) (k : Good m) (hand inserted flushed : ℕ) (words pool store : List ℕ) where
+  -- as many words, pool and store bytes as before
+  like-sized : length words ≡ buffers m → length pool ≡ length (m .pool) → length store ≡ length (m .store)
+      → SizedFor (size m) (like m hand inserted flushed words pool store)
+  like-sized e f g =
+      let s = k .sizes in
+      record {
+        permitted = s .permitted;
+        least = rw e (s .least);
+        most = rw e (s .most);
+        wide = rw e (s .wide);
+        heads = s .heads;
+        names = rw e (s .names);
+        pool = f ∙ rw e (s .pool);
+        free = rw e (s .free);
+        chain = rw e (s .chain);
+        rows = s .rows;
+        store = g ∙ s .store;
+      }
+
+  -- the same buffers empty, sound words, and no dirty page above the inserted position
+  like-books : hand < buffers m → flushed ≤ inserted → length words ≡ buffers m
+      → ((i : ℕ) → i < buffers m → empty (getD words i 0) ≡ emptyAt m i)
+      → ((i : ℕ) → i < buffers m → soundWord (getD words i 0) ≡ true)
+      → ((i : ℕ) → i < buffers m → dirty (getD words i 0) ≡ true → position (block (size m) i pool) ≤ inserted)
+      → BooksSound (like m hand inserted flushed words pool store)
+  unfolding emptyAt
+  like-books h l e same sounds lows =
+      let b = k .books in
+      let u = used-like (m .states) words e same in
+      record {
+        hand = rw e h;
+        log = l;
+        words = λ i n. sounds i (rw e at n);
+        blank = λ i n z. b .blank i (rw e at n) (sym (same i (rw e at n)) ∙ z);
+        free = holds-like (λ i. empty (getD (m .states) i 0)) (λ i. empty (getD words i 0))
+            (λ i n. sym (same i (rw (k .sizes .free) at n))) (b .free);
+        off = λ i n z. b .off i (rw e at n) (sym (same i (rw e at n)) ∙ z);
+        distinct = distinct-like (m .states) words (m .names) u (b .distinct);
+        page = λ i n z. b .page i (rw e at n) (sym (same i (rw e at n)) ∙ z);
+        chains = chains-like (m .states) words (m .names) u (b .chains);
+        low = λ i n d. lows i (rw e at n) d;
+      }
+
+-- the change keeps the memory good
+pub like-good : (m : Memory) → Good m → (hand inserted flushed : ℕ) (words pool store : List ℕ) → hand < buffers m → flushed ≤ inserted
+    → length words ≡ buffers m
+    → length pool ≡ length (m .pool)
+    → length store ≡ length (m .store)
+    → ((i : ℕ) → i < buffers m → empty (getD words i 0) ≡ emptyAt m i)
+    → ((i : ℕ) → i < buffers m → soundWord (getD words i 0) ≡ true)
+    → ((i : ℕ) → i < buffers m → dirty (getD words i 0) ≡ true → position (block (size m) i pool) ≤ inserted)
+    → Good (like m hand inserted flushed words pool store)
+like-good m k hand inserted flushed words pool store h l e f g same sounds lows =
+    record {
+      sizes = like-sized m k hand inserted flushed words pool store e f g;
+      books = like-books m k hand inserted flushed words pool store h l e same sounds lows;
+    }

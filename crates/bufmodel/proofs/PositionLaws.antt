@@ -1,0 +1,69 @@
+-- Laws of log positions: to bytes and back, and the position of a page that was written.
+use Prim.Native.Nat.{ℕ, _+_, _*_, _/_, _%_, _^_, _≤_, _<_}
+use mathlib.Core.Path.{_≡_, refl, sym, ap, ap₂, _∙_}
+use mathlib.Core.Bool.{true}
+use mathlib.Core.List.{List, [], _∷_, _++_}
+use native.Mathlib.Omega.{arith}
+use lib.Dec.{ltb}
+use lib.ListN.{length, getD, take, length-append, length-take, length-drop}
+use borrow.Author.Tests.{ltb-true}
+use Rattle.laws.proofs.Lists.{take-listed}
+use Rattle.buftag.specs.declared.name.PageName.{PageName}
+use Rattle.buftag.specs.Bytes.{wordBytes, wordAt}
+use Rattle.buftag.specs.Name.{nameOf}
+use Rattle.buftag.proofs.NameLaws.{name-of-bytes}
+use Rattle.bufmodel.specs.Position.{position, positionBytes, paste, written}
+
+-- ---- the bytes of a word, and back
+-- as the first word of a name
+word-of-bytes : (w : ℕ) → w < 2 ^ 32 → wordAt (wordBytes w) 0 ≡ w
+word-of-bytes w h =
+    let zero : 0 < 2 ^ 32 = omega arith in
+    ap (λ (n : PageName). n .file .tablespace)
+    (name-of-bytes (nameOf w 0 0 0 0) (record { file = record { tablespace = h; database = zero; relation = zero; fork = zero }; block = zero }))
+
+module _ {a b c d : ℕ} (ha : a < 256) (hb : b < 256) (hc : c < 256) (hd : d < 256) where
+  word-lt : a + b * 256 + c * 65536 + d * 16777216 < 2 ^ 32
+  word-lt = omega arith
+
+  bytes-of-word : wordBytes (a + b * 256 + c * 65536 + d * 16777216) ≡ a ∷ b ∷ c ∷ d ∷ []
+  bytes-of-word =
+      let w = a + b * 256 + c * 65536 + d * 16777216 in
+      let e : w / 256 ≡ b + c * 256 + d * 65536 = omega arith in
+      let f : w / 65536 ≡ c + d * 256 = omega arith in
+      let g : w / 16777216 ≡ d = omega arith in
+      let first : w % 256 ≡ a = omega arith in
+      let second : w / 256 % 256 ≡ b = rw e (omega arith) in
+      let third : w / 65536 % 256 ≡ c = rw f (omega arith) in
+      let fourth : w / 16777216 % 256 ≡ d = rw g (omega arith) in
+      rw (first, second, third, fourth)
+
+-- ---- the bytes of a position, and back
+pub position-of-bytes : (p : ℕ) (rest : List ℕ) → p < 2 ^ 64 → position (positionBytes p ++ rest) ≡ p
+unfolding position positionBytes
+position-of-bytes p rest h =
+    rw (word-of-bytes (p / 2 ^ 32) (omega arith), word-of-bytes (p % 2 ^ 32) (omega arith)) (omega arith)
+
+pub bytes-of-position : (page : List ℕ) → 8 ≤ length page → ((i : ℕ) → i < 8 → getD page i 0 < 256)
+    → positionBytes (position page) ≡ take 8 page
+unfolding position positionBytes
+bytes-of-position page long bytes =
+    let byte : (i : ℕ) → ltb i 8 ≡ true → getD page i 0 < 256 = λ i h. bytes i (ltb-true i 8 h) in
+    let high = bytes-of-word (byte 0 refl) (byte 1 refl) (byte 2 refl) (byte 3 refl) in
+    let low = bytes-of-word (byte 4 refl) (byte 5 refl) (byte 6 refl) (byte 7 refl) in
+    let h : wordAt page 4 < 2 ^ 32 = word-lt (byte 4 refl) (byte 5 refl) (byte 6 refl) (byte 7 refl) in
+    let e : position page / 2 ^ 32 ≡ wordAt page 0 = omega arith in
+    let f : position page % 2 ^ 32 ≡ wordAt page 4 = omega arith in
+    ap₂ (λ (x y : ℕ). wordBytes x ++ wordBytes y) e f ∙ ap₂ _++_ high low ∙ sym (take-listed 8 page 0 long)
+
+-- ---- a written page
+pub length-written : (p from : ℕ) (new page : List ℕ) → from + length new ≤ length page → 8 ≤ length page
+    → length (written p from new page) ≡ length page
+unfolding written paste positionBytes
+length-written p from new page h long = simp (length-append, length-take, length-drop) (omega arith)
+
+-- it bears the position that it was written with
+pub position-written : (p from : ℕ) (new page : List ℕ) → from + length new ≤ length page → 8 ≤ length page → p < 2 ^ 64
+    → position (written p from new page) ≡ p
+unfolding written paste
+position-written p from new page fits long h = position-of-bytes p _ h

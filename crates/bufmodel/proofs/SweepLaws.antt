@@ -1,0 +1,164 @@
+-- Laws of the sweep as published: the function computes its end, and what an end leaves of the words.
+use Prim.Native.Nat.{ℕ, zero, suc, _+_, _-_, _≤_, _<_}
+use native.Mathlib.Omega.{arith}
+use mathlib.Core.Path.{_≡_, refl, sym, ap, _∙_}
+use mathlib.Core.Bool.{true, false}
+use mathlib.Core.Logic.{_≢_, ⊎-elim}
+use mathlib.Core.List.{List}
+use lib.ListN.{length, getD, set, length-set}
+use lib.Seq.{getD-set-same, getD-set-other}
+use borrow.Author.Tests.{eq-eqb, ne-eqb}
+use Rattle.laws.specs.First.{found, missing}
+use Rattle.laws.proofs.First.{found-same}
+use Rattle.laws.proofs.Tests.{eq-or-ne, never}
+use Rattle.bufmodel.specs.Word.{pins, usage, flags, pack, pinned, useLess}
+use Rattle.bufmodel.specs.Sweep.{Swept, swept, next, Sweeps, passes, stops, lowers, takes, sweep}
+
+-- ---- a word that loses one usage
+pub less-pins : (w : ℕ) → pins (useLess w) ≡ pins w
+unfolding useLess pack pins usage flags
+less-pins w = omega arith
+
+pub less-usage : (w : ℕ) → usage (useLess w) ≡ usage w - 1
+unfolding useLess pack pins usage flags
+less-usage w = omega arith
+
+pub less-flags : (w : ℕ) → flags (useLess w) ≡ flags w
+unfolding useLess pack pins usage flags
+less-flags w = omega arith
+
+pub pinned-same : (v w : ℕ) → pins v ≡ pins w → pinned v ≡ pinned w
+unfolding pinned
+pinned-same v w e = rw e
+
+-- ---- the hand
+pub next-end : (n hand : ℕ) → suc hand ≡ n → next n hand ≡ 0
+unfolding next
+next-end n hand h = rw (eq-eqb (suc hand) n h)
+
+pub next-on : (n hand : ℕ) → suc hand ≢ n → next n hand ≡ suc hand
+unfolding next
+next-on n hand h = rw (ne-eqb (suc hand) n h)
+
+pub next-lt : (n hand : ℕ) → hand < n → next n hand < n
+next-lt n hand l =
+    ⊎-elim (λ e. omega (arith, next-end n hand e)) (λ f. omega (arith, next-on n hand f)) (eq-or-ne (suc hand) n)
+
+-- ---- one probe of the function
+module _ (fuel n run probes hand : ℕ) (words : List ℕ) where
+  step-passes : pinned (getD words hand 0) ≡ true → suc run < n
+      → sweep (suc fuel) n run probes hand words ≡ sweep fuel n (suc run) (suc probes) (next n hand) words
+  unfolding sweep
+  step-passes e l = rw (e, sweep, ne-eqb (suc run) n (omega arith))
+
+  step-stops : pinned (getD words hand 0) ≡ true → suc run ≡ n
+      → sweep (suc fuel) n run probes hand words ≡ swept missing words (next n hand) (suc probes)
+  unfolding sweep
+  step-stops e q = rw (e, sweep, eq-eqb (suc run) n q)
+
+  step-lowers : pinned (getD words hand 0) ≡ false → 0 < usage (getD words hand 0)
+      → sweep (suc fuel) n run probes hand words
+      ≡ sweep fuel n 0 (suc probes) (next n hand) (set words hand (useLess (getD words hand 0)))
+  unfolding sweep
+  step-lowers e l = rw (e, sweep, ne-eqb (usage (getD words hand 0)) 0 (omega arith))
+
+  step-takes : pinned (getD words hand 0) ≡ false → usage (getD words hand 0) ≡ 0
+      → sweep (suc fuel) n run probes hand words ≡ swept (found hand) words (next n hand) (suc probes)
+  unfolding sweep
+  step-takes e z = rw (e, sweep, eq-eqb (usage (getD words hand 0)) 0 z)
+
+-- ---- the function computes what the relation says, and so the relation decides its end
+pub sweep-of : {n run hand : ℕ} {words : List ℕ} {s : Swept} (fuel probes : ℕ) → Sweeps n run hand words s → s .probes ≤ fuel
+    → sweep fuel n run probes hand words ≡ swept (s .victim) (s .words) (s .hand) (probes + s .probes)
+sweep-of zero probes (passes e l r) h = absurd (omega arith)
+sweep-of zero probes (stops e q) h = absurd (omega arith)
+sweep-of zero probes (lowers e l r) h = absurd (omega arith)
+sweep-of zero probes (takes e z) h = absurd (omega arith)
+sweep-of (suc fuel) probes (passes {s} e l r) h =
+    step-passes _ _ _ _ _ _ e l ∙ sweep-of fuel (suc probes) r (omega arith) ∙ ap (swept (s .victim) (s .words) (s .hand)) (omega arith)
+sweep-of (suc fuel) probes (stops e q) h = step-stops _ _ _ _ _ _ e q ∙ ap (swept _ _ _) (omega arith)
+sweep-of (suc fuel) probes (lowers {s} e l r) h =
+    step-lowers _ _ _ _ _ _ e l ∙ sweep-of fuel (suc probes) r (omega arith) ∙ ap (swept (s .victim) (s .words) (s .hand)) (omega arith)
+sweep-of (suc fuel) probes (takes e z) h = step-takes _ _ _ _ _ _ e z ∙ ap (swept _ _ _) (omega arith)
+
+pub sweep-is : {n run hand : ℕ} {words : List ℕ} {s : Swept} (fuel : ℕ) → Sweeps n run hand words s → s .probes ≤ fuel
+    → sweep fuel n run 0 hand words ≡ s
+sweep-is {s} fuel r h = sweep-of fuel 0 r h ∙ ap (swept (s .victim) (s .words) (s .hand)) (omega arith)
+
+pub sweeps-same : {n run hand : ℕ} {words : List ℕ} {s t : Swept} → Sweeps n run hand words s → Sweeps n run hand words t → s ≡ t
+sweeps-same {s} {t} a b =
+    let fuel = s .probes + t .probes in
+    sym (sweep-is fuel a (omega arith)) ∙ sweep-is fuel b (omega arith)
+
+-- ---- what a sweep leaves
+-- the word v is w, of which usage may be lost, and nothing else
+pub record LessUsed (w v : ℕ) : Type 0 where
+  pub same-pins : pins v ≡ pins w
+  pub same-flags : flags v ≡ flags w
+  pub less : usage v ≤ usage w
+
+used-same : {w : ℕ} → LessUsed w w
+used-same = record { same-pins = refl; same-flags = refl; less = omega arith }
+
+used-then : {u v w : ℕ} → LessUsed u v → LessUsed v w → LessUsed u w
+used-then p q =
+    record { same-pins = q .same-pins ∙ p .same-pins; same-flags = q .same-flags ∙ p .same-flags; less = omega arith }
+
+used-less : (w : ℕ) → LessUsed w (useLess w)
+used-less w = record { same-pins = less-pins w; same-flags = less-flags w; less = omega (arith, less-usage w) }
+
+set-less : (words : List ℕ) (k v : ℕ) → k < length words → LessUsed (getD words k 0) v
+    → (i : ℕ) → LessUsed (getD words i 0) (getD (set words k v) i 0)
+set-less words k v l h i =
+    ⊎-elim (λ e. rw e (rw (getD-set-same words k v 0 l) h)) (λ f. rw (getD-set-other words k i v 0 f) used-same) (eq-or-ne i k)
+
+pub record SweptFrom (words : List ℕ) (s : Swept) : Type 0 where
+  pub same-length : length (s .words) ≡ length words
+  pub each : (i : ℕ) → LessUsed (getD words i 0) (getD (s .words) i 0)
+  pub hand-lt : s .hand < length words
+  -- the victim is a buffer, unpinned and unused
+  pub taken : (v : ℕ) → s .victim ≡ found v
+      → (v < length words) × (pinned (getD (s .words) v 0) ≡ false) × (usage (getD (s .words) v 0) ≡ 0)
+
+-- one probe earlier
+from-earlier : {a b : List ℕ} {s : Swept} → length b ≡ length a → ((i : ℕ) → LessUsed (getD a i 0) (getD b i 0)) → SweptFrom b s
+    → SweptFrom a (swept (s .victim) (s .words) (s .hand) (s .probes + 1))
+from-earlier len kept f =
+    record {
+      same-length = f .same-length ∙ len;
+      each = λ i. used-then (kept i) (f .each i);
+      hand-lt = rw len at (f .hand-lt);
+      taken = rw len at (f .taken);
+    }
+
+pub sweeps-from : {n run hand : ℕ} {words : List ℕ} {s : Swept} → hand < n → length words ≡ n → Sweeps n run hand words s
+    → SweptFrom words s
+sweeps-from h len (passes e l r) = from-earlier refl (λ i. used-same) (sweeps-from (next-lt _ _ h) len r)
+sweeps-from {n} {hand} h len (stops e q) =
+    record {
+      same-length = refl;
+      each = λ i. used-same;
+      hand-lt = omega (arith, next-lt n hand h);
+      taken = λ v q. absurd (let z : _≡_ {A = ℕ} 0 1 = cc in omega arith);
+    }
+sweeps-from h len (lowers {hand} {words} e l r) =
+    let same = length-set words hand (useLess (getD words hand 0)) in
+    from-earlier same (set-less words hand _ (omega arith) (used-less _)) (sweeps-from (next-lt _ _ h) (same ∙ len) r)
+sweeps-from {n} {hand} h len (takes e z) =
+    record {
+      same-length = refl;
+      each = λ i. used-same;
+      hand-lt = omega (arith, next-lt n hand h);
+      taken = λ v q. rw (sym (found-same q)) (omega arith, e, z);
+    }
+
+-- a pinned buffer's word is not touched
+pub sweeps-pinned : {n run hand : ℕ} {words : List ℕ} {s : Swept} → Sweeps n run hand words s
+    → (i : ℕ) → pinned (getD words i 0) ≡ true → getD (s .words) i 0 ≡ getD words i 0
+sweeps-pinned (passes e l r) i p = sweeps-pinned r i p
+sweeps-pinned (stops e q) i p = refl
+sweeps-pinned (lowers {hand} {words} e l r) i p =
+    let other : i ≢ hand = λ q. never p (ap (λ (k : ℕ). pinned (getD words k 0)) q ∙ e) in
+    let same = getD-set-other words hand i (useLess (getD words hand 0)) 0 other in
+    sweeps-pinned r i (ap pinned same ∙ p) ∙ same
+sweeps-pinned (takes e z) i p = refl

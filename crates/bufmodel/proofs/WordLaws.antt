@@ -1,0 +1,175 @@
+-- Laws of state words: the fields of a word, the words of buffers in use, and what the changes do to them.
+use Prim.Native.Nat.{ℕ, _+_, _-_, _/_, _%_, _^_, _≤_, _<_}
+use mathlib.Core.Path.{_≡_, refl, sym, _∙_}
+use mathlib.Core.Bool.{Bool, true, false, not, _&&_, _||_, cond, Bool·beq}
+use mathlib.Core.Logic.{_⊎_, inl, inr, ⊎-elim}
+use native.Mathlib.Nat.{div-div-eq-div-mul}
+use native.Mathlib.Omega.{arith}
+use lib.Dec.{eqb}
+use borrow.Author.Tests.{eq-eqb, ne-eqb, eqb-false, not-true}
+use Rattle.laws.specs.Every.{all}
+use Rattle.laws.specs.Says.{Says}
+use Rattle.laws.proofs.Tests.{true-or-false, beq-true}
+use Rattle.laws.proofs.Every.{all-at}
+use Rattle.laws.proofs.Says.{says-eq, says-le, says-and, says-or, says-else, says-as}
+use Rattle.bufmodel.specs.Word.{maxUsage, maxPins, pins, usage, flags, pack, cleanFlags, dirtyFlags, pinned}
+use Rattle.bufmodel.specs.Word.{bit, dirty, valid, tagValid, justDirtied, permanent, noOther, empty, soundFlags, soundWord}
+use Rattle.bufmodel.specs.Word.{pinMore, pinLess, useLess, makeDirty, makeClean, loaded}
+
+-- ---- the fields of a word, and the word of its fields
+module _ (p u f : ℕ) (hp : p < 2 ^ 18) (hu : u < 2 ^ 4) where
+  pub pins-pack : pins (pack p u f) ≡ p
+  unfolding pins pack
+  pins-pack = omega arith
+
+  pub usage-pack : usage (pack p u f) ≡ u
+  unfolding usage pack
+  usage-pack = omega arith
+
+  pub flags-pack : flags (pack p u f) ≡ f
+  unfolding flags pack
+  flags-pack = omega arith
+
+  pub pack-lt : f < 2 ^ 10 → pack p u f < 2 ^ 32
+  unfolding pack
+  pack-lt hf = omega arith
+
+pub pack-fields : (w : ℕ) → pack (pins w) (usage w) (flags w) ≡ w
+unfolding pack pins usage flags
+pack-fields w = omega arith
+
+pub pins-lt : (w : ℕ) → pins w < 2 ^ 18
+unfolding pins
+pins-lt w = omega arith
+
+pub usage-lt : (w : ℕ) → usage w < 2 ^ 4
+unfolding usage
+usage-lt w = omega arith
+
+pub flags-lt : (w : ℕ) → w < 2 ^ 32 → flags w < 2 ^ 10
+unfolding flags
+flags-lt w h = omega arith
+
+-- ---- the flags as one number
+-- the test of the flags, over the ten bits of that number
+right : ℕ → Bool
+right f =
+    bit 2 f && bit 3 f && bit 9 f && Bool·beq (bit 1 f) (bit 6 f)
+    && (not (bit 0 f) && not (bit 4 f) && not (bit 5 f) && not (bit 7 f) && not (bit 8 f))
+
+-- the number is one of two
+known : ℕ → Bool
+known f = eqb f cleanFlags || eqb f dirtyFlags
+
+flags-table : all (2 ^ 10) (λ f. Bool·beq (right f) (known f)) ≡ true
+unfolding all right known bit
+flags-table = refl
+
+-- bit 22 + k of a word is bit k of its flags
+right-flags : (w : ℕ) → right (flags w) ≡ soundFlags w
+unfolding right soundFlags valid tagValid permanent dirty justDirtied noOther bit flags
+right-flags w = simp div-div-eq-div-mul
+
+-- sound flags are one of two numbers
+pub sound-flags : (w : ℕ) → w < 2 ^ 32 → soundFlags w ≡ (eqb (flags w) cleanFlags || eqb (flags w) dirtyFlags)
+unfolding known
+sound-flags w h =
+    sym (right-flags w) ∙ beq-true _ _ (all-at (λ f. Bool·beq (right f) (known f)) (2 ^ 10) flags-table (flags w) (flags-lt w h))
+
+-- ---- the word of a buffer in use
+pub record Held (w : ℕ) : Type 0 where
+  pub full : empty w ≡ false
+  pub few : usage w ≤ maxUsage
+  pub flag : (flags w ≡ cleanFlags) ⊎ (flags w ≡ dirtyFlags)
+
+-- it is not 0, since its flags are not
+held-of : (w : ℕ) → usage w ≤ maxUsage → (flags w ≡ cleanFlags) ⊎ (flags w ≡ dirtyFlags) → Held w
+unfolding empty flags
+held-of w few flag =
+    record { full = ne-eqb w 0 (λ e. ⊎-elim (λ f. omega arith) (λ f. omega arith) flag); few = few; flag = flag }
+
+-- the test of a word decides that it is 0 or so
+word-says : (w : ℕ) → w < 2 ^ 32 → Says (soundWord w) (empty w ≡ false → Held w)
+unfolding soundWord
+word-says w h =
+    says-else (empty w)
+    (says-as (λ s. held-of w (s .0) (s .1)) (λ k. (k .few, k .flag))
+    (says-and (says-le (usage w) maxUsage) (rw (sound-flags w h) (says-or (says-eq (flags w) cleanFlags) (says-eq (flags w) dirtyFlags)))))
+
+-- a sound word other than 0 is so, and back
+pub sound-held : {w : ℕ} → w < 2 ^ 32 → soundWord w ≡ true → empty w ≡ false → Held w
+sound-held {w} h sound full = word-says w h .holds sound full
+
+pub held-sound : {w : ℕ} → w < 2 ^ 32 → Held w → (soundWord w ≡ true) × (empty w ≡ false)
+held-sound {w} h k = (word-says w h .shown (λ e. k), k .full)
+
+pub held-lt : {w : ℕ} → Held w → w < 2 ^ 32
+unfolding flags
+held-lt k = ⊎-elim (λ f. omega arith) (λ f. omega arith) (k .flag)
+
+-- a page is dirty by its flags as a number
+pub dirty-is : {w : ℕ} → Held w → dirty w ≡ eqb (flags w) dirtyFlags
+unfolding dirty bit flags
+dirty-is {w} k =
+    ⊎-elim
+    (λ f. rw f (ne-eqb (w / 2 ^ 23 % 2) 1 (omega arith)))
+    (λ f. rw f (eq-eqb (w / 2 ^ 23 % 2) 1 (omega arith)))
+    (k .flag)
+
+-- ---- the changes
+-- the word of a buffer in use, with these pins, usage and flags, dirty or not
+pub record Fields (w p u f : ℕ) (d : Bool) : Type 0 where
+  pub held : Held w
+  pub pins : pins w ≡ p
+  pub usage : usage w ≡ u
+  pub flags : flags w ≡ f
+  pub dirty : dirty w ≡ d
+
+-- a packed word has the fields that it was packed of
+packed : (p u f : ℕ) → p < 2 ^ 18 → u ≤ maxUsage → (f ≡ cleanFlags) ⊎ (f ≡ dirtyFlags)
+    → Fields (pack p u f) p u f (eqb f dirtyFlags)
+packed p u f hp hu hf =
+    let fs = flags-pack p u f hp (omega arith) in
+    let us = usage-pack p u f hp (omega arith) in
+    let k : Held (pack p u f) = held-of (pack p u f) (rw us hu) (rw fs hf) in
+    record { held = k; pins = pins-pack p u f hp (omega arith); usage = us; flags = fs; dirty = dirty-is k ∙ rw fs refl }
+
+-- a pinned word's count is not 0, so that one pin less is a change
+pub pinned-pins : (w : ℕ) → pinned w ≡ true → 0 < pins w
+unfolding pinned
+pinned-pins w h = let ne = eqb-false (pins w) 0 (not-true _ h) in omega arith
+
+-- one use more, up to the greatest count
+few-more : (u : ℕ) → u ≤ maxUsage → cond (eqb u maxUsage) u (u + 1) ≤ maxUsage
+few-more u h =
+    ⊎-elim (λ e. rw e h) (λ e. let ne = eqb-false u maxUsage e in rw e (omega arith)) (true-or-false (eqb u maxUsage))
+
+module _ {w : ℕ} (k : Held w) where
+  -- other counts, the same flags
+  counted : (p u : ℕ) → p < 2 ^ 18 → u ≤ maxUsage → Fields (pack p u (flags w)) p u (flags w) (dirty w)
+  counted p u hp hu = rw (dirty-is k) (packed p u (flags w) hp hu (k .flag))
+
+  pub pin-more : pins w < maxPins
+      → Fields (pinMore w) (pins w + 1) (cond (eqb (usage w) maxUsage) (usage w) (usage w + 1)) (flags w) (dirty w)
+  unfolding pinMore
+  pin-more h = counted (pins w + 1) _ (omega arith) (few-more (usage w) (k .few))
+
+  pub pin-less : Fields (pinLess w) (pins w - 1) (usage w) (flags w) (dirty w)
+  unfolding pinLess
+  pin-less = counted (pins w - 1) (usage w) (omega (arith, pins-lt w)) (k .few)
+
+  pub use-less : Fields (useLess w) (pins w) (usage w - 1) (flags w) (dirty w)
+  unfolding useLess
+  use-less = counted (pins w) (usage w - 1) (pins-lt w) (omega (arith, k .few))
+
+  pub make-dirty : Fields (makeDirty w) (pins w) (usage w) dirtyFlags true
+  unfolding makeDirty
+  make-dirty = packed (pins w) (usage w) dirtyFlags (pins-lt w) (k .few) (inr refl)
+
+  pub make-clean : Fields (makeClean w) (pins w) (usage w) cleanFlags false
+  unfolding makeClean
+  make-clean = packed (pins w) (usage w) cleanFlags (pins-lt w) (k .few) (inl refl)
+
+pub loaded-fields : Fields loaded 1 1 cleanFlags false
+unfolding loaded
+loaded-fields = packed 1 1 cleanFlags (omega arith) (omega arith) (inl refl)

@@ -1,0 +1,15 @@
+pub mod Word
+pub mod Position
+pub mod Rows
+pub mod Memory
+pub mod Sizes
+pub mod Books
+pub mod Sweep
+pub mod Moves
+pub mod Outcome
+pub mod Answer
+pub mod Pin
+pub mod Calls
+pub mod Step
+pub mod Lent
+pub mod Cases

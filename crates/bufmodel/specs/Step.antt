@@ -1,0 +1,47 @@
+-- The calls of a list, as data, and what a list of them does.
+use Prim.Native.Nat.{ℕ}
+use mathlib.Core.List.{List, [], _∷_}
+use Rattle.buftag.specs.declared.name.FileName.{FileName}
+use Rattle.buftag.specs.declared.name.PageName.{PageName}
+use Rattle.bufmodel.specs.Memory.{Memory}
+use Rattle.bufmodel.specs.Outcome.{Outcome}
+use Rattle.bufmodel.specs.Pin.{pin}
+use Rattle.bufmodel.specs.Calls.{unpin, read, write, flush, checkpoint, peek, extend, dropFile, logInserted, logFlushed}
+
+pub data Call : Type 0 where
+  Pin : PageName → Call
+  Unpin : ℕ → Call
+  -- buffer, from, out
+  Read : ℕ → ℕ → List ℕ → Call
+  -- buffer, from, bytes, position
+  Write : ℕ → ℕ → List ℕ → ℕ → Call
+  Flush : ℕ → Call
+  Checkpoint : Call
+  Peek : PageName → Call
+  Extend : FileName → Call
+  Drop : FileName → Call
+  LogInserted : ℕ → Call
+  LogFlushed : ℕ → Call
+
+unfoldable pub step : Memory → Call → Outcome
+step m (Pin n) = pin m n
+step m (Unpin i) = unpin m i
+step m (Read i from out) = read m i from out
+step m (Write i from bytes at) = write m i from bytes at
+step m (Flush i) = flush m i
+step m Checkpoint = checkpoint m
+step m (Peek n) = peek m n
+step m (Extend f) = extend m f
+step m (Drop f) = dropFile m f
+step m (LogInserted p) = logInserted m p
+step m (LogFlushed p) = logFlushed m p
+
+-- each call gets the memory as the call before left it
+unfoldable pub memoryAfter : Memory → List Call → Memory
+memoryAfter m [] = m
+memoryAfter m (c ∷ cs) = memoryAfter (step m c .after) cs
+
+-- the refusal number and the answer of each call
+unfoldable pub answers : Memory → List Call → List (List ℕ)
+answers m [] = []
+answers m (c ∷ cs) = let o = step m c in (o .refusal ∷ o .answer) ∷ answers (o .after) cs

@@ -1,0 +1,131 @@
+-- An accepted call: what it has to show, and that this is all.
+use Prim.Native.Nat.{ℕ, _+_, _≤_, _<_}
+use mathlib.Core.Path.{_≡_, refl, sym, ap, _∙_, subst}
+use mathlib.Core.Logic.{_≢_}
+use mathlib.Core.Bool.{Bool, true, false}
+use mathlib.Core.List.{List}
+use native.Mathlib.Omega.{arith}
+use lib.ListN.{length}
+use Rattle.laws.specs.First.{Found, found, missing}
+use Rattle.laws.specs.Block.{block}
+use Rattle.bufmodel.specs.Position.{position}
+use Rattle.bufmodel.specs.Rows.{files, blocksAt, rowOf, startOf, storeBlocks, placeOf}
+use Rattle.bufmodel.specs.Memory.{Memory, buffers, size}
+use Rattle.bufmodel.specs.Outcome.{Outcome, done}
+use Rattle.bufmodel.specs.Step.{Call, Pin, Unpin, Read, Write, Flush, Checkpoint, Peek, Extend, Drop, LogInserted, LogFlushed}
+use Rattle.shelf.specs.Shelf.{Shelf, refuses, pinnedAt, unpinnedAt, writtenAt, extendedAt, droppedAt, shelfAfter}
+use Rattle.shelf.specs.Ledger.{Ledger, bufferIn, putBy, flushedAfter, acceptedBy, ledgerAfter, puts}
+use Rattle.shelf.specs.Statement.{Answers, Shows}
+use Rattle.shelf.proofs.Kept.{View, shelfOf, ledgerOf, viewOf, Kept, Ended}
+use Rattle.shelf.proofs.Refused.{PinSays}
+
+-- the ledger after an accepted call that answered so
+abbrev pub ledgerThen : Memory → View → Call → List ℕ → Ledger
+ledgerThen m v c answer = acceptedBy (ledgerOf m v) c answer
+
+abbrev pub shelfThen : Memory → View → Call → List ℕ → Shelf
+shelfThen m v c answer = ledgerThen m v c answer .shelf
+
+pub record Accepted (m : Memory) (v : View) (c : Call) (answer bytes : List ℕ) (m′ : Memory) : Type 0 where
+  pub number : refuses (shelfOf m v) c ≡ 0
+  pub answers : Answers (done answer bytes m′) c
+  pub shows : Shows (shelfOf m v) (done answer bytes m′) c
+  pub pin : PinSays m v c (done answer bytes m′)
+  -- what the ledger shares with the memory
+  pub many : buffers m ≡ buffers m′
+  pub wide : size m ≡ size m′
+  pub rows : shelfThen m v c answer .rows ≡ m′ .rows
+  pub inserted : shelfThen m v c answer .inserted ≡ m′ .control .inserted
+  pub flushed : ledgerThen m v c answer .flushed ≡ m′ .control .flushed
+  pub kept : Kept m′ (viewOf (ledgerThen m v c answer))
+  -- the store
+  pub others : (g : ℕ) → g < storeBlocks (m .rows) → putBy (ledgerOf m v) c answer g ≡ false
+      → block (size m) g (m′ .store) ≡ block (size m) g (m .store)
+  pub long : length (m′ .store) ≡ length (m .store)
+  pub settled : c ≡ Checkpoint → (r b : ℕ) → r < files (m .rows) → b < blocksAt (m .rows) r
+      → block (size m) (startOf (m .rows) r + b) (m′ .store) ≡ v .bytes (startOf (m .rows) r + b)
+
+-- no call changes N or P
+after-many : (s : Shelf) (c : Call) (b : ℕ) → (shelfAfter s c b .buffers ≡ s .buffers) × (shelfAfter s c b .size ≡ s .size)
+unfolding shelfAfter pinnedAt unpinnedAt writtenAt extendedAt droppedAt
+after-many s (Pin n) b = go (placeOf (s .rows) n)
+  where
+    go : (f : Found) → (pinnedAt s b f .buffers ≡ s .buffers) × (pinnedAt s b f .size ≡ s .size)
+    go (found g) = (refl, refl)
+    go missing = (refl, refl)
+after-many s (Unpin i) b = go (s .holds i)
+  where
+    go : (f : Found) → (unpinnedAt s i f .buffers ≡ s .buffers) × (unpinnedAt s i f .size ≡ s .size)
+    go (found g) = (refl, refl)
+    go missing = (refl, refl)
+after-many s (Read i from out) b = (refl, refl)
+after-many s (Write i from bytes at) b = go (s .holds i)
+  where
+    go : (f : Found) → (writtenAt s from bytes at f .buffers ≡ s .buffers) × (writtenAt s from bytes at f .size ≡ s .size)
+    go (found g) = (refl, refl)
+    go missing = (refl, refl)
+after-many s (Flush i) b = (refl, refl)
+after-many s Checkpoint b = (refl, refl)
+after-many s (Peek n) b = (refl, refl)
+after-many s (Extend f) b = go (rowOf (s .rows) f)
+  where
+    go : (r : Found) → (extendedAt s r .buffers ≡ s .buffers) × (extendedAt s r .size ≡ s .size)
+    go (found g) = (refl, refl)
+    go missing = (refl, refl)
+after-many s (Drop f) b = go (rowOf (s .rows) f)
+  where
+    go : (r : Found) → (droppedAt s r .buffers ≡ s .buffers) × (droppedAt s r .size ≡ s .size)
+    go (found g) = (refl, refl)
+    go missing = (refl, refl)
+after-many s (LogInserted p) b = (refl, refl)
+after-many s (LogFlushed p) b = (refl, refl)
+
+-- two ledgers with equal parts
+same-ledger : {b b′ p p′ i i′ f f′ : ℕ} {r r′ : List ℕ} (v : View) → b ≡ b′ → p ≡ p′ → i ≡ i′ → r ≡ r′ → f ≡ f′
+    → _≡_ {A = Ledger}
+    (record {
+      shelf = record { buffers = b; size = p; inserted = i; rows = r; bytes = v .bytes; counts = v .counts; holds = v .holds };
+      dirty = v .dirty;
+      last = v .last;
+      flushed = f;
+      put = v .put;
+    })
+    (record {
+      shelf = record { buffers = b′; size = p′; inserted = i′; rows = r′; bytes = v .bytes; counts = v .counts; holds = v .holds };
+      dirty = v .dirty;
+      last = v .last;
+      flushed = f′;
+      put = v .put;
+    })
+same-ledger v e f g h i = cc
+
+module _ (m : Memory) (v : View) (c : Call) (answer bytes : List ℕ) (m′ : Memory) where
+  pub accepted-ended : Accepted m v c answer bytes m′ → Ended m v c (done answer bytes m′)
+  unfolding ledgerAfter puts acceptedBy
+  accepted-ended a =
+      let n = after-many (shelfOf m v) c (bufferIn answer) in
+      record {
+        agrees =
+            record {
+              number = sym (a .number);
+              neither = (omega arith, omega arith);
+              answers = λ z. a .answers;
+              shows = λ z. a .shows;
+              blank = λ h. absurd (h refl);
+              kept = λ h. absurd (h refl);
+              same = λ h. absurd (h refl);
+              rows = sym (a .rows);
+              inserted = sym (a .inserted);
+              six = a .pin .six;
+              sought = a .pin .sought;
+              flushed = sym (a .flushed);
+              ordered = λ g h.
+                  subst (λ (f : ℕ). position (block (size m) g (m′ .store)) ≤ f) (sym (a .flushed))
+                  (subst (λ (p : ℕ). position (block p g (m′ .store)) ≤ m′ .control .flushed) (sym (a .wide)) (a .kept .put g h .1));
+              others = a .others;
+              long = a .long;
+              settled = λ q z. a .settled q;
+            };
+        kept = a .kept;
+        shared = same-ledger (viewOf (ledgerThen m v c answer)) (n .0 ∙ a .many) (n .1 ∙ a .wide) (a .inserted) (a .rows) (a .flushed);
+      }

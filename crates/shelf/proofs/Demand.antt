@@ -1,0 +1,44 @@
+-- DEMAND 3, proved: an accepted set up starts the relation between memory and ledger, and each call keeps it.
+use mathlib.Core.Path.{sym, subst}
+use Rattle.bufmodel.specs.Calls.{setUp}
+use Rattle.bufmodel.specs.Step.{Pin, Unpin, Read, Write, Flush, Checkpoint, Peek, Extend, Drop, LogInserted, LogFlushed}
+use Rattle.bufmodel.specs.Lent.{Lent, opened}
+use Rattle.bufmodel.proofs.CalledLaws.{called-accepted}
+use Rattle.shelf.specs.Ledger.{Ledger, firstLedger}
+use Rattle.shelf.specs.Statement.{Claim, Demand3}
+use Rattle.shelf.proofs.Kept.{viewOf, Runs, Steps, runs-of}
+use Rattle.shelf.proofs.Start.{start-kept, start-ledger}
+use Rattle.shelf.proofs.StepPin.{pin-step}
+use Rattle.shelf.proofs.StepUnpin.{unpin-step}
+use Rattle.shelf.proofs.StepRead.{read-step}
+use Rattle.shelf.proofs.StepWrite.{write-step}
+use Rattle.shelf.proofs.StepFlush.{flush-step}
+use Rattle.shelf.proofs.StepCheckpoint.{checkpoint-step}
+use Rattle.shelf.proofs.StepPeek.{peek-step}
+use Rattle.shelf.proofs.StepExtend.{extend-step}
+use Rattle.shelf.proofs.StepDrop.{drop-step}
+use Rattle.shelf.proofs.StepLog.{inserted-step, flushed-step}
+use Rattle.shelf.proofs.Lift.{callsOf, fits-calls, lift}
+
+steps : Steps
+steps m v (Pin n) k f = pin-step m v k n
+steps m v (Unpin i) k f = unpin-step m v k i
+steps m v (Read i from out) k f = read-step m v k i from out
+steps m v (Write i from bytes at) k f = write-step m v k i from bytes at (f .3)
+steps m v (Flush i) k f = flush-step m v k i
+steps m v Checkpoint k f = checkpoint-step m v k
+steps m v (Peek n) k f = peek-step m v k n
+steps m v (Extend f) k g = extend-step m v k f
+steps m v (Drop f) k g = drop-step m v k f
+steps m v (LogInserted p) k f = inserted-step m v k p
+steps m v (LogFlushed p) k f = flushed-step m v k p
+
+pub demand-3 : Demand3
+demand-3 m p at answer calls fm fp fat fa fc e =
+    let k = opened m in
+    let s = called-accepted (λ k. setUp k p at) m _ answer fa e in
+    let kept = start-kept k p at (s .0) in
+    subst (λ (n : Lent). Claim n (firstLedger k p at) calls) (sym (s .1))
+    (lift (setUp k p at .after) (firstLedger k p at) calls (kept .good) fc
+    (subst (λ (l : Ledger). Runs (setUp k p at .after) l (callsOf calls)) (sym (start-ledger k p at (s .0)))
+    (runs-of steps (setUp k p at .after) (viewOf (firstLedger k p at)) (callsOf calls) kept (fits-calls calls fc))))

@@ -1,0 +1,104 @@
+-- Laws of the relation between memory and ledger.
+use Prim.Native.Nat.{ℕ, _<_}
+use mathlib.Core.Path.{_≡_, refl, sym, ap, _∙_}
+use mathlib.Core.Bool.{Bool, true, false, not, _&&_, false≢true}
+use mathlib.Core.Logic.{_≢_, _⊎_, inl, inr}
+use borrow.Author.Tests.{eqb-true, eq-eqb, ne-eqb, not-true}
+use mathlib.Core.List.{List}
+use Rattle.laws.specs.First.{Found, found, missing, first}
+use Rattle.bufmodel.specs.Word.{empty}
+use Rattle.bufmodel.specs.Rows.{placeOf}
+use Rattle.bufmodel.specs.Memory.{Memory, buffers, nameOf}
+use Rattle.bufmodel.specs.Books.{emptyAt}
+use Rattle.bufmodel.proofs.GoodLaws.{Good}
+use Rattle.bufmodel.proofs.RowsLaws.{place-same}
+use Rattle.laws.specs.Says.{Says}
+use Rattle.laws.proofs.Tests.{and-left, and-right, and-true, never}
+use Rattle.laws.proofs.First.{found-same, first-found, first-missing}
+use Rattle.shelf.specs.Ledger.{isPlace}
+use Rattle.shelf.proofs.Kept.{View, Has, Nobody, Same, Kept}
+
+-- ---- one place and no other
+pub isPlace-true : (f : Found) (g : ℕ) → isPlace f g ≡ true → f ≡ found g
+unfolding isPlace
+isPlace-true (found h) g e = ap found (sym (eqb-true g h e))
+isPlace-true missing g e = absurd (false≢true e)
+
+pub isPlace-self : (g : ℕ) → isPlace (found g) g ≡ true
+unfolding isPlace
+isPlace-self g = eq-eqb g g refl
+
+pub isPlace-other : (g h : ℕ) → h ≢ g → isPlace (found g) h ≡ false
+unfolding isPlace
+isPlace-other g h ne = ne-eqb h g ne
+
+-- ---- views with equal values
+pub record Alike (v w : View) : Type 0 where
+  pub bytes : (g : ℕ) → w .bytes g ≡ v .bytes g
+  pub counts : (g : ℕ) → w .counts g ≡ v .counts g
+  pub holds : (b : ℕ) → w .holds b ≡ v .holds b
+  pub marks : (g : ℕ) → w .dirty g ≡ v .dirty g
+  pub last : (b : ℕ) → w .last b ≡ v .last b
+  pub put : (g : ℕ) → w .put g ≡ v .put g
+
+pub kept-alike : (m : Memory) (v w : View) → Alike v w → Kept m v → Kept m w
+kept-alike m v w a k =
+    record {
+      good = k .good;
+      words = k .words;
+      same = λ i g h.
+          let s = k .same i g h in
+          record {
+            bytes = a .bytes g ∙ s .bytes;
+            counts = a .counts g ∙ s .counts;
+            marked = a .marks g ∙ s .marked;
+            last = a .last i ∙ s .last;
+            clean = s .clean;
+          };
+      unpinned = λ g x. a .counts g ∙ k .unpinned g x;
+      unmarked = λ g x. a .marks g ∙ k .unmarked g x;
+      stored = λ n g e x. a .bytes g ∙ k .stored n g e x;
+      holds = λ i h. a .holds i ∙ k .holds i h;
+      put = λ g e. k .put g (sym (a .put g) ∙ e);
+    }
+
+-- ---- which buffer has a page
+module _ (m : Memory) (good : Good m) where
+  -- one at most
+  pub has-one : (i j g : ℕ) → Has m i g → Has m j g → i ≡ j
+  unfolding emptyAt empty
+  has-one i j g x y =
+      good .books .distinct i j (ap not (x .full)) (ap not (y .full))
+      (place-same (m .rows) (good .sizes .rows) (nameOf m i) (nameOf m j) (x .place) (y .place))
+
+  -- a buffer in use has its page
+  pub has-page : (i : ℕ) → i < buffers m → emptyAt m i ≡ false → (g : ℕ) × Has m i g
+  has-page i h e = let p = good .books .page i h e in (p .0, record { below = h; full = e; place = p .1 })
+
+  -- the page that a buffer has is one
+  pub has-place : (i g h : ℕ) → Has m i g → Has m i h → g ≡ h
+  has-place i g h x y = found-same (sym (x .place) ∙ y .place)
+
+  -- some buffer has a page, or none
+  has : ℕ → ℕ → Bool
+  has g i = not (emptyAt m i) && isPlace (placeOf (m .rows) (nameOf m i)) g
+
+  has-says : (g i : ℕ) → i < buffers m → Says (has g i) (Has m i g)
+  unfolding has
+  has-says g i h =
+      record {
+        holds = λ t.
+            record {
+              below = h;
+              full = not-true _ (and-left (not (emptyAt m i)) _ t);
+              place = isPlace-true (placeOf (m .rows) (nameOf m i)) g (and-right (not (emptyAt m i)) _ t);
+            };
+        shown = λ x. and-true (ap not (x .full)) (ap (λ (f : Found). isPlace f g) (x .place) ∙ isPlace-self g);
+      }
+
+  pub some-or-none : (g : ℕ) → ((i : ℕ) × Has m i g) ⊎ Nobody m g
+  some-or-none g = go (first (buffers m) (has g)) refl
+    where
+      go : (f : Found) → first (buffers m) (has g) ≡ f → ((i : ℕ) × Has m i g) ⊎ Nobody m g
+      go (found i) e = let w = first-found (has g) (buffers m) e in inl (i, has-says g i (w .0) .holds (w .1))
+      go missing e = inr (λ i x. never (has-says g i (x .below) .shown x) (first-missing (has g) (buffers m) e i (x .below)))

@@ -1,0 +1,131 @@
+-- A clean unpinned page leaves its buffer: it becomes a page that no buffer has, with no pins, and its bytes are the store's.
+use Prim.Native.Nat.{ℕ, _<_}
+use mathlib.Core.Path.{_≡_, refl, sym, ap, _∙_, subst}
+use mathlib.Core.Bool.{false, cond}
+use mathlib.Core.Logic.{_≢_, _⊎_, inl, inr, ⊎-elim}
+use borrow.Author.Tests.{eqb-true, not-false}
+use Rattle.laws.specs.First.{missing}
+use Rattle.laws.specs.Block.{block}
+use Rattle.laws.proofs.Tests.{eq-or-ne, never}
+use Rattle.bufmodel.specs.Word.{pins, pinned, dirty}
+use Rattle.bufmodel.specs.Rows.{placeOf}
+use Rattle.bufmodel.specs.Memory.{Memory, buffers, size, wordOf, nameOf}
+use Rattle.bufmodel.specs.Books.{emptyAt}
+use Rattle.bufmodel.specs.Moves.{release}
+use Rattle.bufmodel.proofs.WordLaws.{Held}
+use Rattle.bufmodel.proofs.LessUsedLaws.{zero-unpinned}
+use Rattle.bufmodel.proofs.ReleaseLaws.{
+  release-buffers,
+  release-word,
+  release-name,
+  release-kept,
+  release-own,
+  release-empty,
+  release-good,
+}
+use Rattle.shelf.proofs.Kept.{View, Has, Nobody, Same, Kept}
+use Rattle.shelf.proofs.KeptLaws.{some-or-none, has-place}
+
+-- an unpinned word has no pins
+pub unpinned-none : (w : ℕ) → pinned w ≡ false → pins w ≡ 0
+unfolding pinned
+unpinned-none w e = eqb-true (pins w) 0 (not-false _ e)
+
+-- ---- the other buffers keep their pages
+module _ (m : Memory) (i : ℕ) (l : i < buffers m) where
+  pub has-release : (j g : ℕ) → Has (release m i) j g → (j ≢ i) × Has m j g
+  unfolding release
+  has-release j g h =
+      let ne : j ≢ i = λ e. never (ap (emptyAt (release m i)) e ∙ release-empty m i l) (h .full) in (
+        ne,
+        record {
+          below = rw (release-buffers m i) at (h .below);
+          full = sym (release-kept m i j ne) ∙ h .full;
+          place = ap (placeOf (m .rows)) (sym (release-name m i j ne)) ∙ h .place;
+        },
+      )
+
+  release-has : (j g : ℕ) → j ≢ i → Has m j g → Has (release m i) j g
+  unfolding release
+  release-has j g ne h =
+      record {
+        below = rw (release-buffers m i) (h .below);
+        full = release-kept m i j ne ∙ h .full;
+        place = ap (placeOf (m .rows)) (release-name m i j ne) ∙ h .place;
+      }
+
+-- ---- the relation is kept
+module _ (m : Memory) (v : View) (k : Kept m v) (i g : ℕ) (own : Has m i g) (free : pinned (wordOf m i) ≡ false)
+    (clean : dirty (wordOf m i) ≡ false) where
+  -- a page that nobody has was nobody's, or is the one that left
+  gone : (h : ℕ) → Nobody (release m i) h → Nobody m h ⊎ (h ≡ g)
+  gone h none =
+      ⊎-elim
+      (λ x.
+      ⊎-elim
+      (λ e. inr (has-place m (k .good) i h g (subst (λ (j : ℕ). Has m j h) e (x .1)) own))
+      (λ ne. absurd (none (x .0) (release-has m i (own .below) (x .0) h ne (x .1))))
+      (eq-or-ne (x .0) i))
+      (λ none. inl none)
+      (some-or-none m (k .good) h)
+
+  -- the page that left has no pins, is not dirty, and its bytes are the store's
+  left : Same m v i g
+  left = k .same i g own
+
+  left-pins : v .counts g ≡ 0
+  left-pins = left .counts ∙ unpinned-none (wordOf m i) free
+
+  left-clean : v .dirty g ≡ false
+  left-clean = left .marked ∙ clean
+
+  left-stored : v .bytes g ≡ block (size m) g (m .store)
+  left-stored = left .bytes ∙ sym (left .clean clean)
+
+  -- the other pages
+  release-same : (j h : ℕ) → j ≢ i → Has m j h → Same (release m i) v j h
+  unfolding release
+  release-same j h ne x =
+      let q = k .same j h x in
+      let w = release-word m i j ne in
+      record {
+        bytes = q .bytes;
+        counts = q .counts ∙ ap pins (sym w);
+        marked = q .marked ∙ ap dirty (sym w);
+        last = q .last;
+        clean = λ d. q .clean (ap dirty (sym w) ∙ d);
+      }
+
+  release-words : (j : ℕ) → j < buffers (release m i) → emptyAt (release m i) j ≡ false → Held (wordOf (release m i) j)
+  release-words j l f =
+      let ne : j ≢ i = λ e. never (ap (emptyAt (release m i)) e ∙ release-empty m i (own .below)) f in
+      rw (release-word m i j ne) (k .words j (rw (release-buffers m i) at l) (sym (release-kept m i j ne) ∙ f))
+
+  -- a number holds a page exactly when its buffer is pinned
+  holds-none : v .holds i ≡ missing
+  holds-none = k .holds i (own .below) ∙ rw free refl
+
+  own-free : pinned (wordOf (release m i) i) ≡ false
+  own-free = ap pinned (release-own m i (own .below)) ∙ zero-unpinned
+
+  release-holds : (j : ℕ) → j < buffers m
+      → v .holds j ≡ cond (pinned (wordOf (release m i) j)) (placeOf (m .rows) (nameOf (release m i) j)) missing
+  release-holds j l =
+      ⊎-elim
+      (λ e. rw e (rw own-free holds-none))
+      (λ ne. rw (release-word m i j ne, release-name m i j ne) (k .holds j l))
+      (eq-or-ne j i)
+
+  pub kept-release : Kept (release m i) v
+  unfolding release
+  kept-release =
+      record {
+        good = release-good m (k .good) i (own .below) (own .full);
+        words = release-words;
+        same = λ j h x. let y = has-release m i (own .below) j h x in release-same j h (y .0) (y .1);
+        unpinned = λ h none. ⊎-elim (λ n. k .unpinned h n) (λ e. rw e left-pins) (gone h none);
+        unmarked = λ h none. ⊎-elim (λ n. k .unmarked h n) (λ e. rw e left-clean) (gone h none);
+        stored = λ n h e none. ⊎-elim (λ z. k .stored n h e z) (λ q. rw q left-stored) (gone h none);
+        holds = λ j l. release-holds j (rw (release-buffers m i) at l);
+        put = k .put;
+      }

@@ -1,0 +1,157 @@
+-- Flush agrees with the shelf.
+use Prim.Native.Nat.{ℕ, max}
+use mathlib.Core.Path.{_≡_, refl, sym, ap, _∙_, subst}
+use mathlib.Core.Bool.{Bool, true, false, _&&_, and-true, and-false, or-false}
+use mathlib.Core.Logic.{⊎-elim}
+use mathlib.Core.List.{List, []}
+use native.Mathlib.Omega.{arith}
+use lib.ListN.{length-set}
+use Rattle.laws.specs.Sum.{ind}
+use Rattle.laws.specs.First.{found}
+use Rattle.laws.proofs.First.{found-same}
+use Rattle.laws.proofs.Tests.{true-or-false, eq-or-ne, never}
+use Rattle.buftag.specs.declared.name.PageName.{PageName}
+use Rattle.bufmodel.specs.Word.{dirty}
+use Rattle.bufmodel.specs.Position.{position}
+use Rattle.bufmodel.specs.Rows.{storeBlocks}
+use Rattle.bufmodel.specs.Memory.{Memory, wordOf}
+use Rattle.bufmodel.specs.Moves.{writeBack}
+use Rattle.bufmodel.specs.Outcome.{one, done}
+use Rattle.bufmodel.specs.Calls.{bufferPlaces, flush}
+use Rattle.bufmodel.specs.Step.{Pin, Flush, Checkpoint, step}
+use Rattle.shelf.specs.Shelf.{places, refuses, shelfAfter}
+use Rattle.shelf.specs.Ledger.{
+  isPlace,
+  backBy,
+  newBy,
+  putBy,
+  dirtiedBy,
+  dirtyAfter,
+  lastAfter,
+  saidFlushed,
+  flushedAfter,
+  acceptedBy,
+  highest,
+}
+use Rattle.shelf.proofs.Kept.{View, shelfOf, ledgerOf, Has, Kept, Ended}
+use Rattle.shelf.proofs.KeptLaws.{isPlace-true, isPlace-self, isPlace-other, kept-alike}
+use Rattle.shelf.proofs.Refused.{neither-none, no-pin, call-step}
+use Rattle.shelf.proofs.Accepted.{Accepted, accepted-ended}
+use Rattle.shelf.proofs.HighestLaws.{highest-none}
+use Rattle.shelf.proofs.HighestBound.{highest-one}
+use Rattle.shelf.proofs.BackKept.{backOf, back-dirty, back-clean, place-below, back-long, back-other, viewBack, kept-backOf}
+use Rattle.shelf.proofs.BufferPlaces.{number-same, number-neither, number-page}
+
+flush-pin : {i : ℕ} (n : PageName) → Flush i ≡ Pin n → ⊥
+flush-pin n e = let z : _≡_ {A = ℕ} 0 1 = cc in omega arith
+
+flush-checkpoint : {i : ℕ} → Flush i ≡ Checkpoint → ⊥
+flush-checkpoint e = let z : _≡_ {A = ℕ} 0 1 = cc in omega arith
+
+module _ (m : Memory) (v : View) (k : Kept m v) (i g : ℕ) (x : Has m i g) (held : v .holds i ≡ found g) where
+  abbrev back : ℕ → Bool
+  back h = isPlace (v .holds i) h && v .dirty h
+
+  -- written back is the page of the buffer named, if it is dirty
+  back-is : (h : ℕ) → back h ≡ (isPlace (found g) h && dirty (wordOf m i))
+  back-is h =
+      rw held
+      (⊎-elim
+      (λ e. rw e (ap (λ (t : Bool). isPlace (found g) g && t) (k .same i g x .marked)))
+      (λ ne. rw (isPlace-other g h ne))
+      (eq-or-ne h g))
+
+  module _ (number : refuses (shelfOf m v) (Flush i) ≡ 0) (count : ℕ) where
+    -- ---- a page that is not dirty
+    module _ (d : dirty (wordOf m i) ≡ false) where
+      back-none : (h : ℕ) → back h ≡ false
+      back-none h = back-is h ∙ rw d (and-false (isPlace (found g) h))
+
+      clean-accepted : Accepted m v (Flush i) (one count) [] m
+      unfolding acceptedBy shelfAfter dirtyAfter dirtiedBy backBy newBy putBy lastAfter flushedAfter saidFlushed
+      clean-accepted =
+          record {
+            number = number;
+            answers = (count, refl);
+            shows = refl;
+            pin = no-pin m v (Flush i) _ flush-pin;
+            many = refl;
+            wide = refl;
+            rows = refl;
+            inserted = refl;
+            flushed = highest-none (ledgerOf m v) back (m .control .flushed) (storeBlocks (m .rows)) (λ h b. back-none h);
+            kept =
+                kept-alike m v _
+                (record {
+                  bytes = λ h. refl;
+                  counts = λ h. refl;
+                  holds = λ b. refl;
+                  marks = λ h. rw (back-none h);
+                  last = λ b. refl;
+                  put = λ h. rw (back-none h);
+                }) k;
+            others = λ h b z. refl;
+            long = refl;
+            settled = λ q. absurd (flush-checkpoint q);
+          }
+
+    -- ---- a dirty page
+    module _ (d : dirty (wordOf m i) ≡ true) where
+      back-one : (h : ℕ) → back h ≡ isPlace (found g) h
+      back-one h = back-is h ∙ rw d (and-true (isPlace (found g) h))
+
+      flushed-one : highest (ledgerOf m v) (storeBlocks (m .rows)) back (m .control .flushed) ≡ backOf m i g .control .flushed
+      flushed-one =
+          highest-one (ledgerOf m v) back (m .control .flushed) (storeBlocks (m .rows)) g (place-below m v k i g x d)
+          (back-one g ∙ isPlace-self g) (λ h b e. sym (found-same (isPlace-true (found g) h (sym (back-one h) ∙ e))))
+          ∙ ap (λ (page : List ℕ). max (m .control .flushed) (position page)) (k .same i g x .bytes)
+
+      dirty-accepted : Accepted m v (Flush i) (one count) [] (backOf m i g)
+      unfolding acceptedBy shelfAfter dirtyAfter dirtiedBy backBy newBy putBy lastAfter flushedAfter saidFlushed
+      dirty-accepted =
+          record {
+            number = number;
+            answers = (count, refl);
+            shows = refl;
+            pin = no-pin m v (Flush i) _ flush-pin;
+            many = simp length-set;
+            wide = refl;
+            rows = refl;
+            inserted = refl;
+            flushed = flushed-one;
+            kept =
+                kept-alike (backOf m i g) (viewBack v g) _
+                (record {
+                  bytes = λ h. refl;
+                  counts = λ h. refl;
+                  holds = λ b. refl;
+                  marks = λ h. rw (back-one h);
+                  last = λ b. refl;
+                  put = λ h. rw (back-one h, or-false);
+                }) (kept-backOf m v k i g x d);
+            others = λ h b z. back-other m v k i g x d h
+                (λ e. never (ap (isPlace (found g)) e ∙ isPlace-self g) (sym (back-one h) ∙ sym (or-false (back h)) ∙ z));
+            long = back-long m v k i g x d;
+            settled = λ q. absurd (flush-checkpoint q);
+          }
+
+    flush-ended : Ended m v (Flush i) (done (one count) [] (writeBack m i))
+    flush-ended =
+        ⊎-elim
+        (λ d.
+        subst (λ (o : Memory). Ended m v (Flush i) (done (one count) [] o)) (sym (back-dirty m i g (x .place) d))
+        (accepted-ended m v (Flush i) (one count) [] _ (dirty-accepted d)))
+        (λ d.
+        subst (λ (o : Memory). Ended m v (Flush i) (done (one count) [] o)) (sym (back-clean m i d))
+        (accepted-ended m v (Flush i) (one count) [] _ (clean-accepted d)))
+        (true-or-false (dirty (wordOf m i)))
+
+pub flush-step : (m : Memory) (v : View) → Kept m v → (i : ℕ) → Ended m v (Flush i) (step m (Flush i))
+unfolding step flush refuses places
+flush-step m v k i =
+    let number = number-same m v k i [] [] (λ h e. refl) in
+    call-step m v (Flush i) k (bufferPlaces m i []) (done (one (ind (dirty (wordOf m i)))) [] (writeBack m i)) refl
+    number (number-neither m i [] neither-none) (λ n h e. no-pin m v (Flush i) _ flush-pin)
+    (λ e.
+    let p = number-page m v k i [] e in
+    flush-ended m v k i (p .page) (p .has) (p .holds) (sym number ∙ e) (ind (dirty (wordOf m i))))

@@ -1,0 +1,99 @@
+-- Pin agrees with the shelf: held, from the free list, or the victim of a sweep.
+use Prim.Native.Nat.{ℕ, _≤_, _<_}
+use mathlib.Core.Path.{_≡_, refl, sym, ap, _∙_, subst}
+use mathlib.Core.Bool.{true, false}
+use mathlib.Core.Logic.{⊎-elim}
+use mathlib.Core.List.{List, [], _∷_}
+use native.Mathlib.Omega.{arith}
+use Rattle.laws.specs.Sum.{ind}
+use Rattle.laws.specs.First.{Found, found}
+use Rattle.buftag.specs.declared.link.Link.{Link}
+use Rattle.buftag.specs.declared.link.Link.the-variants.{To, End}
+use Rattle.buftag.specs.declared.lookup.Held.{Held}
+use Rattle.buftag.specs.declared.lookup.Held.the-variants.{At, Nowhere}
+use Rattle.buftag.specs.declared.name.PageName.{PageName}
+use Rattle.buftag.specs.Link.{linkOf}
+use Rattle.buftag.specs.declared.number.BufferNumber.{BufferNumber}
+use Rattle.bufmodel.specs.Word.{usage, dirty, maxUsage}
+use Rattle.bufmodel.specs.Rows.{placeOf}
+use Rattle.bufmodel.specs.Memory.{Memory, buffers, wordOf}
+use Rattle.bufmodel.specs.Moves.{load}
+use Rattle.bufmodel.specs.Outcome.{refusalOf, done}
+use Rattle.bufmodel.specs.Pin.{heldIn, pinPlaces, pinHeld, pinFree, pinVictim, pinSwept, pinNew, pinTo, pin}
+use Rattle.bufmodel.specs.Step.{Pin, step}
+use Rattle.bufmodel.proofs.SweepEnds.{sweep-finds}
+use Rattle.bufmodel.proofs.LoadLaws.{top-none, top-end}
+use Rattle.shelf.specs.Shelf.{refuses}
+use Rattle.shelf.proofs.Kept.{View, shelfOf, Kept, Ended}
+use Rattle.shelf.proofs.Refused.{call-step}
+use Rattle.shelf.proofs.Accepted.{accepted-ended}
+use Rattle.shelf.proofs.PinPlaces.{pin-number, pin-neither, pin-place, pin-open}
+use Rattle.shelf.proofs.PinSix.{pin-says, pin-refused}
+use Rattle.shelf.proofs.StepHit.{hit-accepted}
+use Rattle.shelf.proofs.StepFree.{sought-free, free-accepted, load-hand}
+use Rattle.shelf.proofs.StepVictim.{sweepOf, victim-accepted, victim-sought}
+
+module _ (m : Memory) (v : View) (k : Kept m v) (n : PageName) (z : refusalOf (pinPlaces m n) ≡ 0) where
+  -- held
+  held-ended : (b : BufferNumber) → heldIn m n ≡ At b → Ended m v (Pin n) (pinTo m n (At b))
+  unfolding pinTo pinHeld
+  held-ended b e = accepted-ended m v (Pin n) _ [] _ (hit-accepted m v k n b e z)
+
+  -- not held: where the page is, and what an accepted number says
+  place : (g : ℕ) × (placeOf (m .rows) n ≡ found g)
+  place = pin-place m n z
+
+  number : refuses (shelfOf m v) (Pin n) ≡ 0
+  number = sym (pin-number m v k n) ∙ z
+
+  module _ (new : heldIn m n ≡ Nowhere) where
+    -- from the free list
+    free-ended : (i : ℕ) → linkOf (m .control .top) ≡ To i → Ended m v (Pin n) (pinFree m n i)
+    unfolding pinFree
+    free-ended i top =
+        let says = pin-says m v k n _ z (sought-free m n i (load m n) new top (load-hand m n i (place .0) top (place .1))) in
+        accepted-ended m v (Pin n) _ [] _ (free-accepted m v k n i (place .0) new top (place .1) number says)
+
+    -- the victim of a sweep
+    module _ (top : linkOf (m .control .top) ≡ End) where
+      taken-ended : (w : ℕ) → sweepOf m .victim ≡ found w → Ended m v (Pin n) (pinVictim m n (sweepOf m) (found w))
+      unfolding pinVictim
+      taken-ended w e =
+          let says = pin-says m v k n _ z (victim-sought m v k n w (place .0) new top (place .1) e) in
+          accepted-ended m v (Pin n) _ [] _ (victim-accepted m v k n w (place .0) new top (place .1) e number says)
+
+      -- some buffer is unpinned, so there is one
+      victim : (w : ℕ) × (sweepOf m .victim ≡ found w)
+      victim =
+          let u = pin-open m n z new in
+          let few : (i : ℕ) → i < buffers m → usage (wordOf m i) ≤ maxUsage = λ i l. k .words i l (top-end m (k .good) top i l) .few in
+          let f = sweep-finds (m .states) (m .control .hand) (k .good .sizes .least) (k .good .books .hand) (u .0) (u .1) (u .2) few in
+          (f .0, f .1)
+
+      victim-ended : Ended m v (Pin n) (pinSwept m n (sweepOf m))
+      unfolding pinSwept
+      victim-ended =
+          subst (λ (f : Found). Ended m v (Pin n) (pinVictim m n (sweepOf m) f)) (sym (victim .1)) (taken-ended (victim .0) (victim .1))
+
+    -- the one or the other
+    new-ended : Ended m v (Pin n) (pinNew m n (linkOf (m .control .top)))
+    unfolding pinNew
+    new-ended =
+        ⊎-elim
+        (λ top. subst (λ (l : Link). Ended m v (Pin n) (pinNew m n l)) (sym top) (victim-ended top))
+        (λ t. subst (λ (l : Link). Ended m v (Pin n) (pinNew m n l)) (sym (t .1)) (free-ended (t .0) (t .1)))
+        (top-none m (k .good))
+
+  pub pin-ended : Ended m v (Pin n) (pinTo m n (heldIn m n))
+  unfolding pinTo
+  pin-ended = go (heldIn m n) refl
+    where
+      go : (h : Held) → heldIn m n ≡ h → Ended m v (Pin n) (pinTo m n h)
+      go (At b) e = held-ended b e
+      go Nowhere e = new-ended e
+
+pub pin-step : (m : Memory) (v : View) → Kept m v → (n : PageName) → Ended m v (Pin n) (step m (Pin n))
+unfolding step pin
+pin-step m v k n =
+    call-step m v (Pin n) k (pinPlaces m n) (pinTo m n (heldIn m n)) refl (pin-number m v k n) (pin-neither m n)
+    (λ i h e. pin-refused m v k n i h e) (pin-ended m v k n)

@@ -1,0 +1,54 @@
+-- Read agrees with the shelf.
+use Prim.Native.Nat.{ℕ, _+_}
+use mathlib.Core.Path.{_≡_, refl, sym, ap, _∙_}
+use mathlib.Core.List.{List, [], _∷_}
+use native.Mathlib.Omega.{arith}
+use lib.Dec.{ltb}
+use lib.ListN.{length, take, drop}
+use Rattle.buftag.specs.declared.name.PageName.{PageName}
+use Rattle.bufmodel.specs.Memory.{Memory, size, pageOf}
+use Rattle.bufmodel.specs.Outcome.{Place, place, refusalOf, zeros}
+use Rattle.bufmodel.specs.Calls.{bufferPlaces, read}
+use Rattle.bufmodel.specs.Step.{Pin, Read, Checkpoint, step}
+use Rattle.shelf.specs.Shelf.{places, refuses, shelfAfter}
+use Rattle.shelf.specs.Ledger.{backBy, newBy, putBy, dirtiedBy, dirtyAfter, lastAfter, saidFlushed, flushedAfter, acceptedBy}
+use Rattle.shelf.proofs.Kept.{View, shelfOf, ledgerOf, Kept, Ended}
+use Rattle.shelf.proofs.Refused.{neither-none, neither-place, no-pin, call-step}
+use Rattle.shelf.proofs.Accepted.{Accepted, accepted-ended, ledgerThen}
+use Rattle.shelf.proofs.Unchanged.{ledger-stays, unchanged}
+use Rattle.shelf.proofs.BufferPlaces.{number-neither, number-page, number-same}
+
+read-pin : {i from : ℕ} {out : List ℕ} (n : PageName) → Read i from out ≡ Pin n → ⊥
+read-pin n e = let z : _≡_ {A = ℕ} 0 1 = cc in omega arith
+
+read-checkpoint : {i from : ℕ} {out : List ℕ} → Read i from out ≡ Checkpoint → ⊥
+read-checkpoint e = let z : _≡_ {A = ℕ} 0 1 = cc in omega arith
+
+module _ (m : Memory) (v : View) (k : Kept m v) (i from : ℕ) (out : List ℕ) where
+  -- the ledger stays
+  read-ledger : (answer : List ℕ) → ledgerThen m v (Read i from out) answer ≡ ledgerOf m v
+  unfolding acceptedBy shelfAfter dirtyAfter dirtiedBy backBy newBy putBy lastAfter flushedAfter saidFlushed
+  read-ledger answer = ledger-stays m v
+
+  abbrev ps : List Place
+  ps = place 9 (ltb (size m) (from + length out)) ∷ []
+
+  read-number : refusalOf (bufferPlaces m i ps) ≡ refuses (shelfOf m v) (Read i from out)
+  unfolding refuses places
+  read-number = number-same m v k i ps ps (λ h e. refl)
+
+  -- the bytes are those of the page that the number holds
+  read-accepted : refusalOf (bufferPlaces m i ps) ≡ 0
+      → Accepted m v (Read i from out) zeros (take (length out) (drop from (pageOf m i))) m
+  read-accepted e =
+      let p = number-page m v k i ps e in
+      unchanged m v k (Read i from out) zeros _ (read-ledger zeros) read-checkpoint (sym read-number ∙ e)
+      refl (p .page, p .holds, ap (λ (x : List ℕ). take (length out) (drop from x)) (sym (p .same .bytes)))
+      (no-pin m v (Read i from out) _ read-pin)
+
+  pub read-step : Ended m v (Read i from out) (step m (Read i from out))
+  unfolding step read
+  read-step =
+      call-step m v (Read i from out) k (bufferPlaces m i ps) _ refl read-number
+      (number-neither m i ps (neither-place 9 _ [] (omega arith) neither-none)) (λ n h e. no-pin m v (Read i from out) _ read-pin)
+      (λ e. accepted-ended m v (Read i from out) zeros _ m (read-accepted e))

@@ -1,0 +1,198 @@
+-- A pin that takes the victim of a sweep agrees with the shelf: a dirty one is written back, it is released, the page is loaded there.
+use Prim.Native.Nat.{ℕ, _+_, _*_, _≤_, _<_}
+use mathlib.Core.Path.{_≡_, refl, sym, _∙_, subst}
+use mathlib.Core.Bool.{Bool, true, false}
+use mathlib.Core.List.{List, [], _∷_}
+use native.Mathlib.Omega.{arith}
+use lib.ListN.{set}
+use lib.Seq.{set-set}
+use lib.Dec.{eqb}
+use Rattle.laws.specs.Sum.{ind}
+use Rattle.laws.specs.First.{found}
+use Rattle.buftag.specs.declared.link.Link.the-variants.{End}
+use Rattle.buftag.specs.declared.lookup.Held.the-variants.{Nowhere}
+use Rattle.buftag.specs.declared.name.PageName.{PageName}
+use Rattle.buftag.specs.Link.{linkOf}
+use Rattle.bufmodel.specs.Word.{usage, pinned, dirty, maxUsage, loaded}
+use Rattle.bufmodel.specs.Rows.{storeBlocks, placeOf}
+use Rattle.bufmodel.specs.Memory.{Memory, buffers, wordOf, nameOf, withStates, withHand}
+use Rattle.bufmodel.specs.Sweep.{Swept, Sweeps, sweepAll}
+use Rattle.bufmodel.specs.Moves.{writeBack, release, loadAt, load}
+use Rattle.bufmodel.specs.Outcome.{done}
+use Rattle.bufmodel.specs.Pin.{heldIn}
+use Rattle.bufmodel.specs.Step.{Pin}
+use Rattle.bufmodel.proofs.RowsLaws.{place-in}
+use Rattle.bufmodel.proofs.SweepLaws.{SweptFrom}
+use Rattle.bufmodel.proofs.SweepEnds.{sweepAll-relates}
+use Rattle.bufmodel.proofs.LessUsedLaws.{less-pinned, less-dirty}
+use Rattle.bufmodel.proofs.ReleaseLaws.{release-buffers, release-top}
+use Rattle.bufmodel.proofs.LoadLaws.{top-end, load-is, load-buffers}
+use Rattle.shelf.specs.Shelf.{refuses}
+use Rattle.shelf.specs.Ledger.{bufferIn, wroteIn}
+use Rattle.shelf.specs.Statement.{Sought, taken}
+use Rattle.shelf.proofs.Kept.{View, shelfOf, ledgerOf, Has, Nobody, Kept}
+use Rattle.shelf.proofs.KeptLaws.{has-page}
+use Rattle.shelf.proofs.Refused.{PinSays}
+use Rattle.shelf.proofs.Accepted.{Accepted}
+use Rattle.shelf.proofs.SweptKept.{sweptIn, swept-from, swept-has, has-swept, kept-swept}
+use Rattle.shelf.proofs.ReleaseKept.{has-release, kept-release}
+use Rattle.shelf.proofs.NamePage.{held-nobody, nobody-held}
+use Rattle.shelf.proofs.LoadKept.{viewLoad, kept-load}
+use Rattle.shelf.proofs.PinNew.{viewWrote, New, new-rule, new-accepted}
+use Rattle.shelf.proofs.HighestOne.{highest-last}
+use Rattle.shelf.proofs.VictimBack.{back-buffers, Backed, victim-backed}
+
+-- whether it wrote, read off the answer
+wrote-ind : (d : Bool) → eqb (ind d) 1 ≡ d
+wrote-ind true = refl
+wrote-ind false = refl
+
+-- ---- the sweep of a pool with no empty buffer
+abbrev pub sweepOf : Memory → Swept
+sweepOf m = sweepAll (m .states) (m .control .hand)
+
+module _ (m : Memory) (v : View) (k : Kept m v) (top : linkOf (m .control .top) ≡ End) where
+  few : (i : ℕ) → i < buffers m → usage (wordOf m i) ≤ maxUsage
+  few i l = k .words i l (top-end m (k .good) top i l) .few
+
+  -- it is as published, and ends in time
+  pub victim-sweeps : Sweeps (buffers m) 0 (m .control .hand) (m .states) (sweepOf m)
+      × (sweepOf m .probes ≤ (maxUsage + 1) * buffers m)
+  victim-sweeps = sweepAll-relates (m .states) (m .control .hand) (k .good .books .hand) few
+
+  -- its probes are answered
+  pub sought-victim : (n : PageName) (w x : ℕ) (m′ : Memory) → heldIn m n ≡ Nowhere → sweepOf m .victim ≡ found w
+      → m′ .control .hand ≡ sweepOf m .hand → m′ .states ≡ set (sweepOf m .words) w loaded
+      → Sought m n (done (w ∷ 0 ∷ x ∷ sweepOf m .probes ∷ []) [] m′)
+  unfolding bufferIn
+  sought-victim n w x m′ new victim hand words =
+      record {
+        probes = sweepOf m .probes;
+        looked = taken new top refl (victim-sweeps .0) victim hand words;
+        bound = victim-sweeps .1;
+        atSix = λ e. absurd (omega arith);
+        answered = λ e. refl;
+      }
+
+-- ---- a buffer with a clean unpinned page is released, and another page that no buffer has is loaded there
+module _ (m : Memory) (v : View) (k : Kept m v) (w h : ℕ) (own : Has m w h) (free : pinned (wordOf m w) ≡ false)
+    (clean : dirty (wordOf m w) ≡ false) (n : PageName) (g : ℕ) (place : placeOf (m .rows) n ≡ found g) (none : Nobody m g) where
+  released : Kept (release m w) v
+  released = kept-release m v k w h own free clean
+
+  released-place : placeOf (release m w .rows) n ≡ found g
+  unfolding release
+  released-place = place
+
+  changed-is : load (release m w) n ≡ loadAt (release m w) n w g
+  changed-is = load-is (release m w) n w g (release-top m w) released-place
+
+  kept-changed : Kept (loadAt (release m w) n w g) (viewLoad v w g)
+  kept-changed =
+      kept-load (release m w) v released n w g (release-top m w) released-place
+      (nobody-held (release m w) (released .good) n g released-place (λ i x. none i (has-release m w (own .below) i g x .1)))
+
+-- ---- the victim
+module _ (m : Memory) (v : View) (k : Kept m v) (n : PageName) (w g : ℕ) (new : heldIn m n ≡ Nowhere)
+    (top : linkOf (m .control .top) ≡ End) (place : placeOf (m .rows) n ≡ found g) where
+  abbrev s : Swept
+  s = sweepOf m
+
+  abbrev answer : List ℕ
+  answer = w ∷ 0 ∷ ind (dirty (wordOf m w)) ∷ s .probes ∷ []
+
+  -- the memory after the sweep, and after its victim was written back
+  abbrev swept : Memory
+  swept = sweptIn m s
+
+  abbrev backed : Memory
+  backed = writeBack swept w
+
+  sweeps : Sweeps (buffers m) 0 (m .control .hand) (m .states) s
+  sweeps = victim-sweeps m v k top .0
+
+  from : SweptFrom (m .states) s
+  from = swept-from m v k s sweeps
+
+  module _ (victim : s .victim ≡ found w) where
+    below : w < buffers m
+    below = from .taken w victim .0
+
+    -- its page
+    page : (h : ℕ) × Has m w h
+    page = has-page m (k .good) w below (top-end m (k .good) top w below)
+
+    back : Backed swept backed v w (page .0) (wroteIn answer)
+    unfolding wroteIn
+    back =
+        victim-backed swept v (kept-swept m v k s sweeps) w (page .0) (swept-has m v k s sweeps w (page .0) (page .1))
+        (from .taken w victim .1) (wroteIn answer)
+        (less-dirty (from .each w) ∙ sym (wrote-ind (dirty (wordOf m w))))
+
+    none : Nobody backed g
+    none =
+        back .nobody g
+        (λ i x. held-nobody m (k .good) n g place new i (has-swept m v k s sweeps i g x))
+
+    backed-place : placeOf (backed .rows) n ≡ found g
+    unfolding writeBack
+    backed-place = place
+
+    abbrev after : Memory
+    after = loadAt (release backed w) n w g
+
+    after-is : load (release backed w) n ≡ after
+    after-is = changed-is backed _ (back .kept) w (page .0) (back .has) (back .free) (back .clean) n g backed-place none
+
+    after-kept : Kept after (viewLoad (viewWrote v (wroteIn answer) w) w g)
+    after-kept = kept-changed backed _ (back .kept) w (page .0) (back .has) (back .free) (back .clean) n g backed-place none
+
+    -- the hand and the words are those that the sweep left, but for the page just loaded
+    after-hand : after .control .hand ≡ s .hand
+    unfolding loadAt release writeBack
+    after-hand = refl
+
+    after-words : after .states ≡ set (s .words) w loaded
+    unfolding loadAt release writeBack
+    after-words = set-set (set (s .words) w _) w 0 loaded ∙ set-set (s .words) w _ loaded
+
+    after-many : buffers m ≡ buffers after
+    after-many =
+        sym (load-buffers (release backed w) n w g ∙ release-buffers backed w ∙ back-buffers swept w ∙ from .same-length)
+
+    victim-new : refuses (shelfOf m v) (Pin n) ≡ 0 → PinSays m v (Pin n) (done answer [] after) → New m v n g answer after
+    unfolding loadAt release writeBack bufferIn
+    victim-new number pin =
+        record {
+          number = number;
+          words = (w, 0, ind (dirty (wordOf m w)), s .probes, refl);
+          rule = new-rule m v k g (held-nobody m (k .good) n g place new) w below
+              (sym (less-pinned (from .each w)) ∙ from .taken w victim .1) _ _;
+          pin = pin;
+          many = after-many;
+          wide = refl;
+          rows = refl;
+          inserted = refl;
+          flushed = highest-last (ledgerOf m v) v (wroteIn answer) w (page .0) (m .control .flushed) (storeBlocks (m .rows))
+              (k .same w (page .0) (page .1) .last) (place-in (m .rows) (k .good .sizes .rows) (nameOf m w) (page .1 .place))
+              ∙ sym (back .flushed);
+          kept = after-kept;
+          others = λ x l e. back .others x e;
+          long = back .long;
+        }
+
+  pub victim-accepted : s .victim ≡ found w → refuses (shelfOf m v) (Pin n) ≡ 0
+      → let m′ = load (release (writeBack (withHand (s .hand) (withStates (s .words) m)) w) w) n in
+      PinSays m v (Pin n) (done answer [] m′) → Accepted m v (Pin n) answer [] m′
+  victim-accepted victim number pin =
+      let e = after-is victim in
+      subst (λ (o : Memory). Accepted m v (Pin n) answer [] o) (sym e)
+      (new-accepted m v n g answer (after victim) place
+      (victim-new victim number (subst (λ (o : Memory). PinSays m v (Pin n) (done answer [] o)) e pin)))
+
+  pub victim-sought : s .victim ≡ found w
+      → let m′ = load (release (writeBack (withHand (s .hand) (withStates (s .words) m)) w) w) n in
+      Sought m n (done answer [] m′)
+  victim-sought victim =
+      subst (λ (o : Memory). Sought m n (done answer [] o)) (sym (after-is victim))
+      (sought-victim m v k top n w _ (after victim) new victim (after-hand victim) (after-words victim))

@@ -1,0 +1,210 @@
+-- One buffer that has a page gets another word, its page other bytes, and the page's block in the store other bytes: the relation is kept,
+-- where the ledger says so of that page and the same of all others. Unpin, a hit, a write and a write-back are such changes.
+use Prim.Native.Nat.{ℕ, _≤_, _<_}
+use mathlib.Core.Path.{_≡_, refl, sym, ap, _∙_, subst}
+use mathlib.Core.Bool.{true, false, cond}
+use mathlib.Core.Logic.{_≢_, ⊎-elim}
+use mathlib.Core.List.{List}
+use native.Mathlib.Omega.{arith}
+use lib.ListN.{length, getD, set, length-set}
+use lib.Seq.{getD-set-same, getD-set-other}
+use Rattle.laws.specs.First.{Found, found, missing}
+use Rattle.laws.specs.Block.{block}
+use Rattle.laws.proofs.Tests.{eq-or-ne}
+use Rattle.bufmodel.specs.Word.{pins, pinned, dirty, empty, soundWord}
+use Rattle.bufmodel.specs.Position.{position}
+use Rattle.bufmodel.specs.Rows.{storeBlocks, placeOf}
+use Rattle.bufmodel.specs.Memory.{Memory, buffers, size, wordOf, nameOf, pageOf, withStates}
+use Rattle.bufmodel.specs.Books.{emptyAt}
+use Rattle.bufmodel.proofs.GoodLaws.{Good}
+use Rattle.bufmodel.proofs.WordLaws.{Held, held-sound, held-lt}
+use Rattle.bufmodel.proofs.RowsLaws.{place-in}
+use Rattle.bufmodel.proofs.LikeLaws.{like, like-good}
+use Rattle.shelf.specs.Shelf.{with}
+use Rattle.shelf.proofs.Kept.{View, Has, Nobody, Same, Kept}
+use Rattle.shelf.proofs.KeptLaws.{has-one, has-place}
+use Rattle.shelf.proofs.WithLaws.{with-same, with-other}
+
+-- ---- views that differ at page g and buffer i at most
+pub record Elsewhere (v v′ : View) (i g : ℕ) : Type 0 where
+  pub bytes : (h : ℕ) → h ≢ g → v′ .bytes h ≡ v .bytes h
+  pub counts : (h : ℕ) → h ≢ g → v′ .counts h ≡ v .counts h
+  pub marks : (h : ℕ) → h ≢ g → v′ .dirty h ≡ v .dirty h
+  pub holds : (j : ℕ) → j ≢ i → v′ .holds j ≡ v .holds j
+  pub last : (j : ℕ) → j ≢ i → v′ .last j ≡ v .last j
+
+-- ---- the change: buffer i has page g; its new word is w
+pub record Turned (m : Memory) (v : View) (i g flushed w : ℕ) (pool store : List ℕ) (v′ : View) : Type 0 where
+  pub held : Held w
+  -- flushed may rise
+  pub log : flushed ≤ m .control .inserted
+  -- other pages in the pool and other blocks of the store stay
+  pub sizePool : length pool ≡ length (m .pool)
+  pub pages : (j : ℕ) → j < buffers m → j ≢ i → block (size m) j pool ≡ pageOf m j
+  pub sizeStore : length store ≡ length (m .store)
+  pub blocks : (h : ℕ) → h < storeBlocks (m .rows) → h ≢ g → block (size m) h store ≡ block (size m) h (m .store)
+  -- the page, dirty or not
+  pub low : dirty w ≡ true → position (block (size m) i pool) ≤ m .control .inserted
+  pub clean : dirty w ≡ false → block (size m) g store ≡ block (size m) i pool
+  -- what the ledger then says of it
+  pub bytes : v′ .bytes g ≡ block (size m) i pool
+  pub counts : v′ .counts g ≡ pins w
+  pub marked : v′ .dirty g ≡ dirty w
+  pub holds : v′ .holds i ≡ cond (pinned w) (found g) missing
+  pub last : v′ .last i ≡ found g
+  pub elsewhere : Elsewhere v v′ i g
+  pub put : (h : ℕ) → v′ .put h ≡ true → (h < storeBlocks (m .rows)) × (position (block (size m) h store) ≤ flushed)
+
+-- ---- the words
+module _ (words : List ℕ) (i w : ℕ) (l : i < length words) where
+  -- what holds of the new word and of the old others holds of each
+  word-each : (P : ℕ → ℕ → Type 0) → P i w → ((j : ℕ) → j ≢ i → P j (getD words j 0)) → (j : ℕ) → P j (getD (set words i w) j 0)
+  word-each P own other j =
+      ⊎-elim
+      (λ e. subst (λ (x : ℕ). P x (getD (set words i w) x 0)) (sym e) (subst (P i) (sym (getD-set-same words i w 0 l)) own))
+      (λ ne. subst (P j) (sym (getD-set-other words i j w 0 ne)) (other j ne))
+      (eq-or-ne j i)
+
+module _ (m : Memory) (v : View) (k : Kept m v) (i g : ℕ) (x : Has m i g) (flushed w : ℕ) (pool store : List ℕ) (v′ : View)
+    (t : Turned m v i g flushed w pool store v′) where
+  abbrev m′ : Memory
+  m′ = like m (m .control .hand) (m .control .inserted) flushed (set (m .states) i w) pool store
+
+  many : buffers m′ ≡ buffers m
+  many = length-set (m .states) i w
+
+  each : (P : ℕ → ℕ → Type 0) → P i w → ((j : ℕ) → j ≢ i → P j (wordOf m j)) → (j : ℕ) → P j (wordOf m′ j)
+  each = word-each (m .states) i w (x .below)
+
+  -- the same buffers are in use
+  empty-now : (j : ℕ) → emptyAt m′ j ≡ emptyAt m j
+  unfolding emptyAt
+  empty-now = each (λ j y. empty y ≡ emptyAt m j) (t .held .full ∙ sym (x .full)) (λ j ne. refl)
+
+  -- and have the same pages
+  has-then : (j h : ℕ) → Has m′ j h → Has m j h
+  has-then j h y = record { below = rw many at (y .below); full = sym (empty-now j) ∙ y .full; place = y .place }
+
+  has-now : (j h : ℕ) → Has m j h → Has m′ j h
+  has-now j h y = record { below = rw many (y .below); full = empty-now j ∙ y .full; place = y .place }
+
+  nobody-then : (h : ℕ) → Nobody m′ h → Nobody m h
+  nobody-then h n j y = n j (has-now j h y)
+
+  -- a page that no buffer has is another one
+  nobody-other : (h : ℕ) → Nobody m′ h → h ≢ g
+  nobody-other h n e = n i (has-now i h (subst (Has m i) (sym e) x))
+
+  -- ---- the books
+  word-sound : (j : ℕ) → j < buffers m → soundWord (wordOf m′ j) ≡ true
+  word-sound j b =
+      each (λ j y. j < buffers m → soundWord y ≡ true) (λ b. held-sound (held-lt (t .held)) (t .held) .0)
+      (λ j ne b. k .good .books .words j b) j b
+
+  page-low : (j : ℕ) → j < buffers m → dirty (wordOf m′ j) ≡ true → position (block (size m) j pool) ≤ m .control .inserted
+  page-low j b =
+      each (λ j y. j < buffers m → dirty y ≡ true → position (block (size m) j pool) ≤ m .control .inserted) (λ b. t .low)
+      (λ j ne b d. omega (arith, k .good .books .low j b d, ap position (t .pages j b ne))) j b
+
+  good-now : Good m′
+  unfolding emptyAt
+  good-now =
+      like-good m (k .good) (m .control .hand) (m .control .inserted) flushed (set (m .states) i w) pool store (k .good .books .hand)
+      (t .log) many (t .sizePool) (t .sizeStore) (λ j b. empty-now j) word-sound page-low
+
+  -- ---- the pages
+  same-own : Same m′ v′ i g
+  same-own =
+      let own : wordOf m′ i ≡ w = getD-set-same (m .states) i w 0 (x .below) in
+      record {
+        bytes = t .bytes;
+        counts = t .counts ∙ ap pins (sym own);
+        marked = t .marked ∙ ap dirty (sym own);
+        last = t .last;
+        clean = λ d. t .clean (ap dirty (sym own) ∙ d);
+      }
+
+  same-other : (j h : ℕ) → j ≢ i → Has m j h → Same m′ v′ j h
+  same-other j h ne y =
+      let s = k .same j h y in
+      let e : wordOf m′ j ≡ wordOf m j = getD-set-other (m .states) i j w 0 ne in
+      let far : h ≢ g = λ q. ne (has-one m (k .good) j i g (subst (Has m j) q y) x) in
+      let here = t .pages j (y .below) ne in
+      let inside = place-in (m .rows) (k .good .sizes .rows) (nameOf m j) (y .place) in
+      record {
+        bytes = t .elsewhere .bytes h far ∙ s .bytes ∙ sym here;
+        counts = t .elsewhere .counts h far ∙ s .counts ∙ ap pins (sym e);
+        marked = t .elsewhere .marks h far ∙ s .marked ∙ ap dirty (sym e);
+        last = t .elsewhere .last j ne ∙ s .last;
+        clean = λ d. t .blocks h inside far ∙ s .clean (ap dirty (sym e) ∙ d) ∙ sym here;
+      }
+
+  same-now : (j h : ℕ) → Has m j h → Same m′ v′ j h
+  same-now j h y =
+      ⊎-elim
+      (λ e.
+      let q : g ≡ h = has-place m (k .good) i g h x (subst (λ (b : ℕ). Has m b h) e y) in
+      subst (λ (b : ℕ). Same m′ v′ b h) (sym e) (subst (Same m′ v′ i) q same-own))
+      (λ ne. same-other j h ne y)
+      (eq-or-ne j i)
+
+  -- ---- what the numbers hold
+  holds-now : (j : ℕ) → j < buffers m → v′ .holds j ≡ cond (pinned (wordOf m′ j)) (placeOf (m .rows) (nameOf m j)) missing
+  holds-now j b =
+      each (λ j y. j < buffers m → v′ .holds j ≡ cond (pinned y) (placeOf (m .rows) (nameOf m j)) missing)
+      (λ b. t .holds ∙ ap (λ (f : Found). cond (pinned w) f missing) (sym (x .place)))
+      (λ j ne b. t .elsewhere .holds j ne ∙ k .holds j b) j b
+
+  -- the relation is kept
+  pub turn-kept : Kept (like m (m .control .hand) (m .control .inserted) flushed (set (m .states) i w) pool store) v′
+  unfolding emptyAt
+  turn-kept =
+      record {
+        good = good-now;
+        words = λ j b.
+            each (λ j y. j < buffers m → empty y ≡ false → Held y) (λ b f. t .held) (λ j ne b f. k .words j b f) j (rw many at b);
+        same = λ j h y. same-now j h (has-then j h y);
+        unpinned = λ h n. t .elsewhere .counts h (nobody-other h n) ∙ k .unpinned h (nobody-then h n);
+        unmarked = λ h n. t .elsewhere .marks h (nobody-other h n) ∙ k .unmarked h (nobody-then h n);
+        stored = λ p h e n.
+            let far = nobody-other h n in
+            t .elsewhere .bytes h far ∙ k .stored p h e (nobody-then h n)
+            ∙ sym (t .blocks h (place-in (m .rows) (k .good .sizes .rows) p e) far);
+        holds = λ j b. holds-now j (rw many at b);
+        put = t .put;
+      }
+
+-- ---- another pin count alone: unpin and a hit. The new word w has count c, and the number then holds f
+module _ (m : Memory) (v : View) (k : Kept m v) (i g : ℕ) (x : Has m i g) where
+  pub pins-kept : (w c : ℕ) (f : Found) (last : ℕ → Found) → Held w → dirty w ≡ dirty (wordOf m i) → c ≡ pins w
+      → f ≡ cond (pinned w) (found g) missing
+      → ((j : ℕ) → last j ≡ v .last j)
+      → Kept (withStates (set (m .states) i w) m)
+      (record { bytes = v .bytes; counts = with g c (v .counts); holds = with i f (v .holds); dirty = v .dirty; last = last; put = v .put })
+  pins-kept w c f last held mark count hold old =
+      let s = k .same i g x in
+      let b = k .good .books in
+      turn-kept m v k i g x (m .control .flushed) w (m .pool) (m .store) _
+      (record {
+        held = held;
+        log = b .log;
+        sizePool = refl;
+        pages = λ j l ne. refl;
+        sizeStore = refl;
+        blocks = λ h l ne. refl;
+        low = λ d. b .low i (x .below) (sym mark ∙ d);
+        clean = λ d. s .clean (sym mark ∙ d);
+        bytes = s .bytes;
+        counts = with-same g c (v .counts) ∙ count;
+        marked = s .marked ∙ sym mark;
+        holds = with-same i f (v .holds) ∙ hold;
+        last = old i ∙ s .last;
+        elsewhere = record {
+          bytes = λ h ne. refl;
+          counts = with-other g c (v .counts);
+          marks = λ h ne. refl;
+          holds = with-other i f (v .holds);
+          last = λ j ne. old j;
+        };
+        put = k .put;
+      })

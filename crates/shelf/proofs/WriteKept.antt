@@ -1,0 +1,59 @@
+-- An accepted write keeps the relation: the pool's page and the shelf's bytes are written alike, and both sides are dirty.
+use Prim.Native.Nat.{ℕ, _+_, _^_, _≤_, _<_}
+use mathlib.Core.Path.{_≡_, sym, _∙_, subst}
+use mathlib.Core.Bool.{_||_}
+use mathlib.Core.List.{List}
+use native.Mathlib.Omega.{arith}
+use lib.ListN.{length}
+use Rattle.laws.specs.First.{Found, found}
+use Rattle.laws.proofs.Block.{length-block}
+use Rattle.bufmodel.specs.Position.{written}
+use Rattle.bufmodel.specs.Memory.{Memory, buffers, size, pageOf}
+use Rattle.bufmodel.specs.Calls.{writeTo}
+use Rattle.bufmodel.proofs.PositionLaws.{length-written, position-written}
+use Rattle.shelf.specs.Shelf.{Shelf, with, withBytes, writtenAt}
+use Rattle.shelf.specs.Ledger.{isPlace}
+use Rattle.shelf.proofs.Kept.{View, shelfOf, Kept}
+use Rattle.shelf.proofs.BufferPlaces.{PinnedPage}
+use Rattle.shelf.proofs.PageKept.{page-kept}
+
+-- what the places 9 and 11 leave: the bytes are within the page, behind its position, and the new position is at most inserted
+pub record WriteFits (m : Memory) (from : ℕ) (bytes : List ℕ) (at : ℕ) : Type 0 where
+  pub inside : from + length bytes ≤ size m
+  pub behind : 8 ≤ from
+  pub low : at ≤ m .control .inserted
+
+-- the view with another shelf, and with the page at f dirty besides
+abbrev pub viewDirtied : View → Shelf → Found → View
+viewDirtied v s f =
+    record {
+      bytes = s .bytes;
+      counts = s .counts;
+      holds = s .holds;
+      dirty = λ h. isPlace f h || v .dirty h;
+      last = v .last;
+      put = v .put;
+    }
+
+module _ (m : Memory) (v : View) (from : ℕ) (bytes : List ℕ) (at : ℕ) where
+  -- the view after a write to the page at f
+  abbrev pub viewWritten : Found → View
+  viewWritten f = viewDirtied v (writtenAt (shelfOf m v) from bytes at f) f
+
+  -- it is kept, where f is what the number of a pinned buffer holds
+  pub write-kept : Kept m v → at < 2 ^ 64 → WriteFits m from bytes at → (i : ℕ) → PinnedPage m v i
+      → Kept (writeTo m i from bytes at) (viewWritten (v .holds i))
+  unfolding writtenAt writeTo
+  write-kept k short fits i p =
+      let page = pageOf m i in
+      let e : length page ≡ size m = length-block (size m) (buffers m) i (m .pool) (k .good .sizes .pool) (p .has .below) in
+      let room : from + length bytes ≤ length page = omega arith in
+      let long : 8 ≤ length page = omega arith in
+      subst (λ (f : Found). Kept (writeTo m i from bytes at) (viewWritten f)) (sym (p .holds))
+      (subst
+      (λ (x : List ℕ).
+      Kept (writeTo m i from bytes at)
+      (viewDirtied v (withBytes (with (p .page) (written at from bytes x) (v .bytes)) (shelfOf m v)) (found (p .page))))
+      (sym (p .same .bytes))
+      (page-kept m v k i (p .page) (p .has) (written at from bytes page) (length-written at from bytes page room long ∙ e)
+      (omega (arith, position-written at from bytes page room long short))))

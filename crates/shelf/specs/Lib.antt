@@ -1,0 +1,3 @@
+pub mod Shelf
+pub mod Ledger
+pub mod Statement

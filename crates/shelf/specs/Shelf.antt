@@ -1,0 +1,182 @@
+-- The plain shelf: document 01's term for what a pool of pages is, without buffers, books or a store to write back to.
+-- A page is known by its place, the index of its block in the store.
+use Prim.Native.Nat.{ℕ, suc, _+_, _-_}
+use mathlib.Core.Bool.{Bool, true, false, not, _&&_, _||_, cond}
+use mathlib.Core.List.{List, [], _∷_}
+use lib.ListN.{length, replicate}
+use lib.Dec.{eqb, leb, ltb}
+use Rattle.laws.specs.Every.{any}
+use Rattle.laws.specs.Sum.{count}
+use Rattle.laws.specs.First.{Found, found, missing}
+use Rattle.laws.specs.Block.{block}
+use Rattle.buftag.specs.declared.name.PageName.{PageName}
+use Rattle.bufmodel.specs.Word.{maxPins}
+use Rattle.bufmodel.specs.Position.{position, written}
+use Rattle.bufmodel.specs.Rows.{blocksAt, setBlocks, rowOf, startOf, storeBlocks, placeOf}
+use Rattle.bufmodel.specs.Memory.{Memory, buffers}
+use Rattle.bufmodel.specs.Books.{isFound}
+use Rattle.bufmodel.specs.Outcome.{Place, place, refusalOf}
+use Rattle.bufmodel.specs.Pin.{noRow, namePlaces}
+use Rattle.bufmodel.specs.Calls.{fileFull}
+use Rattle.bufmodel.specs.Step.{Call, Pin, Unpin, Read, Write, Flush, Checkpoint, Peek, Extend, Drop, LogInserted, LogFlushed}
+
+-- N, P, inserted, rows; for each block its P bytes; for each page a pin count; for some buffer numbers the page held there
+pub record Shelf : Type 0 where
+  pub buffers : ℕ
+  pub size : ℕ
+  pub inserted : ℕ
+  pub rows : List ℕ
+  pub bytes : ℕ → List ℕ
+  pub counts : ℕ → ℕ
+  pub holds : ℕ → Found
+
+-- a function with another value at one place
+abbrev pub with : {A : Type 0} → ℕ → A → (ℕ → A) → ℕ → A
+with k v f j = cond (eqb j k) v (f j)
+
+-- it starts from the rows, store and log position at set-up, no pins
+unfoldable pub firstShelf : Memory → ℕ → ℕ → Shelf
+firstShelf m p at =
+    record {
+      buffers = buffers m;
+      size = p;
+      inserted = at;
+      rows = m .rows;
+      bytes = λ g. block p g (m .store);
+      counts = λ g. 0;
+      holds = λ b. missing;
+    }
+
+module _ (s : Shelf) where
+  -- a page is pinned, or has pins, while its count isn't 0
+  unfoldable pub hasPins : ℕ → Bool
+  hasPins g = not (eqb (s .counts g) 0)
+
+  -- how many pages have pins
+  unfoldable pub pinnedPages : ℕ
+  pinnedPages = count (storeBlocks (s .rows)) hasPins
+
+  -- ---- the checks
+  -- 5 if the count is 262143; 6 if the count is 0 and N pages have pins
+  unfoldable pub countFull : Found → Bool
+  countFull (found g) = eqb (s .counts g) maxPins
+  countFull missing = false
+
+  unfoldable pub noBuffer : Found → Bool
+  noBuffer (found g) = not (hasPins g) && eqb pinnedPages (s .buffers)
+  noBuffer missing = false
+
+  -- 7, ≥ N; a number that holds none gives 8
+  unfoldable pub numberPlaces : ℕ → List Place → List Place
+  numberPlaces b later = place 7 (leb (s .buffers) b) ∷ place 8 (not (isFound (s .holds b))) ∷ later
+
+  -- 12, position below the page's own
+  unfoldable pub tooLow : ℕ → Found → Bool
+  tooLow at (found g) = ltb at (position (s .bytes g))
+  tooLow at missing = false
+
+  -- 14, one of the pages of the file in this row pinned
+  unfoldable pub filePinned : Found → Bool
+  filePinned (found r) = any (blocksAt (s .rows) r) (λ b. hasPins (startOf (s .rows) r + b))
+  filePinned missing = false
+
+  unfoldable pub places : Call → List Place
+  places (Pin n) =
+      let g = placeOf (s .rows) n in
+      namePlaces (s .rows) n (place 5 (countFull g) ∷ place 6 (noBuffer g) ∷ [])
+  places (Unpin b) = numberPlaces b []
+  places (Read b from out) = numberPlaces b (place 9 (ltb (s .size) (from + length out)) ∷ [])
+  places (Write b from bytes at) =
+      numberPlaces b
+      (place 9 (ltb (s .size) (from + length bytes) || ltb from 8)
+      ∷ place 10 (eqb (length bytes) 0)
+      ∷ place 11 (ltb (s .inserted) at)
+      ∷ place 12 (tooLow at (s .holds b))
+      ∷ [])
+  places (Flush b) = numberPlaces b []
+  places Checkpoint = []
+  places (Peek n) = namePlaces (s .rows) n []
+  places (Extend f) = let r = rowOf (s .rows) f in place 3 (noRow r) ∷ place 13 (fileFull (s .rows) r) ∷ []
+  places (Drop f) = let r = rowOf (s .rows) f in place 3 (noRow r) ∷ place 14 (filePinned r) ∷ []
+  places (LogInserted p) = place 15 (ltb p (s .inserted)) ∷ []
+  places (LogFlushed p) = place 16 (ltb (s .inserted) p) ∷ []
+
+  -- the refusal number, 0 if accepted
+  unfoldable pub refuses : Call → ℕ
+  refuses c = refusalOf (places c)
+
+-- ---- what an accepted call does
+-- the shelf with other counts and held pages, with other bytes, with other rows, with another position
+abbrev pub withPins : (ℕ → ℕ) → (ℕ → Found) → Shelf → Shelf
+withPins c h s =
+    record { buffers = s .buffers; size = s .size; inserted = s .inserted; rows = s .rows; bytes = s .bytes; counts = c; holds = h }
+
+abbrev pub withBytes : (ℕ → List ℕ) → Shelf → Shelf
+withBytes x s =
+    record {
+      buffers = s .buffers;
+      size = s .size;
+      inserted = s .inserted;
+      rows = s .rows;
+      bytes = x;
+      counts = s .counts;
+      holds = s .holds;
+    }
+
+abbrev pub withRows : List ℕ → Shelf → Shelf
+withRows x s =
+    record {
+      buffers = s .buffers;
+      size = s .size;
+      inserted = s .inserted;
+      rows = x;
+      bytes = s .bytes;
+      counts = s .counts;
+      holds = s .holds;
+    }
+
+abbrev pub withInserted : ℕ → Shelf → Shelf
+withInserted x s =
+    record { buffers = s .buffers; size = s .size; inserted = x; rows = s .rows; bytes = s .bytes; counts = s .counts; holds = s .holds }
+
+-- a pin that got buffer number b: count + 1, and b holds the page
+unfoldable pub pinnedAt : Shelf → ℕ → Found → Shelf
+pinnedAt s b (found g) = withPins (with g (s .counts g + 1) (s .counts)) (with b (found g) (s .holds)) s
+pinnedAt s b missing = s
+
+-- unpin lowers; at 0 the number holds none
+unfoldable pub unpinnedAt : Shelf → ℕ → Found → Shelf
+unpinnedAt s b (found g) =
+    withPins (with g (s .counts g - 1) (s .counts)) (with b (cond (eqb (s .counts g) 1) missing (found g)) (s .holds)) s
+unpinnedAt s b missing = s
+
+unfoldable pub writtenAt : Shelf → ℕ → List ℕ → ℕ → Found → Shelf
+writtenAt s from bytes at (found g) = withBytes (with g (written at from bytes (s .bytes g)) (s .bytes)) s
+writtenAt s from bytes at missing = s
+
+-- the place of the next block of the file in row r
+unfoldable pub nextBlock : Shelf → ℕ → ℕ
+nextBlock s r = startOf (s .rows) r + blocksAt (s .rows) r
+
+unfoldable pub extendedAt : Shelf → Found → Shelf
+extendedAt s (found r) =
+    withBytes (with (nextBlock s r) (replicate (s .size) 0) (s .bytes)) (withRows (setBlocks (s .rows) r (suc (blocksAt (s .rows) r))) s)
+extendedAt s missing = s
+
+unfoldable pub droppedAt : Shelf → Found → Shelf
+droppedAt s (found r) = withRows (setBlocks (s .rows) r 0) s
+droppedAt s missing = s
+
+-- the shelf after an accepted call; at a pin, b is the buffer number that the program answered
+unfoldable pub shelfAfter : Shelf → Call → ℕ → Shelf
+shelfAfter s (Pin n) b = pinnedAt s b (placeOf (s .rows) n)
+shelfAfter s (Unpin i) b = unpinnedAt s i (s .holds i)
+shelfAfter s (Read i from out) b = s
+shelfAfter s (Write i from bytes at) b = writtenAt s from bytes at (s .holds i)
+shelfAfter s (Flush i) b = s
+shelfAfter s Checkpoint b = s
+shelfAfter s (Peek n) b = s
+shelfAfter s (Extend f) b = extendedAt s (rowOf (s .rows) f)
+shelfAfter s (Drop f) b = droppedAt s (rowOf (s .rows) f)
+shelfAfter s (LogInserted p) b = withInserted p s
+shelfAfter s (LogFlushed p) b = s
