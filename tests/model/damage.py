@@ -1,0 +1,213 @@
+"""Damaged memories: a sound one with one thing broken, and what stands just inside the same rule.
+
+Each has the number that the rules give by hand; the model must give it too, and then the definitions.
+"""
+from pool import CLEAN_FLAGS, DIRTY, DIRTY_FLAGS, FLUSHED, HAND, INSERTED, JUST_DIRTIED, NO_TOP, P, TOP, USAGE_ONE, Pool
+from terms import Page, Start, zeros
+
+BUCKETS = 6
+KEY, MAP = (1663, 5, 16384, 0), (1663, 5, 16384, 1)
+
+
+def base():
+    """N = 5, B = 6: blocks 0, 2 and 1 in buffers 0, unpinned, 1, dirty and pinned, and 2, pinned; 0 and 1 are in one chain.
+
+    Free list 3, 4; inserted 120, flushed 100.
+    """
+    rows = [*KEY, 3, 3, *MAP, 1, 2]
+    blank = Start([0] * 5, [0] * 5, [0] * 25, [zeros(1024)] * 5, [0] * 5, [0] * BUCKETS, [0] * 5, rows, [zeros(1024)] * 5)
+    m = blank.memory()
+    for call in [('set_up', 1024, 100), ('log_inserted', 120), *(('pin', KEY + (block,)) for block in (0, 2, 1)),
+                 ('write', 1, 8, b'x', 110), ('unpin', 0)]:
+        outcome = Pool(m).call(call)
+        assert outcome.number == 0
+        m = outcome.memory
+    m.control[HAND] = 2
+    pool = [Page(position, seed) for position, seed in [(0, 11), (110, 22), (90, 33), (2**63, 44), (0, 55)]]
+    store = [Page(position, seed) for position, seed in [(0, 66), (5, 77), (90, 88), (0, 99), (130, 111)]]
+    return Start(m.control, m.states, m.names, pool, m.free, m.heads, m.chain, m.rows, store)
+
+
+def chained(start):
+    """The chains made anew for the names that are there, so that only the names are wrong."""
+    model = Pool(start.memory())
+    model.m.heads[:], model.m.chain[:] = [-1] * len(model.m.heads), [-1] * model.m.n
+    for i in model.m.used():
+        model.enter_chain(i)
+    start.heads, start.chain = model.m.heads, model.m.chain
+
+
+def bucket(name):
+    return Pool(base().memory()).bucket(name)
+
+
+SHARED, OTHER = bucket(KEY + (0,)), bucket(KEY + (1,))
+assert bucket(KEY + (2,)) == SHARED != OTHER
+IDLE = next(b for b in range(BUCKETS) if b not in (SHARED, OTHER))
+
+
+def setting(part, at, value):
+    """One element of a list of the memory becomes another."""
+    def change(start):
+        getattr(start, part)[at] = value
+    return change
+
+
+def longer(part, value):
+    return lambda start: getattr(start, part).append(value)
+
+
+def shorter(part):
+    return lambda start: getattr(start, part).pop()
+
+
+def naming(i, name):
+    def change(start):
+        start.names[5 * i:5 * i + 5] = name
+        chained(start)
+    return change
+
+
+def paging(i, position):
+    def change(start):
+        start.pool[i] = Page(position, 22)
+    return change
+
+
+def both(*changes):
+    def change(start):
+        for one in changes:
+            one(start)
+    return change
+
+
+def block_size(size, pages):
+    """Another P in the control record, with pages of so many bytes."""
+    def change(start):
+        start.control[P] = size
+        for page in start.pool + start.store:
+            page.size = pages
+    return change
+
+
+def last_page(part, size):
+    def change(start):
+        getattr(start, part)[-1].size = size
+    return change
+
+
+def buckets(count):
+    def change(start):
+        start.heads = [-1] * count
+        chained(start)
+    return change
+
+
+def emptied(start):
+    """No buffers at all."""
+    for part in ('states', 'names', 'pool', 'free', 'chain'):
+        getattr(start, part).clear()
+    start.control[HAND], start.control[TOP] = 0, NO_TOP
+    start.heads[:] = [-1] * len(start.heads)
+
+
+def many_rows(count):
+    def change(start):
+        start.rows += [word for k in range(count - 2) for word in (k, 5, 7, 2, 0, 0)]
+    return change
+
+
+def sizes():
+    """Each rule of sizes and rows broken, number 1; and what stands at its edge, number 0."""
+    yield 'the base', 0, lambda start: None
+    for part, value in [('states', 0), ('names', 0), ('free', -2), ('chain', -1), ('rows', 0), ('control', 0)]:
+        yield f'{part} one longer', 1, longer(part, value)
+        yield f'{part} one shorter', 1, shorter(part)
+    yield 'no control', 1, lambda start: start.control.clear()
+    for part in ('pool', 'store'):
+        yield f'{part} one byte longer', 1, last_page(part, 1025)
+        yield f'{part} one byte shorter', 1, last_page(part, 1023)
+    yield 'fewer buckets than buffers', 1, buckets(4)
+    yield 'as many buckets as buffers', 0, buckets(5)
+    yield '64 buckets', 0, buckets(64)
+    yield '4097 buckets', 1, buckets(4097)
+    for size in (512, 1023, 1025, 1536, 3072):
+        yield f'P {size}', 1, block_size(size, size)
+    yield 'P 0', 1, block_size(0, 1024)
+    yield 'P 2048', 0, block_size(2048, 2048)
+    yield 'P 2048 over pages of 1024', 1, block_size(2048, 1024)
+    yield 'P 2^32 + 1024', 1, block_size(2**32 + 1024, 1024)
+    yield 'no buffers', 1, emptied
+    yield 'no buffers, no buckets', 1, both(emptied, lambda start: start.heads.clear())
+    yield 'fork 3', 1, setting('rows', 9, 3)
+    yield 'fork 2', 0, setting('rows', 9, 2)
+    yield 'fork 2^32 - 1', 1, setting('rows', 9, 2**32 - 1)
+    yield 'blocks above capacity', 1, setting('rows', 10, 3)
+    yield 'blocks at capacity', 0, setting('rows', 10, 2)
+    yield 'equal rows', 1, setting('rows', 9, 0)
+    yield '64 rows', 0, many_rows(64)
+    yield '65 rows', 1, many_rows(65)
+    yield 'a capacity above the store', 1, setting('rows', 11, 3)
+    yield 'a capacity below the store', 1, setting('rows', 11, 1)
+    yield 'a capacity of 2^32 - 1', 1, setting('rows', 11, 2**32 - 1)
+
+
+def books():
+    """Each rule of the books broken, number 2; and what stands at its edge, number 0."""
+    clean, dirty = CLEAN_FLAGS, CLEAN_FLAGS | DIRTY_FLAGS
+    for control in [(HAND, 5, 2), (HAND, 4, 0), (HAND, 2**64 - 1, 2), (FLUSHED, 121, 2), (FLUSHED, 120, 0), (INSERTED, 99, 2), (TOP, 5, 2),
+                    (TOP, NO_TOP, 2), (TOP, NO_TOP - 1, 2), (TOP, 0, 2), (TOP, 4, 2), (TOP, 2**32 + 3, 2)]:
+        yield 'control word %d is %d' % control[:2], control[2], setting('control', *control[:2])
+    for word, number in [
+            (clean | 5 * USAGE_ONE, 0), (clean | 6 * USAGE_ONE, 2), (clean | 15 * USAGE_ONE, 2), (clean | 262143, 0), (clean, 0),
+            (dirty, 0), (clean | DIRTY, 2), (clean | JUST_DIRTIED, 2), (1, 2), (USAGE_ONE, 2), (DIRTY_FLAGS, 2),
+            *((clean ^ 1 << bit, 2) for bit in (24, 25, 31)), *((clean | 1 << bit, 2) for bit in (22, 26, 27, 29, 30)),
+            *((dirty ^ 1 << bit, 2) for bit in (24, 25, 31)), (0, 2), (2**32 - 1, 2)]:
+        yield f'word {word:#x}', number, setting('states', 0, word)
+    yield 'an empty buffer with a word', 2, setting('states', 4, clean | USAGE_ONE)
+    for at, value in [(4, 3), (4, 4), (3, -1), (3, 3), (4, 0), (4, -2), (4, -3), (4, 5), (4, 2**31 - 1), (4, -2**31), (0, -1), (0, 0),
+                      (0, 3), (0, -3), (2, 5)]:
+        yield f'free link {at} is {value}', 2, setting('free', at, value)
+    yield 'the free list the other way', 0, both(setting('free', 3, -1), setting('free', 4, 3), setting('control', TOP, 4))
+    for word in range(5):
+        yield f'word {word} of an empty name', 2, setting('names', 20 + word, 1)
+    yield 'a name at the block count', 2, naming(2, MAP + (1,))
+    yield 'a name below the block count', 0, naming(2, MAP + (0,))
+    yield 'a name far above the block count', 2, naming(2, KEY + (2**32 - 1,))
+    yield 'a name of no file', 2, naming(2, (1663, 5, KEY[2] + 1, 0, 0))
+    yield 'a name of fork 3', 2, naming(2, KEY[:3] + (3, 0))
+    yield 'a name of zeros with no such file', 2, naming(2, (0, 0, 0, 0, 0))
+    yield 'two equal names', 2, naming(2, KEY + (0,))
+    yield 'two equal names, one of them dirty', 2, naming(0, KEY + (2,))
+    yield 'two names changed', 2, both(setting('names', 4, 1), setting('names', 14, 0))
+    yield 'a dirty page above inserted', 2, paging(1, 121)
+    yield 'a dirty page at inserted', 0, paging(1, 120)
+    yield 'a dirty page above inserted by its high word', 2, paging(1, 2**32 + 5)
+    yield 'a clean page above inserted', 0, paging(2, 2**64 - 1)
+    yield 'the chain of two the other way', 0, both(setting('heads', SHARED, 0), setting('chain', 0, 1), setting('chain', 1, -1))
+    yield 'heads of two buckets changed', 2, both(setting('heads', SHARED, 2), setting('heads', OTHER, 1))
+    yield 'a chain in an idle bucket', 2, both(setting('heads', OTHER, -1), setting('heads', IDLE, 2))
+    for at, value in [(SHARED, 0), (SHARED, -1), (SHARED, 2), (OTHER, 1), (IDLE, 2), (IDLE, 3), (IDLE, 5), (IDLE, -2), (IDLE, -3),
+                      (IDLE, 2**31 - 1), (IDLE, -2**31)]:
+        yield f'head {(SHARED, OTHER, IDLE).index(at)} is {value}', 2, setting('heads', at, value)
+    for at, value in [(0, 1), (0, 0), (0, 2), (0, 3), (0, 5), (0, -2), (0, -3), (1, -1), (1, 1), (1, 2), (2, 1), (2, 2), (3, -2),
+                      (3, 0), (3, 3), (4, 3), (4, 5), (4, -3)]:
+        yield f'chain link {at} is {value}', 2, setting('chain', at, value)
+
+
+TRIES = [('pin', KEY + (2,)), ('unpin', 1), ('read', 1, 4, b'abcdef'), ('write', 1, 9, b'yz', 115), ('flush', 1), ('checkpoint',),
+         ('peek', KEY + (0,)), ('extend', MAP), ('drop', MAP), ('log_inserted', 130), ('log_flushed', 110),
+         ('pin', (1, 2, 3, 0, 0)), ('unpin', 9), ('read', 0, 0, b'ab'), ('write', 1, 7, b'', 121), ('flush', 2**64 - 1),
+         ('peek', KEY + (3,)), ('extend', KEY), ('drop', KEY), ('log_inserted', 1), ('log_flushed', 200)]
+
+
+def damaged():
+    """Name, start, and the calls to try."""
+    for k, (name, number, change) in enumerate([*sizes(), *books()]):
+        start = base()
+        change(start)
+        calls = [TRIES[(3 * k + j) % len(TRIES)] for j in range(3)]
+        numbers = [Pool(start.memory()).call(call).number for call in TRIES[:11]]
+        # at the edges a call may have a refusal of its own, but not 1 or 2
+        assert all(x == number if number else x not in (1, 2) for x in numbers), (name, number, numbers)
+        yield name, start, calls

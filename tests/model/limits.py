@@ -1,0 +1,93 @@
+"""The limits of set up, of the file rows, of answer slices, and a shelf's refusals at states that no short list reaches."""
+from damage import KEY, MAP, TRIES, base
+from pool import MOST_PINS, NO_TOP, Pool, rows_fit
+from shelf import Shelf
+from terms import Page, Start, zeros
+
+
+def pages(count, size, seed):
+    """So many pages, as one run of zeros where they are many."""
+    return [Page(k, seed + k, size) for k in range(count)] if count < 9 else [zeros(count * size)]
+
+
+def lent(n, b, rows, size, control=(7, 9, NO_TOP, 3, 4)):
+    """A memory of this shape, with anything in its books."""
+    pool, store = pages(n, size, 1), pages(sum(rows[5::6]), size, 50)
+    return Start(list(control), [7] * n, [7] * (5 * n), pool, [7] * n, [7] * b, [7] * n, list(rows), store)
+
+
+def set_ups():
+    """Number by hand, start, page size, position, answer slice."""
+    row, slice_ = [*KEY, 1, 1], (9, 8, 7, 6)
+    for size in (1024, 2048, 4096, 8192, 16384, 32768):
+        yield 0, lent(1, 1, row, size), size, size * 2**40, slice_
+    for size in (512, 1000, 1023, 1025, 3072, 65536):
+        yield 1, lent(1, 1, row, size), size, 5, slice_
+    for size in (0, 1, 2048, 2**32 + 1024, 2**63):
+        yield 1, lent(1, 1, row, 1024), size, 5, slice_
+    for n, b, number in [(0, 0, 1), (0, 1, 1), (1, 1, 0), (1, 4096, 0), (1, 4097, 1), (2, 1, 1), (2, 2, 0), (3, 2, 1), (1024, 1024, 0),
+                         (1024, 4096, 0), (1024, 1023, 1), (1025, 1025, 1), (1025, 4096, 1)]:
+        yield number, lent(n, b, [], 1024), 1024, 0, slice_
+    for rows, number in [([], 0), (row[:5], 1), ([*row, 0], 1), ([*KEY, 0, 0], 0), ([*KEY, 1, 0], 1), ([*MAP, 2, 3], 0),
+                         ([*KEY[:3], 2, 1, 2], 0), ([*KEY[:3], 3, 1, 2], 1), ([*row, *row], 1), ([*row, *MAP, 0, 1], 0),
+                         ([*KEY, 9, 65536], 0), ([*KEY, 9, 65537], 1), ([*row, *MAP, 0, 65535], 0), ([*row, *MAP, 0, 65536], 1)]:
+        yield number, lent(1, 2, rows, 1024), 1024, 2**64 - 1, slice_
+    for count, number in [(64, 0), (65, 1)]:
+        yield number, lent(1, 1, [word for k in range(count) for word in (k, 0, 0, 0, 0, int(k == 9))], 1024), 1024, 1, slice_
+    for control in [(), (1024,), (1024, 0, 0, 0), (1024, 0, 0, 0, 0, 0)]:
+        yield 1, lent(1, 1, row, 1024, control), 1024, 5, slice_
+    for answer in [(), (1, 2, 3), (1, 2, 3, 4, 5)]:
+        yield 1, lent(1, 1, row, 1024), 1024, 5, answer
+
+
+def checked_set_ups():
+    for number, start, size, position, answer in set_ups():
+        outcome = Pool(start.memory()).call(('set_up', size, position), answer)
+        assert outcome.number == number, (number, outcome.number, size, start.rows)
+        yield start, size, position, answer, outcome
+
+
+def rows():
+    """Rows that no store here is long enough for: the sum of capacities, 65,536 at most."""
+    def files(*capacities):
+        return [word for k, capacity in enumerate(capacities) for word in (k, 0, 0, 0, 0, capacity)]
+    for number, some in [
+            (0, files(65536)), (1, files(65537)), (0, files(1, 65535)), (1, files(2, 65535)), (1, files(65536, 0, 1)),
+            (0, files(*[1024] * 64)), (1, files(*[1024] * 63, 1025)), (1, files(2**32 - 1)), (1, files(2**31, 2**31, 2**32 - 1)),
+            (0, [*KEY, 65536, 65536]), (1, [*KEY, 65536, 65535])]:
+        assert rows_fit(some) == (number == 0)
+        yield some
+
+
+def answers():
+    """A call on the base memory with an answer slice of some length."""
+    for k, call in enumerate(TRIES):
+        yield call, tuple(range(5, 5 + (0, 1, 3, 4, 5, 8)[k % 6]))
+
+
+def enums():
+    """The answers' enums of the code: what gives a number or words, a case, and what the paper has for it."""
+    buffer = '(record { 0 = 5 })'
+    for enum, case, words in [
+            ('pinned', f'At {buffer} true false 7', [5, 1, 0, 7]), ('pinned', f'At {buffer} false true 0', [5, 0, 1, 0]),
+            ('written', 'Pages 6', [6, 0, 0, 0]), ('peeked', 'InPool 1024', [1, 1024, 0, 0]), ('peeked', 'InStore 2048', [0, 2048, 0, 0]),
+            ('extended', f'Block {buffer}', [5, 0, 0, 0]), ('accepted', 'Done', [0, 0, 0, 0])]:
+        yield f'{enum}Number', f'({enum}.the-variants.{case})', 0
+        yield f'{enum}Words', f'({enum}.the-variants.{case})', words
+    for enum in ('pinned', 'written', 'peeked', 'extended', 'accepted'):
+        yield f'{enum}Number', f'({enum}.the-variants.Refused 13)', 13
+        yield f'{enum}Words', f'({enum}.the-variants.Refused 13)', [0, 0, 0, 0]
+
+
+def shelves():
+    """Shelves given by hand: N, counts of the pages in row order, the places held at each number; and calls to refuse or not."""
+    pages = [KEY + (0,), KEY + (1,), KEY + (2,), MAP + (0,), MAP + (1,)]
+    calls = [*(('pin', page) for page in pages), *TRIES, *(('unpin', b) for b in range(4))]
+    for n, counts, holds in [
+            (2, [0, 0, 0, 0, 0], [None, None]), (2, [MOST_PINS, 0, 0, 0, 0], [0, None]), (2, [MOST_PINS - 1, 0, 0, 1, 0], [3, 0]),
+            (1, [0, MOST_PINS, 0, 0, 0], [1]), (3, [0, 1, 0, 1, 0], [3, None, 1]), (3, [1, 1, 1, 0, 0], [2, 1, 0])]:
+        start = base()
+        shelf = Shelf(start.memory())
+        shelf.n, shelf.counts = n, dict(zip(pages, counts))
+        shelf.holds = {b: pages[place] for b, place in enumerate(holds) if place is not None}
+        yield start, shelf, counts, holds, calls

@@ -1,0 +1,370 @@
+"""The page pool of the written rules in Python: an independent model, written from the paper and not from the crates.
+
+Memory is the lent memory. Pool makes a call on it: Pool(memory).call(('pin', name)) gives an Outcome, with the memory
+afterwards; the memory before stays as it was. A control record has the top of the free list as 64 one bits for -1.
+A name is a tuple of five numbers, a file's key of four. The plain shelf and its ledger stand in shelf.py.
+
+Calls: ('set_up', page size, position) ('pin', name) ('unpin', buffer) ('read', buffer, from, out)
+('write', buffer, from, bytes, position) ('flush', buffer) ('checkpoint',) ('peek', name) ('extend', key) ('drop', key)
+('log_inserted', position) ('log_flushed', position)
+"""
+import struct
+
+PAGE_SIZES = (1024, 2048, 4096, 8192, 16384, 32768)
+MOST_PINS = 262143
+USAGE_ONE = 1 << 18
+DIRTY, VALID, TAG_VALID, JUST_DIRTIED, PERMANENT = 1 << 23, 1 << 24, 1 << 25, 1 << 28, 1 << 31
+CLEAN_FLAGS = VALID | TAG_VALID | PERMANENT
+DIRTY_FLAGS = DIRTY | JUST_DIRTIED
+NO_TOP = 2**64 - 1
+P, HAND, TOP, INSERTED, FLUSHED = range(5)
+BLOCKS, CAPACITY = 4, 5
+
+
+class Refused(Exception):
+    """A call's refusal, with its number."""
+
+
+def refuse(number, condition):
+    if condition:
+        raise Refused(number)
+
+
+def name_bytes(name):
+    return struct.pack('<5I', *name)
+
+
+def fnv_1a(data):
+    value = 2166136261
+    for byte in data:
+        value = (value ^ byte) * 16777619 % 2**32
+    return value
+
+
+def pins(word):
+    return word & MOST_PINS
+
+
+def usage(word):
+    return word >> 18 & 15
+
+
+def pack_position(position):
+    """A log position as the first 8 bytes of a page: the high word, then the low word."""
+    return struct.pack('<2I', position >> 32, position % 2**32)
+
+
+def unpack_position(page):
+    high, low = struct.unpack('<2I', bytes(page[:8]))
+    return high << 32 | low
+
+
+def rows_fit(rows):
+    """Whether file rows keep their rules: six words each, at most 64, forks, blocks, capacities, no two with equal first four."""
+    files = [rows[at:at + 6] for at in range(0, len(rows), 6)]
+    return (len(rows) % 6 == 0 and len(files) <= 64 and all(row[3] <= 2 and row[BLOCKS] <= row[CAPACITY] for row in files)
+            and sum(row[CAPACITY] for row in files) <= 65536 and len({tuple(row[:4]) for row in files}) == len(files))
+
+
+class Memory:
+    """What is lent, and a few ways to look at it."""
+
+    def __init__(self, control, states, names, pool, free, heads, chain, rows, store):
+        self.control, self.states, self.names, self.pool = control, states, names, pool
+        self.free, self.heads, self.chain, self.rows, self.store = free, heads, chain, rows, store
+
+    def copy(self):
+        return Memory(self.control[:], self.states[:], self.names[:], self.pool[:], self.free[:], self.heads[:], self.chain[:],
+                      self.rows[:], self.store[:])
+
+    @property
+    def n(self):
+        return len(self.states)
+
+    def row(self, f):
+        return self.rows[6 * f:6 * f + 6]
+
+    def files(self):
+        return range(len(self.rows) // 6)
+
+    def file(self, key):
+        """The row with these four numbers, or None."""
+        return next((f for f in self.files() if tuple(self.row(f)[:4]) == tuple(key)), None)
+
+    def blocks(self, f):
+        return self.rows[6 * f + BLOCKS]
+
+    def place(self, name):
+        """The index of a name's block in the store."""
+        return sum(self.row(f)[CAPACITY] for f in range(self.file(name[:4]))) + name[4]
+
+    def name(self, i):
+        return tuple(self.names[5 * i:5 * i + 5])
+
+    def set_name(self, i, name):
+        self.names[5 * i:5 * i + 5] = name
+
+    def page(self, i):
+        """Where buffer i's page is in the pool."""
+        return slice(i * self.control[P], (i + 1) * self.control[P])
+
+    def block(self, name):
+        place = self.place(name)
+        return slice(place * self.control[P], (place + 1) * self.control[P])
+
+    def used(self):
+        return [i for i in range(self.n) if self.states[i] != 0]
+
+    def empty(self):
+        return [i for i in range(self.n) if self.states[i] == 0]
+
+
+class Outcome:
+    def __init__(self, number, answer, own, memory):
+        self.number, self.answer, self.own, self.memory = number, answer, own, memory
+
+
+class Pool:
+    most_usage = 5
+
+    def __init__(self, memory):
+        self.m = memory.copy()
+
+    def call(self, call, answer=(0, 0, 0, 0)):
+        """The outcome of a call. own is the caller's slice: a read's out afterwards, a write's bytes. A peek's part is peeked()."""
+        before = self.m.copy()
+        own = call[3] if call[0] in ('read', 'write') else b''
+        if len(answer) != 4:
+            return Outcome(1, list(answer), own, before)
+        try:
+            page_size = call[1] if call[0] == 'set_up' else self.m.control[P] if self.m.control else 0
+            refuse(1, not self.sizes_fit(page_size))
+            if call[0] != 'set_up':
+                refuse(2, not self.books_sound())
+            parts = getattr(self, call[0])(*call[1:])
+        except Refused as refusal:
+            self.m = before
+            return Outcome(refusal.args[0], [0, 0, 0, 0], own, before)
+        if call[0] == 'read':
+            own, parts = parts, ()
+        parts = list(parts or ())
+        return Outcome(0, parts + [0] * (4 - len(parts)), own, self.m)
+
+    # sizes and books
+
+    def sizes_fit(self, page_size):
+        m, n, b = self.m, self.m.n, len(self.m.heads)
+        return (len(m.control) == 5 and page_size in PAGE_SIZES and 1 <= n <= 1024 and n <= b <= 4096
+                and len(m.names) == 5 * n and len(m.pool) == n * page_size and len(m.free) == n and len(m.chain) == n
+                and rows_fit(m.rows) and len(m.store) == page_size * sum(m.rows[CAPACITY::6]))
+
+    def books_sound(self):
+        m = self.m
+        if not (m.control[HAND] < m.n and m.control[FLUSHED] <= m.control[INSERTED]):
+            return False
+        if not all(self.word_sound(word) for word in m.states):
+            return False
+        top = -1 if m.control[TOP] == NO_TOP else m.control[TOP]
+        if self.walk(top, m.free) != sorted(m.empty()) or any(m.free[i] != -2 for i in m.used()):
+            return False
+        if any(m.name(i) != (0, 0, 0, 0, 0) or m.chain[i] != -1 for i in m.empty()):
+            return False
+        names = [m.name(i) for i in m.used()]
+        if len(set(names)) != len(names) or not all(self.names_block(name) for name in names):
+            return False
+        for bucket, head in enumerate(m.heads):
+            if self.walk(head, m.chain) != [i for i in m.used() if self.bucket(m.name(i)) == bucket]:
+                return False
+        return all(self.position(i) <= m.control[INSERTED] for i in m.used() if m.states[i] & DIRTY)
+
+    def word_sound(self, word):
+        flags = word >> 22 << 22
+        return word == 0 or usage(word) <= self.most_usage and flags in (CLEAN_FLAGS, CLEAN_FLAGS | DIRTY_FLAGS)
+
+    def names_block(self, name):
+        f = self.m.file(name[:4])
+        return f is not None and name[4] < self.m.blocks(f)
+
+    def walk(self, link, links):
+        """The members of a list of links, rising; None if it leaves the buffers or does not end."""
+        members = []
+        while link != -1:
+            if not 0 <= link < self.m.n or link in members:
+                return None
+            members.append(link)
+            link = links[link]
+        return sorted(members)
+
+    # names, chains, pages
+
+    def bucket(self, name):
+        return fnv_1a(name_bytes(name)) % len(self.m.heads)
+
+    def held(self, name):
+        """The buffer that has the page, or None."""
+        return next((i for i in self.m.used() if self.m.name(i) == tuple(name)), None)
+
+    def position(self, i):
+        return unpack_position(self.m.pool[self.m.page(i)])
+
+    def set_position(self, i, position):
+        start = self.m.page(i).start
+        self.m.pool[start:start + 8] = pack_position(position)
+
+    def enter_chain(self, i):
+        bucket = self.bucket(self.m.name(i))
+        self.m.chain[i] = self.m.heads[bucket]
+        self.m.heads[bucket] = i
+
+    def leave_chain(self, i):
+        bucket = self.bucket(self.m.name(i))
+        if self.m.heads[bucket] == i:
+            self.m.heads[bucket] = self.m.chain[i]
+        else:
+            self.m.chain[self.m.chain.index(i)] = self.m.chain[i]
+        self.m.chain[i] = -1
+
+    def write_back(self, i):
+        """Writes a dirty page back; gives how many pages it wrote, 0 or 1."""
+        m = self.m
+        if not m.states[i] & DIRTY:
+            return 0
+        m.control[FLUSHED] = max(m.control[FLUSHED], self.position(i))
+        m.store[m.block(m.name(i))] = m.pool[m.page(i)]
+        m.states[i] &= ~DIRTY_FLAGS
+        return 1
+
+    def sweep(self):
+        """The published sweep: the victim and the probes made."""
+        m, probes, pinned_in_a_row = self.m, 0, 0
+        while pinned_in_a_row < m.n:
+            i = m.control[HAND]
+            m.control[HAND] = (i + 1) % m.n
+            probes += 1
+            if pins(m.states[i]) > 0:
+                pinned_in_a_row += 1
+                continue
+            pinned_in_a_row = 0
+            if usage(m.states[i]) == 0:
+                return i, probes
+            m.states[i] -= USAGE_ONE
+        raise Refused(6)
+
+    # the calls
+
+    def set_up(self, page_size, position):
+        m, n = self.m, self.m.n
+        m.control[:] = [page_size, 0, 0, position, position]
+        m.states[:], m.names[:] = [0] * n, [0] * (5 * n)
+        m.free[:] = list(range(1, n)) + [-1]
+        m.heads[:], m.chain[:] = [-1] * len(m.heads), [-1] * n
+
+    def pin(self, name):
+        m = self.m
+        self.check_name(name)
+        i = self.held(name)
+        if i is not None:
+            refuse(5, pins(m.states[i]) == MOST_PINS)
+            m.states[i] += 1 + (USAGE_ONE if usage(m.states[i]) < self.most_usage else 0)
+            return i, 1, 0, 0
+        wrote = probes = 0
+        if m.control[TOP] != NO_TOP:
+            i = m.control[TOP]
+            m.control[TOP] = NO_TOP if m.free[i] == -1 else m.free[i]
+            m.free[i] = -2
+        else:
+            i, probes = self.sweep()
+            wrote = self.write_back(i)
+            self.leave_chain(i)
+        m.set_name(i, name)
+        self.enter_chain(i)
+        m.pool[m.page(i)] = m.store[m.block(name)]
+        m.states[i] = CLEAN_FLAGS | USAGE_ONE | 1
+        return i, 0, wrote, probes
+
+    def unpin(self, i):
+        self.check_buffer(i)
+        self.m.states[i] -= 1
+
+    def read(self, i, start, out):
+        self.check_buffer(i)
+        refuse(9, start + len(out) > self.m.control[P])
+        return bytes(self.m.pool[self.m.page(i)][start:start + len(out)])
+
+    def write(self, i, start, data, position):
+        m = self.m
+        self.check_buffer(i)
+        refuse(9, start + len(data) > m.control[P] or start < 8)
+        refuse(10, len(data) == 0)
+        refuse(11, position > m.control[INSERTED])
+        refuse(12, position < self.position(i))
+        at = i * m.control[P] + start
+        m.pool[at:at + len(data)] = data
+        self.set_position(i, position)
+        m.states[i] |= DIRTY_FLAGS
+
+    def flush(self, i):
+        self.check_buffer(i)
+        return self.write_back(i),
+
+    def checkpoint(self):
+        return sum(self.write_back(i) for i in range(self.m.n)),
+
+    def peek(self, name):
+        self.check_name(name)
+        i = self.held(name)
+        return (1, self.m.page(i).start) if i is not None else (0, self.m.block(name).start)
+
+    def extend(self, key):
+        m, f = self.m, self.check_key(key)
+        refuse(13, m.blocks(f) == m.row(f)[CAPACITY])
+        number = m.blocks(f)
+        m.store[m.block(tuple(key) + (number,))] = bytes(m.control[P])
+        m.rows[6 * f + BLOCKS] += 1
+        return number,
+
+    def drop(self, key):
+        m, f = self.m, self.check_key(key)
+        pages = [i for i in m.used() if m.name(i)[:4] == tuple(key)]
+        refuse(14, any(pins(m.states[i]) > 0 for i in pages))
+        for i in self.drop_order(pages):
+            self.leave_chain(i)
+            m.set_name(i, (0, 0, 0, 0, 0))
+            m.states[i] = 0
+            m.free[i] = -1 if m.control[TOP] == NO_TOP else m.control[TOP]
+            m.control[TOP] = i
+        m.rows[6 * f + BLOCKS] = 0
+
+    def drop_order(self, pages):
+        return pages
+
+    def log_inserted(self, position):
+        refuse(15, position < self.m.control[INSERTED])
+        self.m.control[INSERTED] = position
+
+    def log_flushed(self, position):
+        refuse(16, position > self.m.control[INSERTED])
+        self.m.control[FLUSHED] = max(self.m.control[FLUSHED], position)
+
+    # checks that several calls make
+
+    def check_key(self, key):
+        f = self.m.file(key)
+        refuse(3, f is None)
+        return f
+
+    def check_name(self, name):
+        f = self.check_key(name[:4])
+        refuse(4, name[4] >= self.m.blocks(f))
+
+    def check_buffer(self, i):
+        refuse(7, i >= self.m.n)
+        refuse(8, pins(self.m.states[i]) == 0)
+
+
+def peeked(outcome):
+    """The bytes that an accepted peek hands back, by its answer; of a refused one none."""
+    if outcome.number:
+        return b''
+    part = outcome.memory.pool if outcome.answer[0] else outcome.memory.store
+    return bytes(part[outcome.answer[1]:outcome.answer[1] + outcome.memory.control[P]])

@@ -1,0 +1,297 @@
+"""Writes crates of theorems, each proved by refl: what the definitions give is what the model in Python gives.
+
+vectors.py ROOM          writes model_seen, model_lists, model_damage and model_slips into ROOM/crates, beside a copy of the
+                         repository's crates, and appends their lines to ROOM/crates.txt. On stdout a line for each file of
+                         theorems: crate, file, and what it holds; for a planted error the theorem that must be refused.
+vectors.py ROOM SEED     writes model_apart instead: the list of this seed with a theorem for each call, to see which differs.
+Status 1: the lists miss something that has to happen in them, or pool and shelf differ in Python, or a planted error does not show.
+"""
+import pathlib
+import re
+import shutil
+import sys
+
+import damage
+import limits
+import slips
+from lists import WANTED, after_set_up, events, from_sound, run, set_up
+from pool import Pool
+from shelf import Shelf, differs
+from terms import call_term, lent_books, lent_seen, list_seen, listed, numbers, words
+
+# seeds of lists in which much happens
+AFTER_SET_UP = [
+    46, 118, 134, 157, 165, 239, 293, 415, 532, 679, 698, 699, 787, 854, 973, 1171, 1185, 1223, 1296, 1311, 1325, 1329, 1330, 1342,
+    1403, 1598, 1641, 1657, 1678, 1701, 1710, 1792, 1856, 1859, 1945, 1955, 2053, 2091, 2132, 2191, 2331, 2359, 2382, 2581, 2713, 2729,
+    2749, 2989]
+FROM_SOUND = [29, 123, 135, 168, 226, 280, 316, 360, 390, 392, 413, 503, 570, 591, 721, 724]
+BELOW = ['laws', 'buftag', 'bufmodel', 'shelf']
+
+HEAD = '''-- Written by tests/model/vectors.py.
+use Prim.Native.Nat.{ℕ}
+use mathlib.Core.Path.{_≡_, refl}
+use mathlib.Core.Bool.{true, false}
+use mathlib.Core.List.{List, [], _∷_, _++_}
+use lib.ListN.{length, getD, replicate}
+use lib.IntN.{ℤ, pos, negsuc}
+use Rattle.laws.specs.First.{found, missing}
+use Rattle.buftag.specs.Name.{fileOf, nameOf}
+use Rattle.bufmodel.specs.Memory.{Memory}
+use Rattle.bufmodel.specs.Sizes.{soundRows}
+use Rattle.bufmodel.specs.Calls.{setUp}
+use Rattle.bufmodel.specs.Step.{Call, Pin, Unpin, Read, Write, Flush, Checkpoint, Peek, Extend, Drop, LogInserted, LogFlushed}
+use Rattle.bufmodel.specs.Lent.{Lent}
+use Rattle.bufmodel.specs.declared.answer.Pinned as pinned
+use Rattle.bufmodel.specs.declared.answer.Written as written
+use Rattle.bufmodel.specs.declared.answer.Peeked as peeked
+use Rattle.bufmodel.specs.declared.answer.Extended as extended
+use Rattle.bufmodel.specs.declared.answer.Accepted as accepted
+use Rattle.bufmodel.specs.Answer.{pinnedNumber, pinnedWords, writtenNumber, writtenWords, peekedNumber, peekedWords}
+use Rattle.bufmodel.specs.Answer.{extendedNumber, extendedWords, acceptedNumber, acceptedWords}
+use Rattle.shelf.specs.Shelf.{Shelf}
+use Rattle.shelf.specs.Ledger.{firstLedger}
+use Rattle.model_seen.specs.Observe.{fill, listSeen, lentSeen, setUpSeen, callSeen, judged, refusals}
+'''
+
+
+class Module:
+    """A file of theorems. A definition is unfolded in the theorems of its file."""
+
+    def __init__(self, name, unfolding):
+        self.name, self.unfolding, self.text, self.own, self.names = name, unfolding, [HEAD], [], {}
+
+    def define(self, name, type_, term):
+        self.text.append(f'unfoldable pub {name} : {type_}\n{name} = {term}\n')
+        self.own.append(name)
+
+    def shared(self, term):
+        """A name for the bytes of a pool or store, which several memories may have."""
+        if term not in self.names:
+            self.names[term] = f'bytes-{len(self.names)}'
+            self.define(self.names[term], 'List ℕ', term)
+        return self.names[term]
+
+    def state(self, name, term, literal, proof='refl'):
+        self.text.append(f'pub {name} : {term} ≡ {literal}\nunfolding {" ".join(self.unfolding + self.own)}\n{name} = {proof}\n')
+
+
+class Crate:
+    def __init__(self, room, name, below):
+        self.folder, self.modules = room / 'crates' / name, []
+        for part in ('src', 'specs'):
+            (self.folder / part).mkdir(parents=True)
+        (self.folder / 'src' / 'lib.rt').write_text('// Definitions and theorems alone.\n')
+        with (room / 'crates.txt').open('a') as file:
+            file.write(f'\n{name}: {" ".join(below)}\n')
+
+    def add(self, module, what):
+        (self.folder / 'specs' / f'{module.name}.antt').write_text('\n'.join(module.text))
+        self.modules.append(module.name)
+        (self.folder / 'specs' / 'Lib.antt').write_text(''.join(f'pub mod {name}\n' for name in self.modules))
+        print(self.folder.name, module.name, what)
+
+
+def unfoldable(folder):
+    """The names of a crate's definitions, for a line of unfolding."""
+    for file in sorted((folder / 'specs').glob('*.antt')):
+        for name in re.findall(r'^\s*unfoldable pub (\S+) :', file.read_text(), re.M):
+            yield f'Rattle.{folder.name}.specs.{file.stem}.{name}'
+
+
+def seen_crate(room):
+    """The crate of what is looked at, and all names that its users unfold."""
+    crate = Crate(room, 'model_seen', BELOW)
+    shutil.copy(pathlib.Path(__file__).with_name('Observe.antt'), crate.folder / 'specs')
+    (crate.folder / 'specs' / 'Lib.antt').write_text('pub mod Observe\n')
+    return [name for crate in [*BELOW, 'model_seen'] for name in unfoldable(room / 'crates' / crate)]
+
+
+# lists of calls
+
+def observed(seed, pool_class=Pool, shelf_class=Shelf):
+    """What the model gives for the list of this seed."""
+    made, size, position, calls = after_set_up(seed)
+    memory = set_up(made, size, position)
+    return list_seen(shelf_class(memory), calls, run(pool_class, memory, calls))
+
+
+def calls_term(calls):
+    return listed(map(call_term, calls))
+
+
+def define_list(module, seed):
+    """The definitions of a list; gives the term of what is seen of it."""
+    made, size, position, calls = after_set_up(seed)
+    module.define(f'start-{seed}', 'Memory', made.memory_term())
+    module.define(f'calls-{seed}', 'List Call', calls_term(calls))
+    return f'listSeen (setUp start-{seed} {size} {position} .after) (firstLedger start-{seed} {size} {position}) calls-{seed}'
+
+
+def happenings(memory, calls):
+    """What happens in a list, call by call."""
+    for call, o in zip(calls, run(Pool, memory, calls)):
+        yield from events(call, memory, o)
+        memory = o.memory
+
+
+def agree_in_python(seed):
+    """Pool and shelf on the list of this seed."""
+    made, size, position, calls = after_set_up(seed)
+    memory = set_up(made, size, position)
+    shelf = Shelf(memory)
+    for call, o in zip(calls, run(Pool, memory, calls)):
+        wrong = differs(shelf, call, memory, o)
+        if wrong:
+            sys.exit(f'list {seed}: pool and shelf differ in Python in {wrong} at {call}')
+        memory = o.memory
+
+
+def eights(values):
+    return [values[at:at + 8] for at in range(0, len(values), 8)]
+
+
+def write_lists(room, unfolding):
+    crate, happened = Crate(room, 'model_lists', [*BELOW, 'model_seen']), set()
+    for k, seeds in enumerate(eights(AFTER_SET_UP)):
+        module, count = Module(f'Lists{k + 1}', unfolding), 0
+        for seed in seeds:
+            agree_in_python(seed)
+            made, size, position, calls = after_set_up(seed)
+            happened |= set(happenings(set_up(made, size, position), calls))
+            module.state(f'list-{seed}', define_list(module, seed), numbers(observed(seed)))
+            count += len(calls)
+        crate.add(module, f'{len(seeds)} lists, {count} calls after set up, on the pool, the shelf and the ledger')
+    for k, seeds in enumerate(eights(FROM_SOUND)):
+        module, count = Module(f'Sound{k + 1}', unfolding), 0
+        for seed in seeds:
+            made, calls = from_sound(seed)
+            happened |= set(happenings(made.memory(), calls))
+            module.define(f'start-{seed}', 'Lent', made.lent_term(module.shared))
+            seen = lent_seen(run(Pool, made.memory(), calls))
+            module.state(f'lent-{seed}', f'lentSeen start-{seed} {calls_term(calls)}', numbers(seen))
+            count += len(calls)
+        crate.add(module, f'{len(seeds)} lists, {count} calls from a sound memory, as C makes them')
+    if happened != WANTED:
+        sys.exit(f'the lists miss: {sorted(WANTED - happened)}')
+
+
+def write_apart(room, seed):
+    """A theorem for each call of a list; part-k is call k."""
+    unfolding = seen_crate(room)
+    crate, module = Crate(room, 'model_apart', [*BELOW, 'model_seen']), Module('Apart', unfolding)
+    module.define('seen', 'List (List (List ℕ))', define_list(module, seed))
+    for k, one in enumerate(observed(seed)):
+        module.state(f'part-{k}', f'getD seen {k} []', numbers(one))
+    crate.add(module, '; '.join(f'part-{k} {call_term(call)}' for k, call in enumerate(after_set_up(seed)[3])))
+
+
+# damaged memories and limits
+
+def judged(start, calls, pool_class=Pool):
+    """The term of what is seen of some calls on one memory, but for the memory, and what the model gives."""
+    def call(one):
+        return pool_class(start.memory()).call(one, (9, 8, 7, 6))
+    size = start.control[0] if start.control else 1024
+    set_up, outcomes = call(('set_up', size, 7)), [call(one) for one in calls]
+    seen = [[set_up.number, *set_up.answer], *([o.number, *o.answer, *o.own] for o in outcomes), *lent_books(outcomes[0].memory)]
+    return f'{size} ({call_term(calls[0])}) {calls_term(calls[1:])}', seen
+
+
+def state_set_up(module, j, start, size, position, answer, o):
+    """A set-up. A pool or store that is too large to compute with is any list of that length."""
+    large = []
+
+    def shared(term):
+        zeros = re.fullmatch(r'\(fill (\d{6,}) 0 \(\[\]\)\)', term)
+        large.extend(zeros.groups() if zeros else [])
+        return 'bytes' if zeros else module.shared(term)
+    lent, seen = start.lent_term(shared), listed(map(words, [[o.number, *o.answer], *lent_books(o.memory)]))
+    module.define(f'lent-{j}', 'List ℕ → Lent', f'λ bytes. {lent}')
+    given = f'(bytes : List ℕ) → length bytes ≡ {large[0]} → ' if large else '(bytes : List ℕ) → '
+    module.state(f'set-up-{j}', f'{given}setUpSeen (lent-{j} bytes) {size} {position} {numbers(answer)}', seen,
+                 'λ bytes e. rw e refl' if large and not o.number else 'λ bytes e. refl' if large else 'λ bytes. refl')
+
+
+def write_damage(room, unfolding):
+    crate = Crate(room, 'model_damage', [*BELOW, 'model_seen'])
+    every = [*damage.damaged()]
+    for k, some in enumerate([every[at:at + 25] for at in range(0, len(every), 25)]):
+        module, broken = Module(f'Damage{k + 1}', unfolding), 0
+        for j, (name, start, calls) in enumerate(some):
+            module.text.append(f'-- {name}')
+            module.define(f'lent-{j}', 'Lent', start.lent_term(module.shared))
+            term, seen = judged(start, calls)
+            module.state(f'judged-{j}', f'judged lent-{j} {term}', numbers(seen))
+            broken += seen[1][0] in (1, 2)
+        crate.add(module, f'{broken} damaged memories and {len(some) - broken} at the edge of a rule, with 3 calls and set up each')
+    module = Module('SetUps', unfolding)
+    for j, one in enumerate(limits.checked_set_ups()):
+        state_set_up(module, j, *one)
+    crate.add(module, f'{j + 1} set-ups at the limits')
+    module = Module('Limits', unfolding)
+    for j, rows in enumerate(limits.rows()):
+        module.state(f'rows-{j}', f'soundRows {numbers(rows)}', str(limits.rows_fit(rows)).lower())
+    module.define('base', 'Lent', damage.base().lent_term(module.shared))
+    for j, (call, answer) in enumerate(limits.answers()):
+        o = Pool(damage.base().memory()).call(call, answer)
+        module.state(f'answer-{j}', f'callSeen base ({call_term(call)}) {numbers(answer)}', numbers([o.number, *o.answer, *o.own]))
+    for j, (start, shelf, counts, holds, calls) in enumerate(limits.shelves()):
+        held = listed('missing' if place is None else f'found {place}' for place in holds)
+        module.define(f'shelf-{j}', 'Shelf', f'''record {{
+      buffers = {shelf.n}; size = {shelf.page_size}; inserted = {shelf.inserted}; rows = {numbers(start.rows)};
+      bytes = λ g. getD {numbers([page.bytes() for page in start.store])} g [];
+      counts = λ g. getD {numbers(counts)} g 0; holds = λ b. getD {held} b missing
+    }}''')
+        module.state(f'refusals-{j}', f'refusals shelf-{j} {calls_term(calls)}', numbers([shelf.refuses(call) for call in calls]))
+    for j, (function, case, has) in enumerate(limits.enums()):
+        module.state(f'enum-{j}', f'{function} {case}', numbers(has) if isinstance(has, list) else str(has))
+    crate.add(module, 'sums of capacities, answer slices of other lengths, a shelf at its limits, the enums of the answers')
+
+
+# planted errors
+
+def first_wrong(slip):
+    """The shortest list on which a wrong model gives something else, and what it gives. It may stop in one."""
+    classes = (slip, Shelf) if slip in slips.POOLS else (Pool, slip)
+    for seed in sorted(AFTER_SET_UP, key=lambda seed: len(after_set_up(seed)[3])):
+        try:
+            wrong = observed(seed, *classes)
+        except (KeyError, IndexError, ValueError):
+            continue
+        if wrong != observed(seed):
+            return seed, wrong
+    sys.exit(f'{slip.__name__} shows in no list')
+
+
+def write_slips(room, unfolding):
+    crate = Crate(room, 'model_slips', [*BELOW, 'model_seen'])
+    for slip in [*slips.POOLS, *slips.SHELVES]:
+        seed, wrong = first_wrong(slip)
+        module = Module(slip.__name__, unfolding)
+        module.state('wrong', define_list(module, seed), numbers(wrong))
+        crate.add(module, f'shows in list-{seed}')
+    for slip in slips.BOOKS:
+        apart = [one for one in damage.damaged() if judged(*one[1:]) != judged(*one[1:], slip)]
+        if not apart:
+            sys.exit(f'{slip.__name__} shows in no damaged memory')
+        name, start, calls = apart[0]
+        module = Module(slip.__name__, unfolding)
+        module.define('lent', 'Lent', start.lent_term(module.shared))
+        term, seen = judged(start, calls, slip)
+        module.state('wrong', f'judged lent {term}', numbers(seen))
+        crate.add(module, f'shows in {len(apart)} memories, the first: {name}')
+
+
+def main():
+    room = pathlib.Path(sys.argv[1])
+    if len(sys.argv) > 2:
+        write_apart(room, int(sys.argv[2]))
+        return
+    unfolding = seen_crate(room)
+    write_lists(room, unfolding)
+    write_damage(room, unfolding)
+    write_slips(room, unfolding)
+
+
+if __name__ == '__main__':
+    main()

@@ -1,0 +1,74 @@
+"""The model against what is printed: the worked pages of the paper, and FNV-1a's published values. Status 1 if one differs."""
+import sys
+
+from lists import run
+from pool import HAND, NO_TOP, TOP, Memory, Pool, fnv_1a, name_bytes, pack_position, unpack_position
+
+KEY = (1663, 5, 16384, 0)
+THREE = [('pin', KEY + (block,)) for block in range(3)]
+UNPINNED = THREE + [('unpin', buffer) for buffer in range(3)]
+
+
+def worked_pool():
+    """N = 3, B = 3, P = 1024, log 100; one file with 4 blocks of zeros, capacity 5."""
+    lent = Memory([0] * 5, [7] * 3, [7] * 15, bytearray(3072), [7] * 3, [7] * 3, [7] * 3, [*KEY, 4, 5], bytearray(5120))
+    return Pool(lent).call(('set_up', 1024, 100)).memory
+
+
+def seen(calls, last=1):
+    """The numbers and answers of the last calls of a list, and the memory afterwards."""
+    outcomes = run(Pool, worked_pool(), calls)
+    return [(o.number, o.answer) for o in outcomes[-last:]], outcomes[-1].memory
+
+
+def numbers(calls, last):
+    return [number for number, _ in seen(calls, last)[0]]
+
+
+def pin(block):
+    return 'pin', KEY + (block,)
+
+
+def write(start, data, position=100):
+    return 'write', 0, start, data, position
+
+
+def free_list(m):
+    at, members = m.control[TOP], []
+    while at not in (NO_TOP, -1):
+        members.append(at)
+        at = m.free[at]
+    return members
+
+
+def cases():
+    """Letter, what the model gives, what the paper has."""
+    yield 'FNV-1a of nothing', fnv_1a(b''), 0x811c9dc5
+    yield 'FNV-1a of a', fnv_1a(b'a'), 0xe40c292c
+    yield 'FNV-1a of foobar', fnv_1a(b'foobar'), 0xbf9cf968
+    yield 'A', name_bytes((16821, 16384, 37721, 0, 7)).hex(), 'b541000000400000599300000000000007000000'
+    yield 'B', pack_position(0x116B374D0).hex(), '01000000d074b316'
+    yield 'B back', unpack_position(bytes.fromhex('01000000d074b316')), 0x116B374D0
+    answers, m = seen(THREE, 3)
+    yield 'C', (answers, m.states), ([(0, [i, 0, 0, 0]) for i in range(3)], [0x83040001] * 3)
+    answers, m = seen([*THREE, pin(3)])
+    yield 'D', (answers, m.control[HAND]), ([(6, [0, 0, 0, 0])], 0)
+    answers, m = seen([*UNPINNED, pin(3)])
+    yield 'E', (answers, m.control[HAND]), ([(0, [0, 0, 0, 4])], 1)
+    answers, m = seen([*UNPINNED, pin(3), pin(0)])
+    yield 'E, then', (answers, m.control[HAND]), ([(0, [1, 0, 0, 1])], 2)
+    yield 'F', seen([pin(0)] * 6)[1].states[0], 0x83140006
+    yield 'G', seen([*THREE, write(8, b'x')])[1].states[0], 0x93840001
+    answers, _ = seen([*THREE, *[pin(2)] * 4, *[('unpin', 2)] * 5, pin(3)])
+    yield 'H', answers, [(0, [2, 0, 0, 18])]
+    yield 'I', numbers([*THREE, write(8, b'x', 101), write(8, b'x', 100), write(8, b'x', 99)], 3), [11, 0, 12]
+    yield 'J', free_list(seen([*UNPINNED, ('drop', KEY)])[1]), [2, 1, 0]
+    edges = [write(7, b'x'), write(8, b'x'), write(1020, b'four'), write(1020, b'fives'), write(1024, b'')]
+    yield 'writes at the edges', numbers([*THREE, *edges], 5), [9, 0, 0, 9, 10]
+    yield 'reads at the edges', numbers([*THREE, ('read', 0, 1024, b''), ('read', 0, 1025, b'')], 2), [0, 9]
+    yield 'block 4', seen([pin(4), ('extend', KEY), ('extend', KEY)], 3)[0], [(4, [0] * 4), (0, [4, 0, 0, 0]), (13, [0] * 4)]
+
+
+if __name__ == '__main__':
+    wrong = [f'{letter}: {gives}, not {has}' for letter, gives, has in cases() if gives != has]
+    sys.exit('\n'.join(wrong) or 0)
