@@ -1,4 +1,4 @@
-"""Memories and calls as antt terms, and what is compared of an outcome, as Observe.antt has it."""
+"""Memories and calls as antt terms, and what is compared of an outcome, as observe.txt has it."""
 import itertools
 import random
 import struct

@@ -101,7 +101,8 @@ def unfoldable(folder):
 def seen_crate(room):
     """The crate of what is looked at, and all names that its users unfold."""
     crate = Crate(room, 'model_seen', BELOW)
-    shutil.copy(pathlib.Path(__file__).with_name('Observe.antt'), crate.folder / 'specs')
+    # the file has another ending here, because every .antt file of the repository is to be in a listed crate
+    shutil.copy(pathlib.Path(__file__).with_name('observe.txt'), crate.folder / 'specs' / 'Observe.antt')
     (crate.folder / 'specs' / 'Lib.antt').write_text('pub mod Observe\n')
     return [name for crate in [*BELOW, 'model_seen'] for name in unfoldable(room / 'crates' / crate)]
 

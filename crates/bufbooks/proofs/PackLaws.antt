@@ -1,0 +1,61 @@
+-- The changes of a state word as sums and differences, as code computes them, and its test on the flags as one number.
+use Prim.Native.Nat.{ℕ, _+_, _-_, _*_, _%_, _^_, _≤_, _<_}
+use mathlib.Core.Path.{_≡_}
+use mathlib.Core.Bool.{true, false, _&&_, _||_}
+use mathlib.Core.Logic.{_≢_, ⊎-elim}
+use native.Mathlib.Omega.{arith}
+use lib.Dec.{eqb, leb}
+use borrow.Author.Tests.{eq-eqb, ne-eqb, le-leb, lt-leb}
+use Rattle.bufmodel.specs.Word.{maxUsage, pins, usage, flags, pack, cleanFlags, dirtyFlags, empty, soundWord, pinned}
+use Rattle.bufmodel.specs.Word.{pinMore, pinLess, useLess}
+use Rattle.bufmodel.proofs.WordLaws.{sound-flags, sound-held, pinned-pins}
+
+-- ---- the test of a word, on the flags as one number
+module _ (w : ℕ) (h : w < 2 ^ 32) where
+  sound-tests : soundWord w ≡ (eqb w 0 || (leb (usage w) maxUsage && (eqb (flags w) cleanFlags || eqb (flags w) dirtyFlags)))
+  unfolding soundWord empty
+  sound-tests = rw (sound-flags w h)
+
+  pub sound-empty : w ≡ 0 → soundWord w ≡ true
+  sound-empty z = rw (sound-tests, eq-eqb w 0 z)
+
+  pub sound-above : w ≢ 0 → maxUsage < usage w → soundWord w ≡ false
+  sound-above full u = rw (sound-tests, ne-eqb w 0 full, lt-leb (usage w) maxUsage u)
+
+  -- in use, with few uses: the flags decide
+  sound-few : w ≢ 0 → usage w ≤ maxUsage → soundWord w ≡ (eqb (flags w) cleanFlags || eqb (flags w) dirtyFlags)
+  sound-few full u = rw (sound-tests, ne-eqb w 0 full, le-leb (usage w) maxUsage u)
+
+  pub sound-clean : w ≢ 0 → usage w ≤ maxUsage → flags w ≡ cleanFlags → soundWord w ≡ true
+  sound-clean full u f = rw (sound-few full u, eq-eqb (flags w) cleanFlags f)
+
+  pub sound-other : w ≢ 0 → usage w ≤ maxUsage → flags w ≢ cleanFlags → soundWord w ≡ eqb (flags w) dirtyFlags
+  sound-other full u f = rw (sound-few full u, ne-eqb (flags w) cleanFlags f)
+
+-- ---- the changes
+-- one pin more, at the greatest usage and below it
+pub pin-more-most : (w : ℕ) → usage w ≡ maxUsage → pinMore w ≡ w + 1
+unfolding pinMore pack pins usage flags
+pin-more-most w h = rw (eq-eqb (usage w) maxUsage h) (omega arith)
+
+pub pin-more-below : (w : ℕ) → usage w ≢ maxUsage → pinMore w ≡ w + 1 + 2 ^ 18
+unfolding pinMore pack pins usage flags
+pin-more-below w h = rw (ne-eqb (usage w) maxUsage h) (omega arith)
+
+-- it fits: the greatest flags leave room
+pub pin-more-room : {w : ℕ} → w < 2 ^ 32 → soundWord w ≡ true → empty w ≡ false → w + 1 + 2 ^ 18 < 2 ^ 32
+unfolding flags
+pin-more-room h sound full = ⊎-elim (λ f. omega arith) (λ f. omega arith) (sound-held h sound full .flag)
+
+pub pin-less-is : (w : ℕ) → pinned w ≡ true → pinLess w ≡ w - 1
+unfolding pinLess pack pins usage flags
+pin-less-is w h = omega (arith, pinned-pins w h)
+
+pub use-less-is : (w : ℕ) → 0 < usage w → useLess w ≡ w - 2 ^ 18
+unfolding useLess pack pins usage flags
+use-less-is w h = omega arith
+
+-- other flags, the same counts
+pub other-flags : (w f : ℕ) → pack (pins w) (usage w) f ≡ w % 2 ^ 22 + f * 2 ^ 22
+unfolding pack pins usage
+other-flags w f = omega arith
