@@ -1,6 +1,6 @@
 -- Laws of calls over the memory as it is lent: an accepted call, and that the top of a good memory's free list is one control word.
-use Prim.Native.Nat.{ℕ, zero, suc, _<_}
-use mathlib.Core.Path.{_≡_, refl, sym, ap, _∙_}
+use Prim.Native.Nat.{ℕ, zero, suc}
+use mathlib.Core.Path.{_≡_, refl, ap}
 use mathlib.Core.Bool.{Bool, true, false, cond}
 use mathlib.Core.Logic.{inl, inr, ⊎-elim}
 use mathlib.Core.List.{List}
@@ -16,7 +16,7 @@ use Rattle.bufmodel.specs.Outcome.{Outcome, zeros}
 use Rattle.bufmodel.specs.Lent.{Lent, Called, answerWords, controlWords, opened, closed, ended, called}
 use Rattle.bufmodel.proofs.GoodLaws.{Good}
 use Rattle.bufmodel.proofs.LentLaws.{TopFits}
-use Rattle.bufmodel.proofs.LoadLaws.{top-none, top-empty}
+use Rattle.bufmodel.proofs.FreeListLaws.{top-none, top-empty}
 
 -- ---- an accepted call leaves what its definition says
 ended-accepted : (m : Lent) (o : Outcome) (k : ℕ) → o .refusal ≡ k → ended m o k .result ≡ 0

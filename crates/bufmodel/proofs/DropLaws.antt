@@ -40,6 +40,7 @@ pub pinned-says : (m : Memory) (f : FileName)
 unfolding filePinned
 pinned-says m f = says-any (buffers m) _ _ (λ i l. says-and (says-it _) (says-it _))
 
+-- where the test fails, none is
 pub none-pinned : (m : Memory) (f : FileName) → filePinned m f ≡ false → (i : ℕ) → i < buffers m → ofFile m f i ≡ true
     → pinned (wordOf m i) ≡ false
 none-pinned m f e i l o =
@@ -162,7 +163,7 @@ module _ (m d : Memory) (f : FileName) (x : Released m f (buffers m) d) where
   unfolding emptyAt
   cleared-good {r} e =
       let w = row-found (m .rows) f e in
-      clear-good (onto m d) (released-onto .good) r (w .0) (λ i l full q.
+      clear-good (onto m d) (released-onto .good) r (λ i l full q.
       let n : i < buffers m → ofFile m f i ≡ false = left-other i full in
       never
       (of-says m f i .shown (ap empty (sym (x .word i n)) ∙ full, ap (λ (y : PageName). y .file) (sym (x .name i n)) ∙ q ∙ w .1))

@@ -7,7 +7,7 @@ use native.Mathlib.Omega.{arith}
 use lib.ListN.{length}
 use Rattle.laws.specs.First.{found}
 use Rattle.laws.proofs.First.{found-same}
-use Rattle.bufmodel.specs.Rows.{files, fileAt, blocksAt, capacityAt, setBlocks, rowOf, storeBlocks, placeOf}
+use Rattle.bufmodel.specs.Rows.{fileAt, blocksAt, capacityAt, setBlocks, rowOf, storeBlocks, placeOf}
 use Rattle.bufmodel.specs.Memory.{Memory, buffers, size, nameOf, withRows, withStore}
 use Rattle.bufmodel.specs.Sizes.{RowsSound}
 use Rattle.bufmodel.specs.Books.{emptyAt}
@@ -63,10 +63,10 @@ module _ (m : Memory) (k : Good m) where
       (p .0, place-kept (m .rows) r b (nameOf m i) (p .1) (above i l h)))
 
 -- one block more, in a file that is not full, with whatever the store then holds
-pub extend-good : (m : Memory) → Good m → (r : ℕ) → r < files (m .rows) → blocksAt (m .rows) r < capacityAt (m .rows) r
+pub extend-good : (m : Memory) → Good m → (r : ℕ) → blocksAt (m .rows) r < capacityAt (m .rows) r
     → (store : List ℕ) → length store ≡ length (m .store)
     → Good (withStore store (withRows (setBlocks (m .rows) r (suc (blocksAt (m .rows) r))) m))
-extend-good m k r h room store e =
+extend-good m k r room store e =
     blocks-good m k r (suc (blocksAt (m .rows) r)) room
     (λ i l h q.
     let p = place-found (m .rows) (nameOf m i) (k .books .page i l h .1) in
@@ -74,9 +74,9 @@ extend-good m k r h room store e =
     store e
 
 -- no block left, where no buffer has a page of the file
-pub clear-good : (m : Memory) → Good m → (r : ℕ) → r < files (m .rows)
+pub clear-good : (m : Memory) → Good m → (r : ℕ)
     → ((i : ℕ) → i < buffers m → emptyAt m i ≡ false → nameOf m i .file ≡ fileAt (m .rows) r → ⊥)
     → Good (withRows (setBlocks (m .rows) r 0) m)
-clear-good m k r h none =
+clear-good m k r none =
     blocks-good m k r 0 (omega arith)
     (λ i l h q. absurd (none i l h (sym (row-found (m .rows) (nameOf m i .file) q .1)))) (m .store) refl

@@ -17,11 +17,11 @@ use Rattle.buftag.specs.Link.{none, linkOf, linkAt, Links, done, step, Holds}
 use Rattle.buftag.specs.Lookup.{used}
 use Rattle.buftag.specs.Chain.{ChainsSound}
 use Rattle.buftag.proofs.LinkLaws.{links-once}
-use Rattle.bufmodel.specs.Word.{bit, empty, dirty, soundWord}
 use Rattle.bufmodel.specs.Memory.{Memory, buffers, wordOf, nameOf}
 use Rattle.bufmodel.specs.Sizes.{SizedFor}
 use Rattle.bufmodel.specs.Books.{emptyAt, BooksSound}
 use Rattle.bufmodel.specs.Calls.{freeLinks, fresh}
+use Rattle.bufmodel.proofs.WordLaws.{zero-empty, zero-sound, zero-clean}
 use Rattle.bufmodel.proofs.GoodLaws.{Good}
 
 -- ---- the free list
@@ -71,19 +71,6 @@ free-from n (suc k) j e =
 pub fresh-free : (n : ℕ) → 0 < n → Links (freeLinks 0 n) (To 0) (rising 0 n)
 fresh-free zero h = absurd (omega arith)
 fresh-free (suc n) h = free-from (suc n) n 0 (omega arith)
-
--- ---- the words
-zero-empty : empty 0 ≡ true
-unfolding empty
-zero-empty = refl
-
-zero-sound : soundWord 0 ≡ true
-unfolding soundWord empty
-zero-sound = refl
-
-zero-clean : dirty 0 ≡ false
-unfolding dirty bit
-zero-clean = refl
 
 -- ---- the memory
 module _ (m : Memory) (p at : ℕ) where

@@ -1,6 +1,6 @@
 -- Memory that passes the places 1 and 2.
 use mathlib.Core.Path.{_≡_, _∙_, ap}
-use mathlib.Core.Bool.{true, false, not}
+use mathlib.Core.Bool.{true, not}
 use mathlib.Core.List.{List, _∷_}
 use Rattle.bufmodel.specs.Memory.{Memory, size}
 use Rattle.bufmodel.specs.Sizes.{SizedFor, sized}
@@ -10,10 +10,12 @@ use Rattle.bufmodel.proofs.SizesLaws.{sizes-say}
 use Rattle.bufmodel.proofs.BooksLaws.{books-say}
 use Rattle.bufmodel.proofs.OutcomeLaws.{refusal-past}
 
+-- its sizes fit and its books are sound
 pub record Good (m : Memory) : Type 0 where
   pub sizes : SizedFor (size m) m
   pub books : BooksSound m
 
+-- so the two tests say
 pub good-sized : (m : Memory) → Good m → sized m ≡ true
 unfolding sized
 good-sized m g = sizes-say (size m) m .shown (g .sizes)

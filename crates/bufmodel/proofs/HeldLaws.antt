@@ -2,9 +2,10 @@
 use Prim.Native.Nat.{ℕ, _<_}
 use mathlib.Core.Path.{_≡_, sym, ap, _∙_}
 use mathlib.Core.Bool.{Bool, true, false, not, _&&_}
+use mathlib.Core.Logic.{⊎-elim}
 use borrow.Author.Tests.{not-true}
 use Rattle.laws.specs.First.{Found, found, missing, first}
-use Rattle.laws.proofs.Tests.{and-true, and-left, and-right}
+use Rattle.laws.proofs.Tests.{and-true, and-left, and-right, true-or-false, never}
 use Rattle.laws.proofs.First.{first-found, first-only}
 use Rattle.buftag.specs.declared.name.PageName.{PageName}
 use Rattle.buftag.specs.declared.number.BufferNumber.{BufferNumber}
@@ -12,12 +13,13 @@ use Rattle.buftag.specs.declared.lookup.Held.the-variants.{At, Nowhere}
 use Rattle.buftag.specs.Name.{sameName}
 use Rattle.buftag.specs.Lookup.{used, heldOf, held}
 use Rattle.buftag.proofs.NameLaws.{says-same-name}
-use Rattle.buftag.proofs.WalkLaws.{not-at}
+use Rattle.buftag.proofs.WalkLaws.{At-same, not-at}
 use Rattle.buftag.proofs.LookupLaws.{held-nowhere}
-use Rattle.bufmodel.specs.Word.{empty}
+use Rattle.bufmodel.specs.Word.{empty, pinned, dirty}
 use Rattle.bufmodel.specs.Memory.{Memory, buffers, wordOf, nameOf}
 use Rattle.bufmodel.specs.Books.{emptyAt}
 use Rattle.bufmodel.specs.Pin.{heldIn}
+use Rattle.bufmodel.proofs.WordLaws.{empty-zero, zero-clean, zero-unpinned}
 use Rattle.bufmodel.proofs.GoodLaws.{Good}
 
 -- ---- a buffer is empty or in use
@@ -34,18 +36,27 @@ module _ (m : Memory) (i : ℕ) where
   unfolding emptyAt empty
   used-full u = not-true _ u
 
+  -- an empty buffer is not pinned: a buffer that is pinned, or dirty, is in use
+  pub empty-unpinned : emptyAt m i ≡ true → pinned (wordOf m i) ≡ false
+  unfolding emptyAt
+  empty-unpinned e = ap pinned (empty-zero (wordOf m i) e) ∙ zero-unpinned
+
+  pub pinned-full : pinned (wordOf m i) ≡ true → emptyAt m i ≡ false
+  pinned-full p = ⊎-elim (λ e. never p (empty-unpinned e)) (λ f. f) (true-or-false (emptyAt m i))
+
+  pub dirty-full : dirty (wordOf m i) ≡ true → emptyAt m i ≡ false
+  unfolding emptyAt
+  dirty-full d = ⊎-elim (λ e. never d (ap dirty (empty-zero (wordOf m i) e) ∙ zero-clean)) (λ f. f) (true-or-false (emptyAt m i))
+
 -- buffers with equal words are both empty or both in use
 pub empty-same : (m o : Memory) (i j : ℕ) → wordOf m i ≡ wordOf o j → emptyAt m i ≡ emptyAt o j
 unfolding emptyAt
 empty-same m o i j e = ap empty e
 
 -- ---- the answer of the look-up
-same-buffer : {a b : BufferNumber} → At a ≡ At b → a .0 ≡ b .0
-same-buffer e = cc
-
 -- the answer that a buffer has a name comes from a search that found it
 at-found : (f : Found) {b : BufferNumber} → heldOf f ≡ At b → f ≡ found (b .0)
-at-found (found i) e = ap found (same-buffer e)
+at-found (found i) e = ap found (At-same e)
 at-found missing e = not-at e
 
 module _ (m : Memory) (n : PageName) where
@@ -63,9 +74,9 @@ module _ (m : Memory) (n : PageName) where
   )
 
   -- where the look-up names no buffer, none holds a page of that name
-  pub held-none : heldIn m n ≡ Nowhere → (i : ℕ) → i < buffers m → emptyAt m i ≡ false → nameOf m i ≡ n → ⊥
+  pub held-none : heldIn m n ≡ Nowhere → (i : ℕ) → emptyAt m i ≡ false → nameOf m i ≡ n → ⊥
   unfolding heldIn
-  held-none e i l f q = held-nowhere (m .states) (m .names) n e i (full-used m i f) q
+  held-none e i f q = held-nowhere (m .states) (m .names) n e i (full-used m i f) q
 
 module _ (m : Memory) (k : Good m) (n : PageName) where
   -- the buffer that it names does

@@ -1,5 +1,5 @@
 -- Laws of the C side: the control record to words and back, and a call of the memory as it is lent.
-use Prim.Native.Nat.{ℕ, zero, suc, _^_, _<_}
+use Prim.Native.Nat.{ℕ, zero, suc, _<_}
 use mathlib.Core.Path.{_≡_, refl, sym, _∙_}
 use mathlib.Core.Logic.{_≢_, _⊎_, ⊎-elim}
 use mathlib.Core.List.{List}
@@ -33,10 +33,9 @@ unfolding topOf topWord
 word-of-top w = ⊎-elim (λ e. rw e (sym (eqb-true w oneBits e))) (λ e. rw e) (true-or-false (eqb w oneBits))
 
 -- ---- the control record as words
-pub words-of-control : (ws : List ℕ) → length ws ≡ controlWords → ((i : ℕ) → i < controlWords → getD ws i 0 < 2 ^ 64)
-    → wordsOf (controlOf ws) ≡ ws
+pub words-of-control : (ws : List ℕ) → length ws ≡ controlWords → wordsOf (controlOf ws) ≡ ws
 unfolding wordsOf controlOf
-words-of-control ws h fits =
+words-of-control ws h =
     rw (word-of-top (getD ws 2 0)) (sym (take-listed 5 ws 0 (omega arith)) ∙ take-all 5 ws (omega arith))
 
 pub control-of-words : (c : Control) → TopFits (c .top) → controlOf (wordsOf c) ≡ c

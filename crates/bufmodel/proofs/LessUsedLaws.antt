@@ -1,38 +1,57 @@
--- A word that lost some usage, and nothing else: what it still is. And the word of an empty buffer, 0.
-use Prim.Native.Nat.{ℕ, _/_, _%_, _^_}
+-- A word that lost some usage, and nothing else: what it still is.
+use Prim.Native.Nat.{ℕ, _-_, _/_, _%_, _^_, _≤_, _<_}
 use mathlib.Core.Path.{_≡_, refl, sym, ap, _∙_}
 use mathlib.Core.Bool.{true, false}
-use mathlib.Core.Logic.{_⊎_, ⊎-elim}
+use mathlib.Core.Logic.{⊎-elim}
+use mathlib.Core.List.{List}
 use native.Mathlib.Omega.{arith}
 use lib.Dec.{eqb}
-use borrow.Author.Tests.{eq-eqb, ne-eqb, eqb-true}
-use Rattle.laws.proofs.Tests.{true-or-false}
-use Rattle.bufmodel.specs.Word.{pins, usage, flags, cleanFlags, dirtyFlags, pinned, bit, dirty, empty, soundWord}
-use Rattle.bufmodel.proofs.WordLaws.{Held, held-sound, held-lt}
-use Rattle.bufmodel.proofs.SweepLaws.{LessUsed, pinned-same}
+use lib.ListN.{length, getD, set}
+use lib.Seq.{getD-set-same, getD-set-other}
+use borrow.Author.Tests.{eq-eqb}
+use Rattle.laws.proofs.Tests.{true-or-false, eq-or-ne}
+use Rattle.bufmodel.specs.Word.{pins, usage, flags, pack, pinned, bit, dirty, empty, soundWord, useLess}
+use Rattle.bufmodel.proofs.WordLaws.{empty-zero, zero-sound, pinned-same, Held, held-by, held-sound, held-lt}
 
--- ---- the word 0 has no pins, and is sound
-pub zero-unpinned : pinned 0 ≡ false
-unfolding pinned pins
-zero-unpinned = refl
+-- ---- a word that loses one usage
+pub less-pins : (w : ℕ) → pins (useLess w) ≡ pins w
+unfolding useLess pack pins usage flags
+less-pins w = omega arith
 
-zero-sound : soundWord 0 ≡ true
-unfolding soundWord empty
-zero-sound = refl
+pub less-usage : (w : ℕ) → usage (useLess w) ≡ usage w - 1
+unfolding useLess pack pins usage flags
+less-usage w = omega arith
 
-pub empty-zero : (w : ℕ) → empty w ≡ true → w ≡ 0
-unfolding empty
-empty-zero w e = eqb-true w 0 e
+pub less-flags : (w : ℕ) → flags (useLess w) ≡ flags w
+unfolding useLess pack pins usage flags
+less-flags w = omega arith
+
+-- the word v is w, of which usage may be lost, and nothing else
+pub record LessUsed (w v : ℕ) : Type 0 where
+  pub same-pins : pins v ≡ pins w
+  pub same-flags : flags v ≡ flags w
+  pub less : usage v ≤ usage w
+
+pub used-same : {w : ℕ} → LessUsed w w
+used-same = record { same-pins = refl; same-flags = refl; less = omega arith }
+
+pub used-then : {u v w : ℕ} → LessUsed u v → LessUsed v w → LessUsed u w
+used-then p q =
+    record { same-pins = q .same-pins ∙ p .same-pins; same-flags = q .same-flags ∙ p .same-flags; less = omega arith }
+
+pub used-less : (w : ℕ) → LessUsed w (useLess w)
+used-less w = record { same-pins = less-pins w; same-flags = less-flags w; less = omega (arith, less-usage w) }
+
+-- one word of a list, and so each
+pub set-less : (words : List ℕ) (k v : ℕ) → k < length words → LessUsed (getD words k 0) v
+    → (i : ℕ) → LessUsed (getD words i 0) (getD (set words k v) i 0)
+set-less words k v l h i =
+    ⊎-elim (λ e. rw e (rw (getD-set-same words k v 0 l) h)) (λ f. rw (getD-set-other words k i v 0 f) used-same) (eq-or-ne i k)
 
 -- ---- dirty is a flag
 dirty-flags : (w : ℕ) → dirty w ≡ eqb (flags w / 2 % 2) 1
 unfolding dirty bit flags
 dirty-flags w = let e : w / 2 ^ 23 % 2 ≡ w / 2 ^ 22 / 2 % 2 = omega arith in ap (λ (x : ℕ). eqb x 1) e
-
--- flags that a page has are not 0
-flags-full : (w : ℕ) → (flags w ≡ cleanFlags) ⊎ (flags w ≡ dirtyFlags) → empty w ≡ false
-unfolding empty flags
-flags-full w flag = ne-eqb w 0 (λ e. ⊎-elim (λ f. omega arith) (λ f. omega arith) flag)
 
 -- a word with no pins, no usage and no flags is 0
 fields-zero : (w : ℕ) → pins w ≡ 0 → usage w ≡ 0 → flags w ≡ 0 → empty w ≡ true
@@ -48,9 +67,7 @@ module _ {w v : ℕ} (less : LessUsed w v) where
 
   -- a buffer in use stays in use, and an empty one empty
   pub less-held : Held w → Held v
-  less-held k =
-      let flag : (flags v ≡ cleanFlags) ⊎ (flags v ≡ dirtyFlags) = rw (less .same-flags) (k .flag) in
-      record { full = flags-full v flag; few = omega arith; flag = flag }
+  less-held k = held-by v (omega (arith, k .few)) (rw (less .same-flags) (k .flag))
 
   less-zero : w ≡ 0 → empty v ≡ true
   unfolding pins usage flags

@@ -1,19 +1,27 @@
-pub mod WordLaws
+-- Laws of the pool's definitions, each module after those that it uses.
+
+-- parts of a memory: places and outcomes, positions, rows, words
+pub mod OutcomeLaws
 pub mod PositionLaws
 pub mod RowsLaws
+pub mod WordLaws
+-- memory that passes the places 1 and 2, and which buffer has a page there
 pub mod SizesLaws
 pub mod BooksLaws
-pub mod LentLaws
-pub mod OutcomeLaws
 pub mod GoodLaws
+pub mod HeldLaws
+-- changes that keep it so
+pub mod LikeLaws
+pub mod FreeListLaws
+pub mod LoadLaws
+pub mod ReleaseLaws
+pub mod FilesLaws
+pub mod DropLaws
+pub mod FreshLaws
+-- the sweep
+pub mod LessUsedLaws
 pub mod SweepLaws
 pub mod SweepEnds
-pub mod LikeLaws
-pub mod FreshLaws
-pub mod FilesLaws
-pub mod HeldLaws
-pub mod ReleaseLaws
-pub mod LoadLaws
-pub mod DropLaws
-pub mod LessUsedLaws
+-- the memory as it is lent
+pub mod LentLaws
 pub mod CalledLaws

@@ -1,30 +1,24 @@
--- The top of the free list, and load: a page comes into that buffer. What it does, and that the books stay sound.
+-- Load: a page comes into the buffer on top of the free list. What it does, and that the books stay sound.
 use Prim.Native.Nat.{ℕ, _<_}
-use mathlib.Core.Path.{_≡_, refl, sym, ap, _∙_, subst}
-use mathlib.Core.Bool.{Bool, true, false}
-use mathlib.Core.Logic.{_≢_, _⊎_, inl, inr, ⊎-elim}
-use mathlib.Core.List.{List, [], _∷_}
+use mathlib.Core.Path.{_≡_, sym, ap, _∙_}
+use mathlib.Core.Bool.{true, false}
+use mathlib.Core.Logic.{_≢_, ⊎-elim}
+use mathlib.Core.List.{List}
 use native.Mathlib.Omega.{arith}
-use lib.IntN.{ℤ, pos}
-use lib.ListN.{length, set, length-set}
+use lib.IntN.{pos}
+use lib.ListN.{length, length-set}
 use lib.Seq.{getD-set-same, getD-set-other}
 use borrow.Author.Tests.{eqb-false}
-use Rattle.laws.specs.Sum.{ind}
-use Rattle.laws.specs.Times.{times}
 use Rattle.laws.specs.First.{found}
 use Rattle.laws.specs.Block.{block}
-use Rattle.laws.proofs.Tests.{eq-or-ne, never, true-or-false}
-use Rattle.laws.proofs.Sum.{ind-one, ind-none}
-use Rattle.laws.proofs.Times.{times-here, times-other}
+use Rattle.laws.proofs.Tests.{eq-or-ne, never}
 use Rattle.laws.proofs.Block.{length-block, length-putBlock, block-put-same, block-put-other}
-use Rattle.buftag.specs.declared.link.Link.{Link}
-use Rattle.buftag.specs.declared.link.Link.the-variants.{To, End}
+use Rattle.buftag.specs.declared.link.Link.the-variants.{To}
 use Rattle.buftag.specs.declared.lookup.Held.the-variants.{Nowhere}
 use Rattle.buftag.specs.declared.name.PageName.{PageName}
-use Rattle.buftag.specs.Link.{linkOf, linkAt, Links, done, step, Holds}
+use Rattle.buftag.specs.Link.{linkOf, Holds}
 use Rattle.buftag.specs.Chain.{enterHeads, enterChain}
 use Rattle.buftag.proofs.NamesLaws.{length-setName, name-put, name-kept, name-in}
-use Rattle.buftag.proofs.LinkLaws.{links-kept, links-fresh, holds-pass}
 use Rattle.buftag.proofs.MoveLaws.{entered, distinct-entered}
 use Rattle.bufmodel.specs.Word.{empty, dirty, loaded, soundWord}
 use Rattle.bufmodel.specs.Rows.{placeOf, storeBlocks}
@@ -36,79 +30,20 @@ use Rattle.bufmodel.specs.Pin.{heldIn}
 use Rattle.bufmodel.proofs.WordLaws.{loaded-fields, held-sound, held-lt}
 use Rattle.bufmodel.proofs.RowsLaws.{place-in}
 use Rattle.bufmodel.proofs.GoodLaws.{Good}
+use Rattle.bufmodel.proofs.FreeListLaws.{holds-pop, top-empty, free-from}
 use Rattle.bufmodel.proofs.HeldLaws.{empty-unused, empty-same}
-
--- ---- lists that begin, and lists that are empty
--- a list from a place on is that place, and the list behind it
-links-to : {ls : List ℤ} {i : ℕ} {xs : List ℕ} → Links ls (To i) xs
-    → (ys : List ℕ) × (xs ≡ i ∷ ys) × (i < length ls) × Links ls (linkAt ls i) ys
-links-to (step {is = is} l r) = (is, refl, l, r)
-
--- where a list starts it ends, or leads to a place
-links-start : {ls : List ℤ} {l : Link} {xs : List ℕ} → Links ls l xs → (l ≡ End) ⊎ ((i : ℕ) × (l ≡ To i))
-links-start done = inl refl
-links-start (step {i = i} l r) = inr (i, refl)
-
-links-end : {ls : List ℤ} {xs : List ℕ} → Links ls End xs → xs ≡ []
-links-end done = refl
-
-none-in : (k : ℕ) → times k [] ≡ 0
-unfolding times
-none-in k = refl
-
-module _ {ls : List ℤ} {p : ℕ → Bool} where
-  -- the first place of a list passes
-  holds-first : {i : ℕ} → Holds ls (To i) p → (i < length ls) × (p i ≡ true)
-  holds-first {i} h =
-      let w = links-to (h .linked) in
-      (w .2, holds-pass h i (rw (w .1) (times-here i (w .0))))
-
-  -- where a list is empty, none passes
-  holds-end : Holds ls End p → (k : ℕ) → k < length ls → p k ≡ false
-  holds-end h k l =
-      ⊎-elim (λ t. absurd (omega (arith, ind-one t, sym (h .once k l) ∙ ap (times k) (links-end (h .linked)) ∙ none-in k))) (λ f. f)
-      (true-or-false (p k))
-
-  -- a list without its first place
-  holds-pop : {q : ℕ → Bool} (i : ℕ) (z : ℤ) → Holds ls (To i) p → q i ≡ false → ((k : ℕ) → k ≢ i → q k ≡ p k)
-      → Holds (set ls i z) (linkAt ls i) q
-  holds-pop {q} i z h out same =
-      let w = links-to (h .linked) in
-      let fresh : times i (w .0) ≡ 0 = links-fresh (subst (λ (xs : List ℕ). Links ls (To i) xs) (w .1) (h .linked)) in
-      record {
-        list = w .0;
-        linked = links-kept i z (w .3) fresh;
-        once = λ k b.
-            ⊎-elim
-            (λ e. rw e (fresh ∙ sym (ind-none out)))
-            (λ ne.
-            sym (times-other k i (w .0) ne) ∙ ap (times k) (sym (w .1)) ∙ h .once k (rw length-set at b) ∙ ap ind (sym (same k ne)))
-            (eq-or-ne k i);
-      }
-
--- ---- the top of the free list
-module _ (m : Memory) (k : Good m) where
-  -- it is a buffer, or the list is empty
-  pub top-none : (linkOf (m .control .top) ≡ End) ⊎ ((i : ℕ) × (linkOf (m .control .top) ≡ To i))
-  top-none = links-start (k .books .free .linked)
-
-  -- the free list from its start on, where that is known
-  free-from : {l : Link} → linkOf (m .control .top) ≡ l → Holds (m .free) l (emptyAt m)
-  free-from e = subst (λ (l : Link). Holds (m .free) l (emptyAt m)) e (k .books .free)
-
-  -- if the list is empty, no buffer is
-  pub top-end : linkOf (m .control .top) ≡ End → (i : ℕ) → i < buffers m → emptyAt m i ≡ false
-  top-end e i l = holds-end (free-from e) i (omega (arith, k .sizes .free))
-
-  -- its top is an empty buffer
-  pub top-empty : (i : ℕ) → linkOf (m .control .top) ≡ To i → (i < buffers m) × (emptyAt m i ≡ true)
-  top-empty i e = let w = holds-first (free-from e) in (omega (arith, k .sizes .free, w .0), w .1)
 
 -- ---- what load does
 pub load-is : (m : Memory) (n : PageName) (i g : ℕ) → linkOf (m .control .top) ≡ To i → placeOf (m .rows) n ≡ found g
     → load m n ≡ loadAt m n i g
 unfolding load loadTop
 load-is m n i g e f = rw (e, f)
+
+-- it leaves the hand
+pub load-hand : (m : Memory) (n : PageName) (i g : ℕ) → linkOf (m .control .top) ≡ To i → placeOf (m .rows) n ≡ found g
+    → load m n .control .hand ≡ m .control .hand
+unfolding loadAt
+load-hand m n i g top place = ap (λ (o : Memory). o .control .hand) (load-is m n i g top place)
 
 module _ (m : Memory) (n : PageName) (i g : ℕ) where
   pub load-buffers : buffers (loadAt m n i g) ≡ buffers m
@@ -148,9 +83,9 @@ module _ (m : Memory) (n : PageName) (i g : ℕ) where
     whole : length page ≡ size m
     whole = length-block (size m) (storeBlocks (m .rows)) g (m .store) (k .sizes .store) h
 
-    pub load-page : (j : ℕ) → j ≢ i → j < buffers m → pageOf (loadAt m n i g) j ≡ pageOf m j
+    pub load-page : (j : ℕ) → j ≢ i → pageOf (loadAt m n i g) j ≡ pageOf m j
     unfolding loadAt
-    load-page j ne b = block-put-other (size m) (buffers m) page (m .pool) (k .sizes .pool) whole i l j ne
+    load-page j ne = block-put-other (size m) (buffers m) page (m .pool) (k .sizes .pool) whole i l j ne
 
     pub load-own-page : pageOf (loadAt m n i g) i ≡ block (size m) g (m .store)
     unfolding loadAt
@@ -232,7 +167,7 @@ module _ (m : Memory) (k : Good m) (n : PageName) (i g : ℕ) (l : i < buffers m
                 (omega (arith, k .sizes .least, k .sizes .wide)) loaded-some (empty-unused m i (top-empty m k i top .1)) (b .chains);
             low = λ j q d.
                 let ne = load-dirty j d in
-                rw (load-page m n i g k l h j ne (rw s at q)) (b .low j (rw s at q) (rw (load-word m n i g j ne) at d));
+                rw (load-page m n i g k l h j ne) (b .low j (rw s at q) (rw (load-word m n i g j ne) at d));
           }
 
 pub load-good : (m : Memory) → Good m → (n : PageName) (i g : ℕ) → linkOf (m .control .top) ≡ To i → placeOf (m .rows) n ≡ found g

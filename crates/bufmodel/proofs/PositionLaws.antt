@@ -5,9 +5,9 @@ use mathlib.Core.Bool.{true}
 use mathlib.Core.List.{List, [], _∷_, _++_}
 use native.Mathlib.Omega.{arith}
 use lib.Dec.{ltb}
-use lib.ListN.{length, getD, take, length-append, length-take, length-drop}
+use lib.ListN.{length, getD, take, replicate, length-append, length-take, length-drop}
 use borrow.Author.Tests.{ltb-true}
-use Rattle.laws.proofs.Lists.{take-listed}
+use Rattle.laws.proofs.Lists.{take-listed, getD-replicate-all}
 use Rattle.buftag.specs.declared.name.PageName.{PageName}
 use Rattle.buftag.specs.Bytes.{wordBytes, wordAt}
 use Rattle.buftag.specs.Name.{nameOf}
@@ -20,7 +20,8 @@ word-of-bytes : (w : ℕ) → w < 2 ^ 32 → wordAt (wordBytes w) 0 ≡ w
 word-of-bytes w h =
     let zero : 0 < 2 ^ 32 = omega arith in
     ap (λ (n : PageName). n .file .tablespace)
-    (name-of-bytes (nameOf w 0 0 0 0) (record { file = record { tablespace = h; database = zero; relation = zero; fork = zero }; block = zero }))
+    (name-of-bytes (nameOf w 0 0 0 0)
+    (record { file = record { tablespace = h; database = zero; relation = zero; fork = zero }; block = zero }))
 
 module _ {a b c d : ℕ} (ha : a < 256) (hb : b < 256) (hc : c < 256) (hd : d < 256) where
   word-lt : a + b * 256 + c * 65536 + d * 16777216 < 2 ^ 32
@@ -63,7 +64,11 @@ unfolding written paste positionBytes
 length-written p from new page h long = simp (length-append, length-take, length-drop) (omega arith)
 
 -- it bears the position that it was written with
-pub position-written : (p from : ℕ) (new page : List ℕ) → from + length new ≤ length page → 8 ≤ length page → p < 2 ^ 64
-    → position (written p from new page) ≡ p
+pub position-written : (p from : ℕ) (new page : List ℕ) → p < 2 ^ 64 → position (written p from new page) ≡ p
 unfolding written paste
-position-written p from new page fits long h = position-of-bytes p _ h
+position-written p from new page h = position-of-bytes p _ h
+
+-- a page of zeros is at 0
+pub position-zeros : (n : ℕ) → position (replicate n 0) ≡ 0
+unfolding position
+position-zeros n = simp getD-replicate-all

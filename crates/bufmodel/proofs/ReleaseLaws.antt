@@ -1,31 +1,27 @@
 -- Release: a buffer in use is emptied and put on top of the free list. What it does, and that the books stay sound.
-use Prim.Native.Nat.{ℕ, suc, _<_}
+use Prim.Native.Nat.{ℕ, _<_}
 use mathlib.Core.Path.{_≡_, refl, sym, ap, _∙_}
-use mathlib.Core.Bool.{Bool, true, false}
+use mathlib.Core.Bool.{true, false}
 use mathlib.Core.Logic.{_≢_, ⊎-elim}
-use mathlib.Core.List.{List, _∷_}
 use native.Mathlib.Omega.{arith}
-use lib.IntN.{ℤ, pos}
+use lib.IntN.{pos}
 use lib.ListN.{length, set, length-set}
 use lib.Seq.{getD-set-same, getD-set-other}
-use Rattle.laws.specs.Sum.{ind}
-use Rattle.laws.specs.Times.{times}
 use Rattle.laws.proofs.Tests.{eq-or-ne, never}
-use Rattle.laws.proofs.Sum.{ind-one, ind-none}
-use Rattle.laws.proofs.Times.{times-self, times-other}
 use Rattle.buftag.specs.declared.link.Link.the-variants.{To}
 use Rattle.buftag.specs.Names.{noName}
 use Rattle.buftag.specs.Link.{linkOf, Holds}
 use Rattle.buftag.proofs.NamesLaws.{length-setName, name-put, name-kept, name-in}
-use Rattle.buftag.proofs.LinkLaws.{links-push}
 use Rattle.buftag.proofs.UnchainLaws.{length-unchain, length-unchain-heads}
 use Rattle.buftag.proofs.MoveLaws.{left, distinct-left}
-use Rattle.bufmodel.specs.Word.{empty, dirty, bit, soundWord}
+use Rattle.bufmodel.specs.Word.{empty, dirty, soundWord}
 use Rattle.bufmodel.specs.Memory.{Memory, buffers, size, wordOf, nameOf}
 use Rattle.bufmodel.specs.Sizes.{SizedFor}
 use Rattle.bufmodel.specs.Books.{emptyAt, BooksSound}
 use Rattle.bufmodel.specs.Moves.{release}
+use Rattle.bufmodel.proofs.WordLaws.{zero-sound, zero-clean}
 use Rattle.bufmodel.proofs.GoodLaws.{Good}
+use Rattle.bufmodel.proofs.FreeListLaws.{holds-push}
 use Rattle.bufmodel.proofs.HeldLaws.{full-used, empty-same}
 
 -- ---- what it does
@@ -63,31 +59,7 @@ module _ (m : Memory) (i : ℕ) where
   unfolding release
   release-own-name k l = name-put (m .names) i noName (name-in (buffers m) i (m .names) (k .sizes .names) l)
 
--- ---- a place that is not in a list, put before it
-holds-push : {ls : List ℤ} {p q : ℕ → Bool} (i : ℕ) (z : ℤ) → i < length ls → Holds ls (linkOf z) p → p i ≡ false → q i ≡ true
-    → ((k : ℕ) → k ≢ i → q k ≡ p k) → Holds (set ls i z) (To i) q
-holds-push {ls} {p} {q} i z l h out now same =
-    let none : times i (h .list) ≡ 0 = h .once i l ∙ ind-none out in
-    record {
-      list = i ∷ h .list;
-      linked = links-push i z l (h .linked) none;
-      once = λ k b.
-          ⊎-elim
-          (λ e. rw e (times-self i (h .list) ∙ ap suc none ∙ sym (ind-one now)))
-          (λ ne. times-other k i (h .list) ne ∙ h .once k (rw length-set at b) ∙ ap ind (sym (same k ne)))
-          (eq-or-ne k i);
-    }
-
 -- ---- the sizes and the books afterwards
--- the word 0 is sound, and not dirty
-zero-sound : soundWord 0 ≡ true
-unfolding soundWord empty
-zero-sound = refl
-
-zero-clean : dirty 0 ≡ false
-unfolding dirty bit
-zero-clean = refl
-
 module _ (m : Memory) (k : Good m) (i : ℕ) (l : i < buffers m) where
   release-sizes : SizedFor (size (release m i)) (release m i)
   unfolding release

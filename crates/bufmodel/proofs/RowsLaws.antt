@@ -11,7 +11,7 @@ use borrow.Author.Tests.{lt-ltb, ltb-true, le-ltb, eq-eqb}
 use Rattle.laws.specs.First.{Found, found, missing}
 use Rattle.laws.specs.Sum.{sum}
 use Rattle.laws.proofs.Tests.{and-true, never, lt-or-le, eq-or-ne}
-use Rattle.laws.proofs.First.{found-same, first-found, first-missing, first-only, first-same, cond-found}
+use Rattle.laws.proofs.First.{found-same, found-missing, first-found, first-missing, first-only, first-same, cond-found}
 use Rattle.laws.proofs.Sum.{sum-grows, sum-same}
 use Rattle.buftag.specs.declared.name.FileName.{FileName}
 use Rattle.buftag.specs.declared.name.PageName.{PageName}
@@ -82,7 +82,7 @@ unfolding placeIn
 in-found rows b (found r) e =
     let w = cond-found (ltb b (blocksAt rows r)) e in
     (r, refl, ltb-true b (blocksAt rows r) (w .0), sym (w .1))
-in-found rows b missing e = absurd (let z : _≡_ {A = ℕ} 0 1 = cc in omega arith)
+in-found rows b missing e = found-missing (sym e)
 
 module _ (rows : List ℕ) (n : PageName) where
   -- a page with a place is a block of a file in the rows

@@ -13,8 +13,9 @@ use Rattle.laws.specs.First.{Found, found, missing}
 use Rattle.laws.proofs.Tests.{eq-or-ne, true-or-false, lt-or-le}
 use Rattle.bufmodel.specs.Word.{usage, pinned, maxUsage, useLess}
 use Rattle.bufmodel.specs.Sweep.{Swept, swept, next, Sweeps, passes, stops, lowers, takes, sweep, sweepAll}
-use Rattle.bufmodel.proofs.SweepLaws.{less-pins, less-usage, pinned-same, next-end, next-on, next-lt}
-use Rattle.bufmodel.proofs.SweepLaws.{sweep-of, sweep-is, sweeps-same}
+use Rattle.bufmodel.proofs.WordLaws.{pinned-same}
+use Rattle.bufmodel.proofs.LessUsedLaws.{less-pins, less-usage}
+use Rattle.bufmodel.proofs.SweepLaws.{next-end, next-on, next-lt, sweep-of, sweep-is, sweeps-same}
 
 -- ---- the hand comes to buffer k after d more probes
 pub data Ahead (n hand k d : ℕ) : Type 0 where
@@ -228,11 +229,11 @@ sweepAll-relates words hand h few =
     rw (sweep-is ((maxUsage + 1) * length words) (r .sweeps) (r .within)) (r .sweeps, r .within)
 
 -- a buffer is unpinned: it finds a victim
-pub sweep-finds : (words : List ℕ) (hand : ℕ) → 0 < length words → hand < length words → (k : ℕ) → k < length words
+pub sweep-finds : (words : List ℕ) (hand : ℕ) → hand < length words → (k : ℕ) → k < length words
     → pinned (getD words k 0) ≡ false → ((i : ℕ) → i < length words → usage (getD words i 0) ≤ maxUsage)
     → (v : ℕ) × (sweepAll words hand .victim ≡ found v) × (sweepAll words hand .probes ≤ (maxUsage + 1) * length words)
     × Sweeps (length words) 0 hand words (sweepAll words hand)
-sweep-finds words hand pos h k l e few =
+sweep-finds words hand h k l e few =
     let n = length words in
     let a = ahead-some n hand k h l in
     let f = finds n k l _ (a .0) 0 hand words refl h (a .1) (omega (arith, a .2)) e refl in
@@ -249,6 +250,7 @@ module _ (n k : ℕ) (kn : k < n) (words : List ℕ) (held : (i : ℕ) → i < n
       let r = stuck d (suc run) (next n hand) l (ahead-next n (next n hand) k d l kn a) (omega arith) in
       rw (← add-one (suc d)) (passes {run = run} (held hand h) (omega arith) r)
 
+-- so the sweep of a pool with every buffer pinned finds none, after one probe for each
 pub sweep-stuck : (words : List ℕ) (hand : ℕ) → hand < length words
     → ((i : ℕ) → i < length words → pinned (getD words i 0) ≡ true)
     → (s : Swept) × Sweeps (length words) 0 hand words s × (s .victim ≡ missing) × (s .probes ≡ length words)

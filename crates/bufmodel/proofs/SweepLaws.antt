@@ -1,35 +1,19 @@
 -- Laws of the sweep as published: the function computes its end, and what an end leaves of the words.
-use Prim.Native.Nat.{ℕ, zero, suc, _+_, _-_, _≤_, _<_}
+use Prim.Native.Nat.{ℕ, zero, suc, _+_, _≤_, _<_}
 use native.Mathlib.Omega.{arith}
 use mathlib.Core.Path.{_≡_, refl, sym, ap, _∙_}
 use mathlib.Core.Bool.{true, false}
 use mathlib.Core.Logic.{_≢_, ⊎-elim}
 use mathlib.Core.List.{List}
 use lib.ListN.{length, getD, set, length-set}
-use lib.Seq.{getD-set-same, getD-set-other}
+use lib.Seq.{getD-set-other}
 use borrow.Author.Tests.{eq-eqb, ne-eqb}
 use Rattle.laws.specs.First.{found, missing}
-use Rattle.laws.proofs.First.{found-same}
+use Rattle.laws.proofs.First.{found-same, found-missing}
 use Rattle.laws.proofs.Tests.{eq-or-ne, never}
-use Rattle.bufmodel.specs.Word.{pins, usage, flags, pack, pinned, useLess}
+use Rattle.bufmodel.specs.Word.{usage, pinned, useLess}
 use Rattle.bufmodel.specs.Sweep.{Swept, swept, next, Sweeps, passes, stops, lowers, takes, sweep}
-
--- ---- a word that loses one usage
-pub less-pins : (w : ℕ) → pins (useLess w) ≡ pins w
-unfolding useLess pack pins usage flags
-less-pins w = omega arith
-
-pub less-usage : (w : ℕ) → usage (useLess w) ≡ usage w - 1
-unfolding useLess pack pins usage flags
-less-usage w = omega arith
-
-pub less-flags : (w : ℕ) → flags (useLess w) ≡ flags w
-unfolding useLess pack pins usage flags
-less-flags w = omega arith
-
-pub pinned-same : (v w : ℕ) → pins v ≡ pins w → pinned v ≡ pinned w
-unfolding pinned
-pinned-same v w e = rw e
+use Rattle.bufmodel.proofs.LessUsedLaws.{LessUsed, used-same, used-then, used-less, set-less}
 
 -- ---- the hand
 pub next-end : (n hand : ℕ) → suc hand ≡ n → next n hand ≡ 0
@@ -81,37 +65,18 @@ sweep-of (suc fuel) probes (lowers {s} e l r) h =
     step-lowers _ _ _ _ _ _ e l ∙ sweep-of fuel (suc probes) r (omega arith) ∙ ap (swept (s .victim) (s .words) (s .hand)) (omega arith)
 sweep-of (suc fuel) probes (takes e z) h = step-takes _ _ _ _ _ _ e z ∙ ap (swept _ _ _) (omega arith)
 
+-- with no probes before
 pub sweep-is : {n run hand : ℕ} {words : List ℕ} {s : Swept} (fuel : ℕ) → Sweeps n run hand words s → s .probes ≤ fuel
     → sweep fuel n run 0 hand words ≡ s
 sweep-is {s} fuel r h = sweep-of fuel 0 r h ∙ ap (swept (s .victim) (s .words) (s .hand)) (omega arith)
 
+-- a sweep has one end
 pub sweeps-same : {n run hand : ℕ} {words : List ℕ} {s t : Swept} → Sweeps n run hand words s → Sweeps n run hand words t → s ≡ t
 sweeps-same {s} {t} a b =
     let fuel = s .probes + t .probes in
     sym (sweep-is fuel a (omega arith)) ∙ sweep-is fuel b (omega arith)
 
 -- ---- what a sweep leaves
--- the word v is w, of which usage may be lost, and nothing else
-pub record LessUsed (w v : ℕ) : Type 0 where
-  pub same-pins : pins v ≡ pins w
-  pub same-flags : flags v ≡ flags w
-  pub less : usage v ≤ usage w
-
-used-same : {w : ℕ} → LessUsed w w
-used-same = record { same-pins = refl; same-flags = refl; less = omega arith }
-
-used-then : {u v w : ℕ} → LessUsed u v → LessUsed v w → LessUsed u w
-used-then p q =
-    record { same-pins = q .same-pins ∙ p .same-pins; same-flags = q .same-flags ∙ p .same-flags; less = omega arith }
-
-used-less : (w : ℕ) → LessUsed w (useLess w)
-used-less w = record { same-pins = less-pins w; same-flags = less-flags w; less = omega (arith, less-usage w) }
-
-set-less : (words : List ℕ) (k v : ℕ) → k < length words → LessUsed (getD words k 0) v
-    → (i : ℕ) → LessUsed (getD words i 0) (getD (set words k v) i 0)
-set-less words k v l h i =
-    ⊎-elim (λ e. rw e (rw (getD-set-same words k v 0 l) h)) (λ f. rw (getD-set-other words k i v 0 f) used-same) (eq-or-ne i k)
-
 pub record SweptFrom (words : List ℕ) (s : Swept) : Type 0 where
   pub same-length : length (s .words) ≡ length words
   pub each : (i : ℕ) → LessUsed (getD words i 0) (getD (s .words) i 0)
@@ -131,6 +96,7 @@ from-earlier len kept f =
       taken = rw len at (f .taken);
     }
 
+-- every sweep leaves them so
 pub sweeps-from : {n run hand : ℕ} {words : List ℕ} {s : Swept} → hand < n → length words ≡ n → Sweeps n run hand words s
     → SweptFrom words s
 sweeps-from h len (passes e l r) = from-earlier refl (λ i. used-same) (sweeps-from (next-lt _ _ h) len r)
@@ -139,7 +105,7 @@ sweeps-from {n} {hand} h len (stops e q) =
       same-length = refl;
       each = λ i. used-same;
       hand-lt = omega (arith, next-lt n hand h);
-      taken = λ v q. absurd (let z : _≡_ {A = ℕ} 0 1 = cc in omega arith);
+      taken = λ v q. found-missing (sym q);
     }
 sweeps-from h len (lowers {hand} {words} e l r) =
     let same = length-set words hand (useLess (getD words hand 0)) in

@@ -1,12 +1,12 @@
 -- Laws of state words: the fields of a word, the words of buffers in use, and what the changes do to them.
 use Prim.Native.Nat.{ℕ, _+_, _-_, _/_, _%_, _^_, _≤_, _<_}
-use mathlib.Core.Path.{_≡_, refl, sym, _∙_}
+use mathlib.Core.Path.{_≡_, refl, sym, ap, _∙_}
 use mathlib.Core.Bool.{Bool, true, false, not, _&&_, _||_, cond, Bool·beq}
 use mathlib.Core.Logic.{_⊎_, inl, inr, ⊎-elim}
 use native.Mathlib.Nat.{div-div-eq-div-mul}
 use native.Mathlib.Omega.{arith}
 use lib.Dec.{eqb}
-use borrow.Author.Tests.{eq-eqb, ne-eqb, eqb-false, not-true}
+use borrow.Author.Tests.{eq-eqb, ne-eqb, eqb-true, eqb-false, not-true, not-false}
 use Rattle.laws.specs.Every.{all}
 use Rattle.laws.specs.Says.{Says}
 use Rattle.laws.proofs.Tests.{true-or-false, beq-true}
@@ -50,6 +50,44 @@ pub flags-lt : (w : ℕ) → w < 2 ^ 32 → flags w < 2 ^ 10
 unfolding flags
 flags-lt w h = omega arith
 
+-- ---- the word of an empty buffer
+pub zero-empty : empty 0 ≡ true
+unfolding empty
+zero-empty = refl
+
+pub empty-zero : (w : ℕ) → empty w ≡ true → w ≡ 0
+unfolding empty
+empty-zero w e = eqb-true w 0 e
+
+pub zero-sound : soundWord 0 ≡ true
+unfolding soundWord empty
+zero-sound = refl
+
+pub zero-clean : dirty 0 ≡ false
+unfolding dirty bit
+zero-clean = refl
+
+pub zero-unpinned : pinned 0 ≡ false
+unfolding pinned pins
+zero-unpinned = refl
+
+-- ---- a word is pinned while its count is not 0
+pub pinned-pins : (w : ℕ) → pinned w ≡ true → 0 < pins w
+unfolding pinned
+pinned-pins w h = let ne = eqb-false (pins w) 0 (not-true _ h) in omega arith
+
+pub pins-pinned : (w : ℕ) → 0 < pins w → pinned w ≡ true
+unfolding pinned
+pins-pinned w h = ap not (ne-eqb (pins w) 0 (omega arith))
+
+pub unpinned-none : (w : ℕ) → pinned w ≡ false → pins w ≡ 0
+unfolding pinned
+unpinned-none w e = eqb-true (pins w) 0 (not-false _ e)
+
+pub pinned-same : (v w : ℕ) → pins v ≡ pins w → pinned v ≡ pinned w
+unfolding pinned
+pinned-same v w e = rw e
+
 -- ---- the flags as one number
 -- the test of the flags, over the ten bits of that number
 right : ℕ → Bool
@@ -83,9 +121,9 @@ pub record Held (w : ℕ) : Type 0 where
   pub flag : (flags w ≡ cleanFlags) ⊎ (flags w ≡ dirtyFlags)
 
 -- it is not 0, since its flags are not
-held-of : (w : ℕ) → usage w ≤ maxUsage → (flags w ≡ cleanFlags) ⊎ (flags w ≡ dirtyFlags) → Held w
+pub held-by : (w : ℕ) → usage w ≤ maxUsage → (flags w ≡ cleanFlags) ⊎ (flags w ≡ dirtyFlags) → Held w
 unfolding empty flags
-held-of w few flag =
+held-by w few flag =
     record { full = ne-eqb w 0 (λ e. ⊎-elim (λ f. omega arith) (λ f. omega arith) flag); few = few; flag = flag }
 
 -- the test of a word decides that it is 0 or so
@@ -93,7 +131,7 @@ word-says : (w : ℕ) → w < 2 ^ 32 → Says (soundWord w) (empty w ≡ false �
 unfolding soundWord
 word-says w h =
     says-else (empty w)
-    (says-as (λ s. held-of w (s .0) (s .1)) (λ k. (k .few, k .flag))
+    (says-as (λ s. held-by w (s .0) (s .1)) (λ k. (k .few, k .flag))
     (says-and (says-le (usage w) maxUsage) (rw (sound-flags w h) (says-or (says-eq (flags w) cleanFlags) (says-eq (flags w) dirtyFlags)))))
 
 -- a sound word other than 0 is so, and back
@@ -131,13 +169,8 @@ packed : (p u f : ℕ) → p < 2 ^ 18 → u ≤ maxUsage → (f ≡ cleanFlags) 
 packed p u f hp hu hf =
     let fs = flags-pack p u f hp (omega arith) in
     let us = usage-pack p u f hp (omega arith) in
-    let k : Held (pack p u f) = held-of (pack p u f) (rw us hu) (rw fs hf) in
+    let k : Held (pack p u f) = held-by (pack p u f) (rw us hu) (rw fs hf) in
     record { held = k; pins = pins-pack p u f hp (omega arith); usage = us; flags = fs; dirty = dirty-is k ∙ rw fs refl }
-
--- a pinned word's count is not 0, so that one pin less is a change
-pub pinned-pins : (w : ℕ) → pinned w ≡ true → 0 < pins w
-unfolding pinned
-pinned-pins w h = let ne = eqb-false (pins w) 0 (not-true _ h) in omega arith
 
 -- one use more, up to the greatest count
 few-more : (u : ℕ) → u ≤ maxUsage → cond (eqb u maxUsage) u (u + 1) ≤ maxUsage

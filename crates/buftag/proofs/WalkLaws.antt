@@ -29,7 +29,7 @@ use Rattle.buftag.proofs.link.Link.{the-type}
 use Rattle.buftag.proofs.TagLaws.{no-tag}
 use Rattle.buftag.proofs.NameLaws.{says-same-name}
 
-At-same : {a b : BufferNumber} → At a ≡ At b → a .0 ≡ b .0
+pub At-same : {a b : BufferNumber} → At a ≡ At b → a .0 ≡ b .0
 At-same e = cc
 
 -- no buffer is not a buffer

@@ -3,7 +3,7 @@ use Prim.Native.Nat.{ℕ, zero, suc, _<_}
 use native.Mathlib.Omega.{arith}
 use native.Mathlib.Numerals.{add-one}
 use native.Mathlib.Nat.{not-suc-le-zero}
-use mathlib.Core.Path.{_≡_, refl, ap, _∙_, subst}
+use mathlib.Core.Path.{_≡_, refl, sym, ap, _∙_, subst}
 use mathlib.Core.Bool.{Bool, true, false, cond}
 use borrow.Author.Count.{below-more}
 use Rattle.laws.specs.First.{Found, found, missing, orElse, first}
@@ -12,18 +12,21 @@ use Rattle.laws.proofs.Tests.{never}
 pub found-same : {i j : ℕ} → found i ≡ found j → i ≡ j
 found-same e = cc
 
+pub found-missing : {A : Type 0} {i : ℕ} → found i ≡ missing → A
+found-missing e = absurd (let z : _≡_ {A = ℕ} 0 1 = cc in omega arith)
+
 module _ (p : ℕ → Bool) where
   -- what is found passes
   pub first-found : (n : ℕ) {i : ℕ} → first n p ≡ found i → (i < n) × (p i ≡ true)
   unfolding first
-  first-found zero e = absurd (let z : _≡_ {A = ℕ} 0 1 = cc in omega arith)
+  first-found zero e = found-missing (sym e)
   first-found (suc n) {i} e = go (first n p) refl (p n) refl e (λ q. first-found n q)
     where
       go : (f : Found) → first n p ≡ f → (t : Bool) → p n ≡ t → orElse f (cond t (found n) missing) ≡ found i
           → (first n p ≡ found i → (i < n) × (p i ≡ true)) → (i < suc n) × (p i ≡ true)
       go (found j) q t r e ih = let w = ih (q ∙ e) in (omega (arith, w .0), w .1)
       go missing q true r e ih = let s : n ≡ i = found-same e in (omega arith, subst (λ (k : ℕ). p k ≡ true) s r)
-      go missing q false r e ih = absurd (let z : _≡_ {A = ℕ} 0 1 = cc in omega arith)
+      go missing q false r e ih = found-missing (sym e)
 
   -- where none is found, none passes
   pub first-missing : (n : ℕ) → first n p ≡ missing → (i : ℕ) → i < n → p i ≡ false
@@ -33,8 +36,8 @@ module _ (p : ℕ → Bool) where
     where
       go : (f : Found) → first n p ≡ f → (t : Bool) → p n ≡ t → orElse f (cond t (found n) missing) ≡ missing
           → (first n p ≡ missing → (j : ℕ) → j < n → p j ≡ false) → p i ≡ false
-      go (found j) q t r e ih = absurd (let z : _≡_ {A = ℕ} 0 1 = cc in omega arith)
-      go missing q true r e ih = absurd (let z : _≡_ {A = ℕ} 0 1 = cc in omega arith)
+      go (found j) q t r e ih = found-missing e
+      go missing q true r e ih = found-missing e
       go missing q false r e ih = below-more (λ k. p k ≡ false) n (ih q) r i (rw add-one l)
 
   -- the one that passes is found
@@ -62,4 +65,4 @@ first-same p q (suc n) h = rw (first-same p q n (λ i l. h i (omega arith)), h n
 -- what is found where a test decides: the test held
 pub cond-found : (t : Bool) {i j : ℕ} → cond t (found i) missing ≡ found j → (t ≡ true) × (i ≡ j)
 cond-found true e = (refl, found-same e)
-cond-found false e = absurd (let z : _≡_ {A = ℕ} 0 1 = cc in omega arith)
+cond-found false e = found-missing (sym e)

@@ -5,12 +5,14 @@ use native.Mathlib.Nat.{not-suc-le-zero, le-antisymm, eq-or-lt-of-le}
 use native.Mathlib.Omega.{arith}
 use mathlib.Core.Path.{_≡_, refl, sym, ap, _∙_, subst}
 use mathlib.Core.Bool.{Bool, true, false, _&&_}
-use mathlib.Core.Logic.{⊎-elim}
+use mathlib.Core.Logic.{_↔_, ⊎-elim}
 use lib.Dec.{eqb}
 use borrow.Author.Count.{below-more}
 use borrow.Author.Tests.{eq-eqb, ne-eqb, eqb-true}
+use Rattle.laws.specs.Every.{all}
 use Rattle.laws.specs.Sum.{sum, ind, count}
-use Rattle.laws.proofs.Tests.{at-end, lt-or-le, same-tests, true-or-false}
+use Rattle.laws.proofs.Tests.{at-end, lt-or-le, never, same-tests, true-or-false}
+use Rattle.laws.proofs.Every.{all-at, all-of}
 
 module _ (f : ℕ → ℕ) where
   pub sum-none : sum 0 f ≡ 0
@@ -145,3 +147,36 @@ sum-ones (suc n) = omega (arith, sum-ones n)
 pub ind-some : (b : Bool) → 0 < ind b → b ≡ true
 ind-some true h = refl
 ind-some false h = absurd (not-suc-le-zero h)
+
+-- ---- counts of few or all
+module _ (p : ℕ → Bool) (n : ℕ) where
+  -- at most one index passes
+  pub count-only : (i : ℕ) → i < n → ((j : ℕ) → j < n → p j ≡ true → j ≡ i) → count n p ≡ ind (p i)
+  unfolding count
+  count-only i h only =
+      ⊎-elim
+      (λ t.
+      sum-same (λ k. ind (p k)) (λ k. ind (eqb k i)) n (λ k l.
+      ap ind (same-tests (p k) (eqb k i) (λ e. eq-eqb k i (only k l e)) (λ e. ap p (eqb-true k i e) ∙ t)))
+      ∙ sum-point i n h ∙ sym (ind-one t))
+      (λ f.
+      sum-zero (λ k. ind (p k)) n (λ k l.
+      ind-none (⊎-elim (λ t. never t (ap p (only k l t) ∙ f)) (λ e. e) (true-or-false (p k))))
+      ∙ sym (ind-none f))
+      (true-or-false (p i))
+
+  -- no index passes
+  pub count-nobody : ((j : ℕ) → j < n → p j ≡ true → ⊥) → count n p ≡ 0
+  unfolding count
+  count-nobody none =
+      sum-zero (λ k. ind (p k)) n (λ k l. ind-none (⊎-elim (λ t. absurd (none k l t)) (λ e. e) (true-or-false (p k))))
+
+  -- all are counted exactly when all pass
+  pub count-all : (count n p ≡ n) ↔ (all n p ≡ true)
+  unfolding count
+  count-all = (
+    λ e.
+        let each = sum-tight (λ k. ind (p k)) (λ k. 1) n (λ k h. ind-le (p k)) (e ∙ sym (sum-ones n)) in
+        all-of p n (λ i l. ind-some (p i) (omega (arith, each i l))),
+    λ h. sum-same (λ k. ind (p k)) (λ k. 1) n (λ k l. ind-one (all-at p n h k l)) ∙ sum-ones n,
+  )

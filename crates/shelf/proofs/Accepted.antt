@@ -1,8 +1,7 @@
 -- An accepted call: what it has to show, and that this is all.
 use Prim.Native.Nat.{ℕ, _+_, _≤_, _<_}
-use mathlib.Core.Path.{_≡_, refl, sym, ap, _∙_, subst}
-use mathlib.Core.Logic.{_≢_}
-use mathlib.Core.Bool.{Bool, true, false}
+use mathlib.Core.Path.{_≡_, refl, sym, _∙_, subst}
+use mathlib.Core.Bool.{false}
 use mathlib.Core.List.{List}
 use native.Mathlib.Omega.{arith}
 use lib.ListN.{length}
@@ -11,10 +10,10 @@ use Rattle.laws.specs.Block.{block}
 use Rattle.bufmodel.specs.Position.{position}
 use Rattle.bufmodel.specs.Rows.{files, blocksAt, rowOf, startOf, storeBlocks, placeOf}
 use Rattle.bufmodel.specs.Memory.{Memory, buffers, size}
-use Rattle.bufmodel.specs.Outcome.{Outcome, done}
+use Rattle.bufmodel.specs.Outcome.{done}
 use Rattle.bufmodel.specs.Step.{Call, Pin, Unpin, Read, Write, Flush, Checkpoint, Peek, Extend, Drop, LogInserted, LogFlushed}
 use Rattle.shelf.specs.Shelf.{Shelf, refuses, pinnedAt, unpinnedAt, writtenAt, extendedAt, droppedAt, shelfAfter}
-use Rattle.shelf.specs.Ledger.{Ledger, bufferIn, putBy, flushedAfter, acceptedBy, ledgerAfter, puts}
+use Rattle.shelf.specs.Ledger.{Ledger, bufferIn, putBy, acceptedBy, ledgerAfter, puts}
 use Rattle.shelf.specs.Statement.{Answers, Shows}
 use Rattle.shelf.proofs.Kept.{View, shelfOf, ledgerOf, viewOf, Kept, Ended}
 use Rattle.shelf.proofs.Refused.{PinSays}
@@ -26,6 +25,7 @@ ledgerThen m v c answer = acceptedBy (ledgerOf m v) c answer
 abbrev pub shelfThen : Memory → View → Call → List ℕ → Shelf
 shelfThen m v c answer = ledgerThen m v c answer .shelf
 
+-- an accepted call that answered so, handed these bytes back and left memory m′
 pub record Accepted (m : Memory) (v : View) (c : Call) (answer bytes : List ℕ) (m′ : Memory) : Type 0 where
   pub number : refuses (shelfOf m v) c ≡ 0
   pub answers : Answers (done answer bytes m′) c

@@ -7,28 +7,22 @@ use mathlib.Core.List.{List}
 use native.Mathlib.Nat.{not-suc-le-zero}
 use native.Mathlib.Omega.{arith}
 use lib.ListN.{length, getD, length-set}
-use borrow.Author.Tests.{ne-eqb}
 use Rattle.laws.specs.First.{found}
 use Rattle.laws.specs.Block.{block}
 use Rattle.laws.proofs.Tests.{and-right, true-or-false, eq-or-ne, never}
-use Rattle.bufmodel.specs.Word.{dirty, bit, empty}
+use Rattle.bufmodel.specs.Word.{dirty}
 use Rattle.bufmodel.specs.Position.{position}
 use Rattle.bufmodel.specs.Rows.{storeBlocks}
-use Rattle.bufmodel.specs.Memory.{Memory, buffers, size, wordOf}
-use Rattle.bufmodel.specs.Books.{emptyAt}
+use Rattle.bufmodel.specs.Memory.{Memory, buffers, size}
 use Rattle.bufmodel.specs.Moves.{writeBack, writeUpTo}
 use Rattle.bufmodel.proofs.LikeLaws.{like}
+use Rattle.bufmodel.proofs.HeldLaws.{dirty-full}
 use Rattle.shelf.specs.Ledger.{isPlace}
 use Rattle.shelf.proofs.Kept.{View, ledgerOf, Has, Kept}
 use Rattle.shelf.proofs.KeptLaws.{isPlace-self, isPlace-other, has-page}
-use Rattle.shelf.proofs.HighestBound.{Bounds}
+use Rattle.shelf.proofs.HighestLaws.{Bounds}
 use Rattle.shelf.proofs.BackKept.{backOf, back-dirty, back-clean, viewBack}
 use Rattle.shelf.proofs.BackKept.{back-own, back-word, back-other, place-below, kept-backOf}
-
--- a dirty buffer is in use
-dirty-full : (m : Memory) (i : ℕ) → dirty (wordOf m i) ≡ true → emptyAt m i ≡ false
-unfolding emptyAt empty dirty bit
-dirty-full m i e = ne-eqb (wordOf m i) 0 (λ z. never e (ap dirty z))
 
 -- ---- what writing back changes
 -- in the memory: flushed, words and store
@@ -40,6 +34,7 @@ abbrev pub viewWith : View → (ℕ → Bool) → (ℕ → Bool) → View
 viewWith v marks puts =
     record { bytes = v .bytes; counts = v .counts; holds = v .holds; dirty = marks; last = v .last; put = puts }
 
+-- what the first k turns of a checkpoint leave
 pub record BackUpTo (m : Memory) (v : View) (k : ℕ) : Type 0 where
   pub flushed : ℕ
   pub words : List ℕ
@@ -137,15 +132,16 @@ module _ (m : Memory) (v : View) (kept : Kept m v) where
           kept = kept-backOf now w (r .kept) k g x d;
           many = rw length-set (r .many);
           clean = λ j l.
-              ⊎-elim (λ e. rw e (back-own now w (r .kept) k g x d))
-              (λ ne. ap dirty (back-word now w (r .kept) k g x d j ne) ∙ r .clean j (omega arith)) (eq-or-ne j k);
+              ⊎-elim (λ e. rw e (back-own now w (r .kept) k g x))
+              (λ ne. ap dirty (back-word now w (r .kept) k g x j ne) ∙ r .clean j (omega arith)) (eq-or-ne j k);
           before = λ h e. r .before h (and-right (not (isPlace (found g) h)) _ e);
           put = put-more g was;
-          others = λ h e. back-other now w (r .kept) k g x d h (λ z. never was (rw z at e)) ∙ r .others h e;
+          others = λ h e. back-other now w (r .kept) k g x h (λ z. never was (rw z at e)) ∙ r .others h e;
           above = omega (arith, r .above);
-          least = λ c b. omega (arith, r .least c b, b .each g (place-below now w (r .kept) k g x d) was, ap position (s .bytes));
+          least = λ c b. omega (arith, r .least c b, b .each g (place-below now w (r .kept) k g x) was, ap position (s .bytes));
         }
 
+  -- they leave that, whatever k is
   pub back-up-to : (k : ℕ) → k ≤ buffers m → BackUpTo m v k
   back-up-to zero h = back-none
   back-up-to (suc k) h =

@@ -1,24 +1,24 @@
 -- The tests of a buffer number: the calls on a buffer and the shelf give one number, and what an accepted number has.
 use Prim.Native.Nat.{ℕ, _≤_, _<_}
 use mathlib.Core.Path.{_≡_, sym, ap, _∙_}
-use mathlib.Core.Bool.{Bool, true, false, not, cond}
+use mathlib.Core.Bool.{true, false, not}
 use mathlib.Core.Logic.{⊎-elim}
 use mathlib.Core.List.{List}
 use native.Mathlib.Omega.{arith}
-use borrow.Author.Tests.{leb-false, le-leb, lt-leb, not-false, ne-eqb}
+use borrow.Author.Tests.{leb-false, le-leb, lt-leb, not-false}
 use Rattle.laws.specs.First.{Found, found, missing}
 use Rattle.laws.proofs.Tests.{lt-or-le, true-or-false}
-use Rattle.bufmodel.specs.Word.{pins, pinned, empty}
-use Rattle.bufmodel.specs.Rows.{placeOf}
-use Rattle.bufmodel.specs.Memory.{Memory, buffers, wordOf, nameOf}
-use Rattle.bufmodel.specs.Books.{isFound, emptyAt}
+use Rattle.bufmodel.specs.Word.{pins, pinned}
+use Rattle.bufmodel.specs.Memory.{Memory, buffers, wordOf}
+use Rattle.bufmodel.specs.Books.{isFound}
 use Rattle.bufmodel.specs.Outcome.{Place, refusalOf}
 use Rattle.bufmodel.specs.Calls.{bufferPlaces}
 use Rattle.bufmodel.proofs.WordLaws.{Held, pinned-pins}
+use Rattle.bufmodel.proofs.HeldLaws.{pinned-full}
 use Rattle.bufmodel.proofs.OutcomeLaws.{refusal-past, refusal-at, refusal-passed}
 use Rattle.shelf.specs.Shelf.{Shelf, numberPlaces}
 use Rattle.shelf.proofs.Kept.{View, shelfOf, Has, Same, Kept}
-use Rattle.shelf.proofs.KeptLaws.{has-page}
+use Rattle.shelf.proofs.KeptLaws.{has-page, holds-page, holds-none}
 use Rattle.shelf.proofs.Refused.{Neither, neither-place}
 
 -- ---- the tests, one by one
@@ -66,11 +66,6 @@ module _ (s : Shelf) (i : ℕ) (qs : List Place) where
   shelf-good h e = refusal-past 7 _ (lt-leb _ _ h) ∙ refusal-past 8 qs (ap (λ (f : Found). not (isFound f)) e)
 
 -- ---- a buffer that is pinned
--- a word with pins is not 0
-pinned-full : (w : ℕ) → pinned w ≡ true → empty w ≡ false
-unfolding empty pins
-pinned-full w h = let p = pinned-pins w h in ne-eqb w 0 (λ e. omega arith)
-
 -- the page that a pinned buffer has, as the ledger says
 pub record PinnedPage (m : Memory) (v : View) (i : ℕ) : Type 0 where
   pub page : ℕ
@@ -82,19 +77,14 @@ pub record PinnedPage (m : Memory) (v : View) (i : ℕ) : Type 0 where
   pub some : 0 < pins (wordOf m i)
 
 module _ (m : Memory) (v : View) (k : Kept m v) (i : ℕ) where
-  -- what a number holds, by the pins of its buffer
-  holds-by : i < buffers m → {t : Bool} → pinned (wordOf m i) ≡ t → v .holds i ≡ cond t (placeOf (m .rows) (nameOf m i)) missing
-  holds-by h e = k .holds i h ∙ ap (λ (t : Bool). cond t (placeOf (m .rows) (nameOf m i)) missing) e
-
   pub pinned-page : i < buffers m → pinned (wordOf m i) ≡ true → PinnedPage m v i
-  unfolding emptyAt
   pinned-page h e =
-      let full = pinned-full (wordOf m i) e in
+      let full = pinned-full m i e in
       let p = has-page m (k .good) i h full in
       record {
         page = p .0;
         has = p .1;
-        holds = holds-by h e ∙ p .1 .place;
+        holds = holds-page m v k i (p .0) (p .1) e;
         same = k .same i (p .0) (p .1);
         word = k .words i h full;
         some = pinned-pins (wordOf m i) e;
@@ -113,7 +103,7 @@ module _ (m : Memory) (v : View) (k : Kept m v) (i : ℕ) where
       ⊎-elim
       (λ e.
       number-good m i ps h e ∙ later h e ∙ sym (shelf-good (shelfOf m v) i qs h (pinned-page h e .holds)))
-      (λ e. number-idle m i ps h e ∙ sym (shelf-idle (shelfOf m v) i qs h (holds-by h e)))
+      (λ e. number-idle m i ps h e ∙ sym (shelf-idle (shelfOf m v) i qs h (holds-none m v k i h e)))
       (true-or-false (pinned (wordOf m i))))
       (λ h. number-past m i ps h ∙ sym (shelf-past (shelfOf m v) i qs h))
       (lt-or-le i (buffers m))

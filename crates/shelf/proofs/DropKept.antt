@@ -4,9 +4,9 @@ use mathlib.Core.Path.{_≡_, refl, sym, ap, ap₂, _∙_, subst}
 use mathlib.Core.Bool.{Bool, true, false, not, _&&_, cond, and-false}
 use mathlib.Core.Logic.{_⊎_, inl, inr, ⊎-elim}
 use native.Mathlib.Omega.{arith}
-use borrow.Author.Tests.{eqb-true, not-false}
 use Rattle.laws.specs.First.{Found, found, missing}
 use Rattle.laws.proofs.Tests.{never, true-or-false}
+use Rattle.laws.proofs.First.{found-missing}
 use Rattle.buftag.specs.declared.name.FileName.{FileName}
 use Rattle.buftag.specs.declared.name.PageName.{PageName}
 use Rattle.bufmodel.specs.Word.{pins, pinned, dirty, empty}
@@ -14,7 +14,8 @@ use Rattle.bufmodel.specs.Rows.{setBlocks, rowOf, placeOf}
 use Rattle.bufmodel.specs.Memory.{Memory, buffers, wordOf, nameOf, withRows}
 use Rattle.bufmodel.specs.Books.{emptyAt}
 use Rattle.bufmodel.specs.Moves.{ofFile}
-use Rattle.bufmodel.proofs.WordLaws.{Held}
+use Rattle.bufmodel.proofs.WordLaws.{zero-unpinned, unpinned-none, Held}
+use Rattle.bufmodel.proofs.HeldLaws.{pinned-full}
 use Rattle.bufmodel.proofs.RowsLaws.{row-found, place-same, place-other, place-gone, store-set}
 use Rattle.bufmodel.proofs.DropLaws.{of-says, onto, Released, left-other, cleared-good}
 use Rattle.shelf.specs.Ledger.{inRow}
@@ -22,27 +23,10 @@ use Rattle.shelf.proofs.Kept.{View, Has, Nobody, Same, Kept}
 use Rattle.shelf.proofs.KeptLaws.{some-or-none}
 use Rattle.shelf.proofs.FilePages.{of-row}
 
--- ---- pinned words
-pins-none : (w : ℕ) → pinned w ≡ false → pins w ≡ 0
-unfolding pinned
-pins-none w e = eqb-true (pins w) 0 (not-false _ e)
-
-zero-unpinned : pinned 0 ≡ false
-unfolding pinned pins
-zero-unpinned = refl
-
--- a pinned buffer is in use
-pinned-full : (w : ℕ) → pinned w ≡ true → empty w ≡ false
-unfolding empty
-pinned-full w p = ⊎-elim (λ z. never p (ap pinned (eqb-true w 0 z) ∙ zero-unpinned)) (λ n. n) (true-or-false (empty w))
-
 -- a page that is looked at only where a test holds
 only-if : (t : Bool) {a b : Found} → (t ≡ true → a ≡ b) → cond t a missing ≡ cond t b missing
 only-if true h = h refl
 only-if false h = refl
-
-not-missing : {g : ℕ} → found g ≡ missing → ⊥
-not-missing e = let z : _≡_ {A = ℕ} 0 1 = cc in omega arith
 
 -- ---- the memory afterwards, and the view: no page of the file is dirty
 abbrev pub droppedMemory : Memory → Memory → ℕ → Memory
@@ -128,7 +112,7 @@ module _ (m : Memory) (v : View) (k : Kept m v) (f : FileName) (r : ℕ) (e : ro
     dropped-stored n g q none = (p, ⊎-elim (λ y. absurd (other (of-file (y .0) (y .1) (y .2)))) (λ z. z) (who-had g none))
       where
         other : rowOf (m .rows) (n .file) ≡ found r → ⊥
-        other z = not-missing (sym q ∙ place-gone (m .rows) r 0 n refl z)
+        other z = found-missing (sym q ∙ place-gone (m .rows) r 0 n refl z)
 
         p : placeOf (m .rows) n ≡ found g
         p = sym (place-other (m .rows) r 0 n other) ∙ q
@@ -141,7 +125,10 @@ module _ (m : Memory) (v : View) (k : Kept m v) (f : FileName) (r : ℕ) (e : ro
     module _ (free : (i : ℕ) → i < buffers m → ofFile m f i ≡ true → pinned (wordOf m i) ≡ false) where
       dropped-unpinned : (g : ℕ) → Nobody (droppedMemory m d r) g → v .counts g ≡ 0
       dropped-unpinned g none =
-          ⊎-elim (λ y. k .same (y .0) g (y .1) .counts ∙ pins-none _ (free (y .0) (y .1 .below) (y .2))) (k .unpinned g) (who-had g none)
+          ⊎-elim
+          (λ y. k .same (y .0) g (y .1) .counts ∙ unpinned-none _ (free (y .0) (y .1 .below) (y .2)))
+          (k .unpinned g)
+          (who-had g none)
 
       -- ---- what a number holds
       dropped-holds : (i : ℕ) → i < buffers m
@@ -155,11 +142,12 @@ module _ (m : Memory) (v : View) (k : Kept m v) (f : FileName) (r : ℕ) (e : ro
           ∙ ap (λ (p : Bool). cond p (placeOf (setBlocks (m .rows) r 0) (nameOf d i)) missing)
           (sym (ap pinned (x .gone i l t) ∙ zero-unpinned)))
           (λ n.
-          only-if (pinned (wordOf m i)) (λ p. sym (other-place i (pinned-full (wordOf m i) p) n))
+          only-if (pinned (wordOf m i)) (λ p. sym (other-place i (pinned-full m i p) n))
           ∙ ap₂ (λ (w : ℕ) (y : PageName). cond (pinned w) (placeOf (setBlocks (m .rows) r 0) y) missing) (sym (x .word i (λ z. n)))
           (sym (x .name i (λ z. n))))
           (true-or-false (ofFile m f i))
 
+      -- the relation is kept
       pub dropped-kept : Kept (droppedMemory m d r) (droppedView m v r)
       unfolding emptyAt
       dropped-kept =

@@ -7,23 +7,25 @@ use mathlib.Core.List.{List}
 use native.Mathlib.Omega.{arith}
 use lib.Dec.{eqb}
 use lib.ListN.{length, replicate, length-replicate}
-use borrow.Author.Tests.{eqb-true, eq-eqb, ne-eqb}
+use borrow.Author.Tests.{ne-eqb}
 use Rattle.laws.specs.First.{found, missing}
 use Rattle.laws.specs.Block.{block, putBlock}
 use Rattle.laws.proofs.Tests.{eq-or-ne}
 use Rattle.laws.proofs.First.{found-same}
-use Rattle.laws.proofs.Lists.{getD-replicate-all}
 use Rattle.laws.proofs.Block.{length-putBlock, block-put-same, block-put-other}
 use Rattle.buftag.specs.declared.name.PageName.{PageName}
-use Rattle.bufmodel.specs.Word.{pins, pinned, empty}
+use Rattle.bufmodel.specs.Word.{pinned}
 use Rattle.bufmodel.specs.Position.{position}
 use Rattle.bufmodel.specs.Rows.{files, blocksAt, capacityAt, setBlocks, startOf, storeBlocks, placeOf}
 use Rattle.bufmodel.specs.Memory.{Memory, buffers, size, wordOf, nameOf, withRows, withStore}
 use Rattle.bufmodel.specs.Books.{emptyAt}
+use Rattle.bufmodel.proofs.PositionLaws.{position-zeros}
+use Rattle.bufmodel.proofs.HeldLaws.{empty-unpinned}
 use Rattle.bufmodel.proofs.RowsLaws.{start-in, in-row-only, row-found, place-found, store-set, place-kept, place-new}
 use Rattle.bufmodel.proofs.FilesLaws.{extend-good}
 use Rattle.shelf.specs.Shelf.{with}
 use Rattle.shelf.proofs.Kept.{View, Has, Nobody, Same, Kept}
+use Rattle.shelf.proofs.WithLaws.{with-same, with-other}
 
 -- ---- the new block
 -- the rows with one block more in row r, and the place of that block
@@ -48,17 +50,6 @@ viewMore m v r =
       last = v .last;
       put = λ g. eqb g (placeMore (m .rows) r) || v .put g;
     }
-
--- ---- small laws
--- the position of zeros is 0
-position-zeros : (n : ℕ) → position (replicate n 0) ≡ 0
-unfolding position
-position-zeros n = simp getD-replicate-all
-
--- an empty buffer is not pinned
-empty-unpinned : (m : Memory) (i : ℕ) → emptyAt m i ≡ true → pinned (wordOf m i) ≡ false
-unfolding emptyAt empty pinned pins
-empty-unpinned m i e = rw (eqb-true (wordOf m i) 0 e)
 
 module _ (m : Memory) (v : View) (k : Kept m v) (r : ℕ) (l : r < files (m .rows))
     (room : blocksAt (m .rows) r < capacityAt (m .rows) r) where
@@ -118,7 +109,7 @@ module _ (m : Memory) (v : View) (k : Kept m v) (r : ℕ) (l : r < files (m .row
       let s = k .same i g y in
       let ne = more-new (nameOf m i) g (y .place) in
       record {
-        bytes = rw (ne-eqb g (placeMore (m .rows) r) ne) (s .bytes);
+        bytes = with-other (placeMore (m .rows) r) (replicate (size m) 0) (v .bytes) g ne ∙ s .bytes;
         counts = s .counts;
         marked = s .marked;
         last = s .last;
@@ -132,8 +123,9 @@ module _ (m : Memory) (v : View) (k : Kept m v) (r : ℕ) (l : r < files (m .row
       ⊎-elim
       (λ q.
       let ne = more-new n g q in
-      rw (ne-eqb g (placeMore (m .rows) r) ne) (k .stored n g q (λ i y. x i (has-more i g y)) ∙ sym (store-other g ne)))
-      (λ q. rw (q .2, eq-eqb (placeMore (m .rows) r) (placeMore (m .rows) r) refl) (sym store-same))
+      with-other (placeMore (m .rows) r) (replicate (size m) 0) (v .bytes) g ne
+      ∙ k .stored n g q (λ i y. x i (has-more i g y)) ∙ sym (store-other g ne))
+      (λ q. rw (q .2) (with-same (placeMore (m .rows) r) (replicate (size m) 0) (v .bytes) ∙ sym store-same))
       (place-new (m .rows) r (suc (blocksAt (m .rows) r)) n refl e)
 
   -- a pinned buffer has a page, and its place is the one of before
@@ -163,11 +155,12 @@ module _ (m : Memory) (v : View) (k : Kept m v) (r : ℕ) (l : r < files (m .row
           let p = k .put g (rw (ne-eqb g (placeMore (m .rows) r) ne) at e) in
           (omega (arith, store-set (m .rows) r (suc (blocksAt (m .rows) r))), rw (store-other g ne) (p .1))
 
+  -- all of it
   pub kept-more : Kept (memoryMore m r) (viewMore m v r)
   unfolding emptyAt
   kept-more =
       record {
-        good = extend-good m (k .good) r l room _ store-long;
+        good = extend-good m (k .good) r room _ store-long;
         words = k .words;
         same = same-more;
         unpinned = λ g x. k .unpinned g (λ i y. x i (has-more i g y));

@@ -1,11 +1,10 @@
 -- The pages of one file: the places that they have, the buffers that have them, and that refusal 14 is the shelf's.
 use Prim.Native.Nat.{ℕ, _+_, _<_}
 use mathlib.Core.Path.{_≡_, sym, ap, _∙_}
-use mathlib.Core.Bool.{true, false, not}
+use mathlib.Core.Bool.{true}
 use mathlib.Core.Logic.{⊎-elim}
 use mathlib.Core.List.{List}
 use native.Mathlib.Omega.{arith}
-use lib.Dec.{eqb}
 use borrow.Author.Tests.{le-leb, lt-ltb}
 use Rattle.laws.specs.First.{found}
 use Rattle.laws.specs.Says.{Says}
@@ -14,18 +13,17 @@ use Rattle.laws.proofs.First.{found-same}
 use Rattle.laws.proofs.Says.{says-le, says-lt, says-and, says-any, says-as, says-it}
 use Rattle.buftag.specs.declared.name.FileName.{FileName}
 use Rattle.buftag.specs.declared.name.PageName.{PageName}
-use Rattle.bufmodel.specs.Word.{pinned}
 use Rattle.bufmodel.specs.Rows.{fileAt, blocksAt, capacityAt, rowOf, startOf, placeOf}
 use Rattle.bufmodel.specs.Sizes.{RowsSound}
-use Rattle.bufmodel.specs.Memory.{Memory, wordOf, nameOf}
+use Rattle.bufmodel.specs.Memory.{Memory, nameOf}
 use Rattle.bufmodel.specs.Moves.{ofFile}
 use Rattle.bufmodel.specs.Calls.{filePinned}
 use Rattle.bufmodel.proofs.RowsLaws.{row-found, row-same, in-row-only, place-found, place-room}
 use Rattle.bufmodel.proofs.DropLaws.{of-says, pinned-says}
 use Rattle.shelf.specs.Shelf.{hasPins, filePinned as pagesPinned}
 use Rattle.shelf.specs.Ledger.{inRow}
-use Rattle.shelf.proofs.Kept.{View, shelfOf, Has, Nobody, Kept}
-use Rattle.shelf.proofs.KeptLaws.{has-page, some-or-none}
+use Rattle.shelf.proofs.Kept.{View, shelfOf, Has, Kept}
+use Rattle.shelf.proofs.KeptLaws.{has-page, some-or-none, pins-has, pins-nobody}
 
 -- ---- the places of a file's pages
 module _ (rows : List ℕ) (sound : RowsSound rows) (f : FileName) (r : ℕ) (e : rowOf rows f ≡ found r) where
@@ -53,15 +51,6 @@ module _ (rows : List ℕ) (sound : RowsSound rows) (f : FileName) (r : ℕ) (e 
       (lt-ltb (startOf rows r + b) (startOf rows r + capacityAt rows r) (omega arith))
 
 module _ (m : Memory) (v : View) (k : Kept m v) where
-  -- ---- a page has pins as its buffer has; a page that no buffer has has none
-  has-pins : (i g : ℕ) → Has m i g → hasPins (shelfOf m v) g ≡ pinned (wordOf m i)
-  unfolding hasPins pinned
-  has-pins i g h = ap (λ (n : ℕ). not (eqb n 0)) (k .same i g h .counts)
-
-  no-pins : (g : ℕ) → Nobody m g → hasPins (shelfOf m v) g ≡ false
-  unfolding hasPins
-  no-pins g h = ap (λ (n : ℕ). not (eqb n 0)) (k .unpinned g h)
-
   module _ (f : FileName) (r : ℕ) (e : rowOf (m .rows) f ≡ found r) where
     -- ---- the buffers of the file are those whose page is in its row
     pub of-row : (i g : ℕ) → Has m i g → ofFile m f i ≡ inRow (m .rows) (found r) g
@@ -89,7 +78,7 @@ module _ (m : Memory) (v : View) (k : Kept m v) where
         pages-say .shown (
           b,
           omega (arith, ap (blocksAt (m .rows)) q),
-          ap (hasPins (shelfOf m v)) (sym at) ∙ has-pins (w .0) (h .0) (h .1) ∙ w .2 .1,
+          ap (hasPins (shelfOf m v)) (sym at) ∙ pins-has m v k (w .0) (h .0) (h .1) ∙ w .2 .1,
         )
 
     -- and the other way round
@@ -104,11 +93,12 @@ module _ (m : Memory) (v : View) (k : Kept m v) where
           x .1 .below,
           (
             of-row (x .0) g (x .1) ∙ block-in-row (m .rows) (k .good .sizes .rows) f r e (w .0) (w .1),
-            sym (has-pins (x .0) g (x .1)) ∙ w .2,
+            sym (pins-has m v k (x .0) g (x .1)) ∙ w .2,
           ),
         ))
-        (λ none. never (w .2) (no-pins g none))
+        (λ none. never (w .2) (pins-nobody m v k g none))
         (some-or-none m (k .good) g)
 
-    pub pinned-same : filePinned m f ≡ pagesPinned (shelfOf m v) (found r)
-    pinned-same = same-tests _ _ pages-of buffers-of
+    -- so 14 is refused on both sides, or on neither
+    pub file-pinned-same : filePinned m f ≡ pagesPinned (shelfOf m v) (found r)
+    file-pinned-same = same-tests _ _ pages-of buffers-of

@@ -1,10 +1,8 @@
 -- The relation between memory and ledger that every call keeps, and what a call has to show.
-use Prim.Native.Nat.{ℕ, zero, suc, _+_, _≤_, _<_}
-use mathlib.Core.Path.{_≡_, refl, sym, ap, _∙_, subst}
-use mathlib.Core.Logic.{_≢_}
+use Prim.Native.Nat.{ℕ, _≤_, _<_}
+use mathlib.Core.Path.{_≡_, sym, subst}
 use mathlib.Core.Bool.{Bool, true, false, cond}
 use mathlib.Core.List.{List, [], _∷_}
-use native.Mathlib.Omega.{arith}
 use Rattle.laws.specs.First.{Found, found, missing}
 use Rattle.laws.specs.Block.{block}
 use Rattle.bufmodel.specs.Word.{pins, pinned, dirty}
@@ -77,6 +75,7 @@ pub record Same (m : Memory) (v : View) (i g : ℕ) : Type 0 where
   -- a page that is not dirty equals its block in the store
   pub clean : dirty (wordOf m i) ≡ false → block (size m) g (m .store) ≡ pageOf m i
 
+-- what holds between them after every call
 pub record Kept (m : Memory) (v : View) : Type 0 where
   pub good : Good m
   pub words : (i : ℕ) → i < buffers m → emptyAt m i ≡ false → Held (wordOf m i)
@@ -95,6 +94,7 @@ pub record Kept (m : Memory) (v : View) : Type 0 where
 abbrev pub ledgerNext : Memory → View → Call → Outcome → Ledger
 ledgerNext m v c o = ledgerAfter (ledgerOf m v) c (o .answer) (o .refusal)
 
+-- the call agrees with the ledger, and the relation holds again
 pub record Ended (m : Memory) (v : View) (c : Call) (o : Outcome) : Type 0 where
   pub agrees : Agrees m (ledgerOf m v) c o (ledgerNext m v c o)
   pub kept : Kept (o .after) (viewOf (ledgerNext m v c o))
@@ -113,9 +113,11 @@ abbrev pub FitsCalls : List Call → Type 0
 FitsCalls [] = Unit {0}
 FitsCalls (c ∷ cs) = FitsCall c × FitsCalls cs
 
+-- what has to be shown: each call that fits ends so
 abbrev pub Steps : Type 0
 Steps = (m : Memory) (v : View) (c : Call) → Kept m v → FitsCall c → Ended m v c (step m c)
 
+-- then a list of calls runs as the ledger says
 pub runs-of : Steps → (m : Memory) (v : View) (calls : List Call) → Kept m v → FitsCalls calls → Runs m (ledgerOf m v) calls
 runs-of steps m v [] k f = tt
 runs-of steps m v (c ∷ cs) k f =

@@ -1,22 +1,23 @@
 -- Laws of the relation between memory and ledger.
 use Prim.Native.Nat.{ℕ, _<_}
 use mathlib.Core.Path.{_≡_, refl, sym, ap, _∙_}
-use mathlib.Core.Bool.{Bool, true, false, not, _&&_, false≢true}
+use mathlib.Core.Bool.{Bool, true, false, not, _&&_, cond, false≢true}
 use mathlib.Core.Logic.{_≢_, _⊎_, inl, inr}
+use lib.Dec.{eqb}
 use borrow.Author.Tests.{eqb-true, eq-eqb, ne-eqb, not-true}
-use mathlib.Core.List.{List}
 use Rattle.laws.specs.First.{Found, found, missing, first}
-use Rattle.bufmodel.specs.Word.{empty}
+use Rattle.bufmodel.specs.Word.{pinned, empty}
 use Rattle.bufmodel.specs.Rows.{placeOf}
-use Rattle.bufmodel.specs.Memory.{Memory, buffers, nameOf}
+use Rattle.bufmodel.specs.Memory.{Memory, buffers, wordOf, nameOf}
 use Rattle.bufmodel.specs.Books.{emptyAt}
 use Rattle.bufmodel.proofs.GoodLaws.{Good}
 use Rattle.bufmodel.proofs.RowsLaws.{place-same}
 use Rattle.laws.specs.Says.{Says}
 use Rattle.laws.proofs.Tests.{and-left, and-right, and-true, never}
 use Rattle.laws.proofs.First.{found-same, first-found, first-missing}
+use Rattle.shelf.specs.Shelf.{hasPins}
 use Rattle.shelf.specs.Ledger.{isPlace}
-use Rattle.shelf.proofs.Kept.{View, Has, Nobody, Same, Kept}
+use Rattle.shelf.proofs.Kept.{View, shelfOf, Has, Nobody, Kept}
 
 -- ---- one place and no other
 pub isPlace-true : (f : Found) (g : ℕ) → isPlace f g ≡ true → f ≡ found g
@@ -41,6 +42,7 @@ pub record Alike (v w : View) : Type 0 where
   pub last : (b : ℕ) → w .last b ≡ v .last b
   pub put : (g : ℕ) → w .put g ≡ v .put g
 
+-- the relation goes by the values of a view
 pub kept-alike : (m : Memory) (v w : View) → Alike v w → Kept m v → Kept m w
 kept-alike m v w a k =
     record {
@@ -102,3 +104,22 @@ module _ (m : Memory) (good : Good m) where
       go : (f : Found) → first (buffers m) (has g) ≡ f → ((i : ℕ) × Has m i g) ⊎ Nobody m g
       go (found i) e = let w = first-found (has g) (buffers m) e in inl (i, has-says g i (w .0) .holds (w .1))
       go missing e = inr (λ i x. never (has-says g i (x .below) .shown x) (first-missing (has g) (buffers m) e i (x .below)))
+
+-- ---- the pins of a page, and what a number holds
+module _ (m : Memory) (v : View) (k : Kept m v) where
+  -- a page has pins exactly when the buffer that has it is pinned
+  pub pins-has : (i g : ℕ) → Has m i g → hasPins (shelfOf m v) g ≡ pinned (wordOf m i)
+  unfolding hasPins pinned
+  pins-has i g h = ap (λ (c : ℕ). not (eqb c 0)) (k .same i g h .counts)
+
+  pub pins-nobody : (g : ℕ) → Nobody m g → hasPins (shelfOf m v) g ≡ false
+  unfolding hasPins
+  pins-nobody g x = ap (λ (c : ℕ). not (eqb c 0)) (k .unpinned g x)
+
+  -- the number of a pinned buffer holds its page, any other none
+  pub holds-page : (i g : ℕ) → Has m i g → pinned (wordOf m i) ≡ true → v .holds i ≡ found g
+  holds-page i g x e =
+      k .holds i (x .below) ∙ ap (λ (t : Bool). cond t (placeOf (m .rows) (nameOf m i)) missing) e ∙ x .place
+
+  pub holds-none : (i : ℕ) → i < buffers m → pinned (wordOf m i) ≡ false → v .holds i ≡ missing
+  holds-none i l e = k .holds i l ∙ ap (λ (t : Bool). cond t (placeOf (m .rows) (nameOf m i)) missing) e

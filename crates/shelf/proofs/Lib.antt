@@ -1,44 +1,52 @@
+-- The proof of demand 3, each module after those that it uses.
+
+-- the relation between memory and ledger, its laws, and laws of what the ledger is made of
 pub mod Kept
 pub mod KeptLaws
 pub mod WithLaws
+pub mod HighestLaws
+pub mod CallKinds
+-- a refused call, an accepted one, and one that changes nothing
 pub mod Refused
 pub mod Accepted
-pub mod HighestLaws
-pub mod HighestBound
 pub mod Unchanged
+-- the tests of a buffer number and of a page's name
 pub mod BufferPlaces
 pub mod NamePage
-pub mod WordKept
-pub mod BackKept
-pub mod BackUpTo
-pub mod FilePages
-pub mod DropKept
+-- log inserted and log flushed, read, peek
 pub mod StepLog
-pub mod StepUnpin
 pub mod StepRead
 pub mod StepPeek
-pub mod StepFlush
-pub mod StepCheckpoint
-pub mod StepDrop
-pub mod SweptKept
-pub mod ReleaseKept
-pub mod LoadKept
-pub mod PinNew
-pub mod HighestOne
-pub mod StepFree
-pub mod VictimBack
-pub mod StepVictim
-pub mod PageKept
+-- unpin and write: one buffer's word and page change
+pub mod TurnKept
+pub mod StepUnpin
 pub mod WriteKept
 pub mod StepWrite
-pub mod Counting
-pub mod PinPlaces
-pub mod PinSix
-pub mod HitKept
-pub mod StepHit
-pub mod StepPin
+-- flush and checkpoint: pages are written back
+pub mod BackKept
+pub mod StepFlush
+pub mod BackUpTo
+pub mod StepCheckpoint
+-- extend and drop
 pub mod ExtendKept
 pub mod StepExtend
+pub mod FilePages
+pub mod DropKept
+pub mod StepDrop
+-- pin: its tests; then held, from the free list, and the victim of a sweep
+pub mod PinnedPages
+pub mod PinPlaces
+pub mod PinSix
+pub mod LoadKept
+pub mod PinAccepted
+pub mod PinHit
+pub mod PinFree
+pub mod SweptKept
+pub mod VictimBack
+pub mod ReleaseKept
+pub mod PinVictim
+pub mod StepPin
+-- set up, calls over lent memory, and the theorem
 pub mod Start
 pub mod Lift
 pub mod Demand

@@ -1,12 +1,10 @@
 -- A list of calls over the memory, as calls of the memory as it is lent.
-use Prim.Native.Nat.{ℕ}
-use mathlib.Core.Path.{_≡_, refl, sym, ap, _∙_, subst}
-use mathlib.Core.List.{List, [], _∷_, map}
-use lib.ListN.{length}
+use mathlib.Core.Path.{_≡_, sym, ap, subst}
+use mathlib.Core.List.{List, [], _∷_}
 use Rattle.bufmodel.specs.Memory.{Memory}
 use Rattle.bufmodel.specs.Outcome.{Outcome}
 use Rattle.bufmodel.specs.Step.{Call, step}
-use Rattle.bufmodel.specs.Lent.{Called, opened, closed, called}
+use Rattle.bufmodel.specs.Lent.{Called, closed, called}
 use Rattle.bufmodel.proofs.GoodLaws.{Good}
 use Rattle.bufmodel.proofs.LentLaws.{opened-closed, calledOf, called-closed}
 use Rattle.bufmodel.proofs.CalledLaws.{top-fits}
@@ -14,6 +12,7 @@ use Rattle.shelf.specs.Ledger.{Ledger, ledgerAfter}
 use Rattle.shelf.specs.Statement.{Agrees, Made, FitsMade, own, outcomeOf, Claim}
 use Rattle.shelf.proofs.Kept.{Runs, FitsCalls}
 
+-- the calls that the till program makes, without the lists that it passes for answers
 abbrev pub callsOf : List Made → List Call
 callsOf [] = []
 callsOf (c ∷ cs) = c .call ∷ callsOf cs
@@ -35,6 +34,7 @@ Says m l c cs r =
     let l′ = ledgerAfter l (c .call) (o .answer) (o .refusal) in
     Agrees m l (c .call) o l′ × Claim (r .lent) l′ cs
 
+-- what holds of the calls over the memory holds of those that the till program makes
 pub lift : (m : Memory) (l : Ledger) (cs : List Made) → Good m → FitsMade cs → Runs m l (callsOf cs) → Claim (closed m) l cs
 lift m l [] g f r = tt
 lift m l (c ∷ cs) g f r =

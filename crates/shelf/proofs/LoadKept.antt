@@ -1,10 +1,9 @@
 -- A page that no buffer had comes into the top of the free list: it is pinned once there, clean, and its bytes are the store's.
 use Prim.Native.Nat.{ℕ, _+_, _<_}
 use mathlib.Core.Path.{_≡_, sym, ap, _∙_, subst}
-use mathlib.Core.Bool.{true, false, not, cond}
+use mathlib.Core.Bool.{true, false, cond}
 use mathlib.Core.Logic.{_≢_, ⊎-elim}
 use native.Mathlib.Omega.{arith}
-use borrow.Author.Tests.{ne-eqb}
 use Rattle.laws.specs.First.{found, missing}
 use Rattle.laws.specs.Block.{block}
 use Rattle.laws.proofs.Tests.{eq-or-ne, never}
@@ -18,21 +17,11 @@ use Rattle.bufmodel.specs.Memory.{Memory, buffers, size, wordOf, nameOf, pageOf
 use Rattle.bufmodel.specs.Books.{emptyAt}
 use Rattle.bufmodel.specs.Moves.{loadAt}
 use Rattle.bufmodel.specs.Pin.{heldIn}
-use Rattle.bufmodel.proofs.WordLaws.{Held, loaded-fields}
+use Rattle.bufmodel.proofs.WordLaws.{pins-pinned, Held, loaded-fields}
 use Rattle.bufmodel.proofs.RowsLaws.{place-in}
-use Rattle.bufmodel.proofs.LoadLaws.{
-  top-empty,
-  load-buffers,
-  load-word,
-  load-name,
-  load-kept,
-  load-own,
-  load-full,
-  load-own-name,
-  load-page,
-  load-own-page,
-  load-good,
-}
+use Rattle.bufmodel.proofs.FreeListLaws.{top-empty}
+use Rattle.bufmodel.proofs.LoadLaws.{load-buffers, load-word, load-name, load-kept, load-page}
+use Rattle.bufmodel.proofs.LoadLaws.{load-own, load-full, load-own-name, load-own-page, load-good}
 use Rattle.shelf.specs.Shelf.{with}
 use Rattle.shelf.proofs.Kept.{View, Has, Nobody, Same, Kept}
 use Rattle.shelf.proofs.KeptLaws.{has-place}
@@ -50,11 +39,6 @@ viewLoad v i g =
       last = with i (found g) (v .last);
       put = v .put;
     }
-
--- a word with pins is pinned
-some-pinned : (w : ℕ) → 0 < pins w → pinned w ≡ true
-unfolding pinned
-some-pinned w h = ap not (ne-eqb (pins w) 0 (omega arith))
 
 module _ (m : Memory) (v : View) (k : Kept m v) (n : PageName) (i g : ℕ) (top : linkOf (m .control .top) ≡ To i)
     (place : placeOf (m .rows) n ≡ found g) (new : heldIn m n ≡ Nowhere) where
@@ -131,7 +115,7 @@ module _ (m : Memory) (v : View) (k : Kept m v) (n : PageName) (i g : ℕ) (top 
   other-same j h ne x =
       let q = k .same j h x in
       let w = load-word m n i g j ne in
-      let p = load-page m n i g (k .good) below stands j ne (x .below) in
+      let p = load-page m n i g (k .good) below stands j ne in
       let other : h ≢ g = λ e. none j (subst (Has m j) e x) in
       record {
         bytes = q .bytes ∙ sym p;
@@ -160,7 +144,7 @@ module _ (m : Memory) (v : View) (k : Kept m v) (n : PageName) (i g : ℕ) (top 
 
   -- the word of a page just loaded is pinned
   own-pinned : pinned (wordOf after i) ≡ true
-  own-pinned = ap pinned own-word ∙ some-pinned loaded (omega (arith, loaded-fields .pins))
+  own-pinned = ap pinned own-word ∙ pins-pinned loaded (omega (arith, loaded-fields .pins))
 
   own-place : placeOf (m .rows) (nameOf after i) ≡ found g
   own-place = ap (placeOf (m .rows)) (load-own-name m n i g (k .good) below) ∙ place
@@ -173,6 +157,7 @@ module _ (m : Memory) (v : View) (k : Kept m v) (n : PageName) (i g : ℕ) (top 
       (λ ne. rw (load-word m n i g j ne, load-name m n i g j ne) (with-other i (found g) (v .holds) j ne ∙ k .holds j l))
       (eq-or-ne j i)
 
+  -- the relation is kept
   pub kept-load : Kept (loadAt m n i g) (viewLoad v i g)
   unfolding loadAt
   kept-load =

@@ -3,38 +3,30 @@ use Prim.Native.Nat.{ℕ, _<_}
 use mathlib.Core.Path.{_≡_, refl, sym, ap, _∙_, subst}
 use mathlib.Core.Logic.{_≢_, ⊎-elim, _↔_}
 use mathlib.Core.Bool.{Bool, true, false, not, false≢true}
-use mathlib.Core.List.{List, [], _∷_}
+use mathlib.Core.List.{[], _∷_}
 use native.Mathlib.Omega.{arith}
-use lib.IntN.{ℤ}
-use lib.ListN.{length}
 use borrow.Author.Tests.{eqb-true, eq-eqb, ne-eqb, not-true, not-false}
 use Rattle.laws.specs.First.{found}
-use Rattle.laws.specs.Times.{times}
 use Rattle.laws.proofs.Tests.{and-true, and-left, and-right, eq-or-ne}
 use Rattle.laws.proofs.Every.{all-at}
-use Rattle.laws.proofs.Sum.{ind-none}
-use Rattle.laws.proofs.Times.{times-here}
-use Rattle.buftag.specs.declared.link.Link.{Link}
-use Rattle.buftag.specs.declared.link.Link.the-variants.{End}
 use Rattle.buftag.specs.declared.lookup.Held.{Held}
 use Rattle.buftag.specs.declared.lookup.Held.the-variants.{At, Nowhere}
 use Rattle.buftag.specs.declared.name.PageName.{PageName}
-use Rattle.buftag.specs.Link.{linkOf, Links, done, step}
 use Rattle.bufmodel.specs.Word.{maxPins, pinned}
 use Rattle.bufmodel.specs.Rows.{placeOf}
 use Rattle.bufmodel.specs.Memory.{Memory, buffers, wordOf}
-use Rattle.bufmodel.specs.Books.{emptyAt}
 use Rattle.bufmodel.specs.Outcome.{Outcome, place, refusalOf, refused}
 use Rattle.bufmodel.specs.Pin.{noVictim, heldIn, pinPlaces}
 use Rattle.bufmodel.specs.Step.{Pin}
 use Rattle.bufmodel.proofs.GoodLaws.{Good}
 use Rattle.bufmodel.proofs.OutcomeLaws.{refusal-past, refusal-at}
+use Rattle.bufmodel.proofs.HeldLaws.{pinned-full}
+use Rattle.bufmodel.proofs.FreeListLaws.{top-full}
 use Rattle.bufmodel.proofs.SweepEnds.{sweep-stuck}
 use Rattle.shelf.specs.Shelf.{Shelf, hasPins, pinnedPages, countFull, noBuffer}
 use Rattle.shelf.specs.Statement.{early, stuck, Sought}
 use Rattle.shelf.proofs.Kept.{View, shelfOf, Kept}
 use Rattle.shelf.proofs.Refused.{PinSays}
-use Rattle.shelf.proofs.Counting.{pinned-full}
 use Rattle.shelf.proofs.PinPlaces.{number-found, pin-last}
 
 -- ---- 6 at the last of the places 5 and 6
@@ -69,18 +61,8 @@ module _ (m : Memory) (v : View) (k : Kept m v) (n : PageName) (g : ℕ) (e : pl
       number-found m v k n g e
       ∙ six-last _ _ (not-full (w .1)) (and-true (ap not (w .1)) (eq-eqb (pinnedPages s) (buffers m) (w .0)))
 
-  pub pin-six : (refusalOf (pinPlaces m n) ≡ 6) ↔ ((pinnedPages s ≡ buffers m) × (hasPins s g ≡ false))
+  pin-six : (refusalOf (pinPlaces m n) ≡ 6) ↔ ((pinnedPages s ≡ buffers m) × (hasPins s g ≡ false))
   pin-six = (six-why, why-six)
-
--- ---- no buffer is empty: the free list is
-list-empty : {ls : List ℤ} {l : Link} {xs : List ℕ} → Links ls l xs → ((i : ℕ) → i < length ls → times i xs ≡ 0) → l ≡ End
-list-empty done none = refl
-list-empty (step {i} {is} h r) none = absurd (omega (arith, none i h, times-here i is))
-
-free-empty : (m : Memory) → Good m → ((i : ℕ) → i < buffers m → emptyAt m i ≡ false) → linkOf (m .control .top) ≡ End
-free-empty m k full =
-    let f = k .books .free in
-    list-empty (f .linked) (λ i h. f .once i h ∙ ind-none (full i (omega (arith, k .sizes .free))))
 
 -- ---- what a refused pin's sweep did
 module _ (m : Memory) (k : Good m) (n : PageName) where
@@ -98,7 +80,7 @@ module _ (m : Memory) (k : Good m) (n : PageName) where
   sought-six e =
       let h = six-held e in
       let w = sweep-stuck (m .states) (m .control .hand) (k .books .hand) (h .1) in
-      let end = free-empty m k (λ i l. pinned-full m i (h .1 i l)) in
+      let end = top-full m k (λ i l. pinned-full m i (h .1 i l)) in
       record {
         probes = w .0 .probes;
         looked = stuck {s = w .0} (h .0) end refl (w .1) (w .2);
@@ -107,7 +89,7 @@ module _ (m : Memory) (k : Good m) (n : PageName) where
         answered = λ z. absurd (omega arith);
       }
 
-  pub sought-refused : (i : ℕ) → i ≢ 0 → refusalOf (pinPlaces m n) ≡ i → Sought m n (refused i [] m)
+  sought-refused : (i : ℕ) → i ≢ 0 → refusalOf (pinPlaces m n) ≡ i → Sought m n (refused i [] m)
   sought-refused i ne e =
       ⊎-elim
       (λ q. subst (λ (j : ℕ). Sought m n (refused j [] m)) (sym q) (sought-six (e ∙ q)))
@@ -115,7 +97,7 @@ module _ (m : Memory) (k : Good m) (n : PageName) where
       (eq-or-ne i 6)
 
 -- ---- what a pin has to say besides, refused or accepted
-pub pin-same : {a b : PageName} → Pin a ≡ Pin b → a ≡ b
+pin-same : {a b : PageName} → Pin a ≡ Pin b → a ≡ b
 pin-same e = cc
 
 pub pin-says : (m : Memory) (v : View) → Kept m v → (n : PageName) (o : Outcome) → refusalOf (pinPlaces m n) ≡ o .refusal → Sought m n o

@@ -1,9 +1,8 @@
 -- A clean unpinned page leaves its buffer: it becomes a page that no buffer has, with no pins, and its bytes are the store's.
 use Prim.Native.Nat.{ℕ, _<_}
-use mathlib.Core.Path.{_≡_, refl, sym, ap, _∙_, subst}
+use mathlib.Core.Path.{_≡_, sym, ap, _∙_, subst}
 use mathlib.Core.Bool.{false, cond}
 use mathlib.Core.Logic.{_≢_, _⊎_, inl, inr, ⊎-elim}
-use borrow.Author.Tests.{eqb-true, not-false}
 use Rattle.laws.specs.First.{missing}
 use Rattle.laws.specs.Block.{block}
 use Rattle.laws.proofs.Tests.{eq-or-ne, never}
@@ -12,24 +11,11 @@ use Rattle.bufmodel.specs.Rows.{placeOf}
 use Rattle.bufmodel.specs.Memory.{Memory, buffers, size, wordOf, nameOf}
 use Rattle.bufmodel.specs.Books.{emptyAt}
 use Rattle.bufmodel.specs.Moves.{release}
-use Rattle.bufmodel.proofs.WordLaws.{Held}
-use Rattle.bufmodel.proofs.LessUsedLaws.{zero-unpinned}
-use Rattle.bufmodel.proofs.ReleaseLaws.{
-  release-buffers,
-  release-word,
-  release-name,
-  release-kept,
-  release-own,
-  release-empty,
-  release-good,
-}
+use Rattle.bufmodel.proofs.WordLaws.{unpinned-none, Held}
+use Rattle.bufmodel.proofs.HeldLaws.{empty-unpinned}
+use Rattle.bufmodel.proofs.ReleaseLaws.{release-buffers, release-word, release-name, release-kept, release-empty, release-good}
 use Rattle.shelf.proofs.Kept.{View, Has, Nobody, Same, Kept}
-use Rattle.shelf.proofs.KeptLaws.{some-or-none, has-place}
-
--- an unpinned word has no pins
-pub unpinned-none : (w : ℕ) → pinned w ≡ false → pins w ≡ 0
-unfolding pinned
-unpinned-none w e = eqb-true (pins w) 0 (not-false _ e)
+use Rattle.shelf.proofs.KeptLaws.{has-place, some-or-none, holds-none}
 
 -- ---- the other buffers keep their pages
 module _ (m : Memory) (i : ℕ) (l : i < buffers m) where
@@ -102,20 +88,18 @@ module _ (m : Memory) (v : View) (k : Kept m v) (i g : ℕ) (own : Has m i g) (f
       rw (release-word m i j ne) (k .words j (rw (release-buffers m i) at l) (sym (release-kept m i j ne) ∙ f))
 
   -- a number holds a page exactly when its buffer is pinned
-  holds-none : v .holds i ≡ missing
-  holds-none = k .holds i (own .below) ∙ rw free refl
-
   own-free : pinned (wordOf (release m i) i) ≡ false
-  own-free = ap pinned (release-own m i (own .below)) ∙ zero-unpinned
+  own-free = empty-unpinned (release m i) i (release-empty m i (own .below))
 
   release-holds : (j : ℕ) → j < buffers m
       → v .holds j ≡ cond (pinned (wordOf (release m i) j)) (placeOf (m .rows) (nameOf (release m i) j)) missing
   release-holds j l =
       ⊎-elim
-      (λ e. rw e (rw own-free holds-none))
+      (λ e. rw e (rw own-free (holds-none m v k i (own .below) free)))
       (λ ne. rw (release-word m i j ne, release-name m i j ne) (k .holds j l))
       (eq-or-ne j i)
 
+  -- all of it
   pub kept-release : Kept (release m i) v
   unfolding release
   kept-release =

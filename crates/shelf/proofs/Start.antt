@@ -7,23 +7,19 @@ use native.Mathlib.Omega.{arith}
 use borrow.Author.Tests.{not-false}
 use Rattle.laws.specs.First.{missing}
 use Rattle.laws.proofs.Tests.{never}
-use Rattle.bufmodel.specs.Word.{pins, pinned}
+use Rattle.bufmodel.specs.Word.{pinned}
 use Rattle.bufmodel.specs.Rows.{placeOf}
 use Rattle.bufmodel.specs.Memory.{Memory, wordOf, nameOf}
 use Rattle.bufmodel.specs.Sizes.{sizedFor, SizedFor}
 use Rattle.bufmodel.specs.Outcome.{Outcome, place, refusalOf, zeros, done}
 use Rattle.bufmodel.specs.Calls.{fresh, setUp}
+use Rattle.bufmodel.proofs.HeldLaws.{empty-unpinned}
 use Rattle.bufmodel.proofs.SizesLaws.{sizes-say}
 use Rattle.bufmodel.proofs.OutcomeLaws.{refusal-passed, outcome-done, outcome-number}
-use Rattle.bufmodel.proofs.FreshLaws.{fresh-many, fresh-word, fresh-empty, fresh-good}
+use Rattle.bufmodel.proofs.FreshLaws.{fresh-many, fresh-empty, fresh-good}
 use Rattle.shelf.specs.Shelf.{firstShelf}
 use Rattle.shelf.specs.Ledger.{firstLedger}
 use Rattle.shelf.proofs.Kept.{ledgerOf, viewOf, Kept}
-
--- word 0 has no pins
-zero-unpinned : pinned 0 ≡ false
-unfolding pinned pins
-zero-unpinned = refl
 
 module _ (m : Memory) (p at : ℕ) where
   -- ---- what an accepted set up tells: its place refused nothing, so the sizes fit, and the memory is the fresh one
@@ -41,7 +37,7 @@ module _ (m : Memory) (p at : ℕ) where
 
   -- ---- no buffer has a page, and none is pinned
   fresh-unpinned : (i : ℕ) → pinned (wordOf (fresh m p at) i) ≡ false
-  fresh-unpinned i = ap pinned (fresh-word m p at i) ∙ zero-unpinned
+  fresh-unpinned i = empty-unpinned (fresh m p at) i (fresh-empty m p at i)
 
   fresh-kept : SizedFor p m → Kept (fresh m p at) (viewOf (firstLedger m p at))
   unfolding firstLedger firstShelf fresh
@@ -57,6 +53,7 @@ module _ (m : Memory) (p at : ℕ) where
         put = λ g e. never e refl;
       }
 
+  -- so the relation holds
   pub start-kept : setUp m p at .refusal ≡ 0 → Kept (setUp m p at .after) (viewOf (firstLedger m p at))
   start-kept e =
       subst (λ (m′ : Memory). Kept m′ (viewOf (firstLedger m p at))) (sym (set-up-after e)) (fresh-kept (set-up-sized e))

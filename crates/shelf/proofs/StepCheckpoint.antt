@@ -3,7 +3,7 @@ use Prim.Native.Nat.{ℕ, _≤_}
 use mathlib.Core.Path.{_≡_, refl, sym, ap, _∙_, subst}
 use mathlib.Core.Bool.{true, false, _||_, and-true, not-and-self, or-false}
 use mathlib.Core.Logic.{⊎-elim}
-use mathlib.Core.List.{List, []}
+use mathlib.Core.List.{[]}
 use native.Mathlib.Omega.{arith}
 use Rattle.laws.specs.Sum.{count}
 use Rattle.laws.specs.First.{found}
@@ -17,30 +17,18 @@ use Rattle.bufmodel.specs.Memory.{Memory, buffers, size, wordOf, nameOf}
 use Rattle.bufmodel.specs.Moves.{writeUpTo}
 use Rattle.bufmodel.specs.Outcome.{one, done}
 use Rattle.bufmodel.specs.Calls.{checkpoint}
-use Rattle.bufmodel.specs.Step.{Pin, Checkpoint, step}
+use Rattle.bufmodel.specs.Step.{Checkpoint, step}
 use Rattle.bufmodel.proofs.RowsLaws.{place-row}
 use Rattle.shelf.specs.Shelf.{places, refuses, shelfAfter}
-use Rattle.shelf.specs.Ledger.{
-  backBy,
-  newBy,
-  putBy,
-  dirtiedBy,
-  dirtyAfter,
-  lastAfter,
-  saidFlushed,
-  flushedAfter,
-  acceptedBy,
-  highest,
-}
+use Rattle.shelf.specs.Ledger.{highest}
+use Rattle.shelf.specs.Ledger.{backBy, newBy, putBy, dirtiedBy, dirtyAfter, lastAfter, saidFlushed, flushedAfter, acceptedBy}
+use Rattle.shelf.proofs.CallKinds.{not-pin}
 use Rattle.shelf.proofs.Kept.{View, shelfOf, ledgerOf, Has, Kept, Ended}
 use Rattle.shelf.proofs.KeptLaws.{some-or-none, kept-alike}
 use Rattle.shelf.proofs.Refused.{neither-none, no-pin, call-step}
 use Rattle.shelf.proofs.Accepted.{Accepted, accepted-ended}
-use Rattle.shelf.proofs.HighestBound.{highest-is}
+use Rattle.shelf.proofs.HighestLaws.{highest-is}
 use Rattle.shelf.proofs.BackUpTo.{backWith, viewWith, BackUpTo, back-up-to}
-
-checkpoint-pin : (n : PageName) → Checkpoint ≡ Pin n → ⊥
-checkpoint-pin n e = let z : _≡_ {A = ℕ} 0 1 = cc in omega arith
 
 module _ (m : Memory) (v : View) (k : Kept m v) (r : BackUpTo m v (buffers m)) where
   abbrev now : Memory
@@ -93,7 +81,7 @@ module _ (m : Memory) (v : View) (k : Kept m v) (r : BackUpTo m v (buffers m)) w
         number = number;
         answers = (n, refl);
         shows = refl;
-        pin = no-pin m v Checkpoint _ checkpoint-pin;
+        pin = no-pin m v Checkpoint _ (not-pin refl);
         many = sym (r .many);
         wide = refl;
         rows = refl;
@@ -125,5 +113,5 @@ unfolding step checkpoint refuses places
 checkpoint-step m v k =
     let n = count (buffers m) (λ i. dirty (wordOf m i)) in
     call-step m v Checkpoint k [] (done (one n) [] (writeUpTo (buffers m) m)) refl refl neither-none
-    (λ j h e. no-pin m v Checkpoint _ checkpoint-pin)
+    (λ j h e. no-pin m v Checkpoint _ (not-pin refl))
     (λ e. checkpoint-ended m v k (back-up-to m v k (buffers m) (omega arith)) e n)

@@ -7,42 +7,26 @@ use native.Mathlib.Omega.{arith}
 use Rattle.laws.specs.First.{Found, found, missing}
 use Rattle.laws.proofs.Tests.{never}
 use Rattle.buftag.specs.declared.name.FileName.{FileName}
-use Rattle.buftag.specs.declared.name.PageName.{PageName}
 use Rattle.bufmodel.specs.Rows.{setBlocks, rowOf, storeBlocks}
 use Rattle.bufmodel.specs.Memory.{Memory, buffers, withRows as rowsInto}
 use Rattle.bufmodel.specs.Moves.{releaseUpTo}
 use Rattle.bufmodel.specs.Outcome.{Place, place, refusalOf, zeros}
 use Rattle.bufmodel.specs.Pin.{noRow}
 use Rattle.bufmodel.specs.Calls.{filePinned, dropAt, dropFile}
-use Rattle.bufmodel.specs.Step.{Pin, Checkpoint, Drop, step}
+use Rattle.bufmodel.specs.Step.{Drop, step}
 use Rattle.bufmodel.proofs.OutcomeLaws.{refusal-at, refusal-same, refusal-passed}
 use Rattle.bufmodel.proofs.DropLaws.{none-pinned, Released, released-all}
 use Rattle.shelf.specs.Shelf.{Shelf, withRows, filePinned as pagesPinned, places, refuses, droppedAt, shelfAfter}
-use Rattle.shelf.specs.Ledger.{
-  inRow,
-  backBy,
-  newBy,
-  putBy,
-  dirtiedBy,
-  dirtyAfter,
-  lastAfter,
-  saidFlushed,
-  flushedAfter,
-  acceptedBy,
-}
+use Rattle.shelf.specs.Ledger.{inRow}
+use Rattle.shelf.specs.Ledger.{backBy, newBy, putBy, dirtiedBy, dirtyAfter, lastAfter, saidFlushed, flushedAfter, acceptedBy}
+use Rattle.shelf.proofs.CallKinds.{not-pin, not-checkpoint}
 use Rattle.shelf.proofs.Kept.{View, shelfOf, ledgerOf, viewOf, Kept, Ended}
 use Rattle.shelf.proofs.KeptLaws.{Alike, kept-alike}
 use Rattle.shelf.proofs.Refused.{neither-none, neither-place, no-pin, call-step}
 use Rattle.shelf.proofs.Accepted.{ledgerThen, Accepted, accepted-ended}
-use Rattle.shelf.proofs.HighestLaws.{highest-none}
-use Rattle.shelf.proofs.FilePages.{pinned-same}
+use Rattle.shelf.proofs.HighestLaws.{highest-still}
+use Rattle.shelf.proofs.FilePages.{file-pinned-same}
 use Rattle.shelf.proofs.DropKept.{droppedMemory, droppedView, dropped-kept}
-
-drop-pin : {f : FileName} (n : PageName) → Drop f ≡ Pin n → ⊥
-drop-pin n e = let z : _≡_ {A = ℕ} 0 1 = cc in omega arith
-
-drop-checkpoint : {f : FileName} → Drop f ≡ Checkpoint → ⊥
-drop-checkpoint e = let z : _≡_ {A = ℕ} 0 1 = cc in omega arith
 
 -- ---- the ledger after an accepted drop of the file in row r
 module _ (m : Memory) (v : View) (f : FileName) (r : ℕ) (e : rowOf (m .rows) f ≡ found r) where
@@ -74,7 +58,7 @@ module _ (m : Memory) (v : View) (k : Kept m v) (f : FileName) where
   -- the same number
   drop-number : (r : Found) → rowOf (m .rows) f ≡ r
       → refusalOf (dropPlaces r (filePinned m f)) ≡ refusalOf (dropPlaces r (pagesPinned (shelfOf m v) r))
-  drop-number (found r) e = refusal-same 3 _ _ refl (refusal-same 14 [] [] (pinned-same m v k f r e) refl)
+  drop-number (found r) e = refusal-same 3 _ _ refl (refusal-same 14 [] [] (file-pinned-same m v k f r e) refl)
   drop-number missing e = refusal-at 3 _ missing-refused ∙ sym (refusal-at 3 _ missing-refused)
 
   -- ---- accepted
@@ -87,17 +71,17 @@ module _ (m : Memory) (v : View) (k : Kept m v) (f : FileName) where
           number = z;
           answers = refl;
           shows = refl;
-          pin = no-pin m v (Drop f) _ drop-pin;
+          pin = no-pin m v (Drop f) _ (not-pin refl);
           many = sym (x .many);
           wide = refl;
           rows = ap (λ (s : Shelf). s .rows) (shelf-dropped m v f r e _);
           inserted = ap (λ (s : Shelf). s .inserted) (shelf-dropped m v f r e _);
-          flushed = highest-none (ledgerOf m v) (λ g. false) (m .control .flushed) (storeBlocks (m .rows)) (λ g b. refl);
+          flushed = highest-still (ledgerOf m v) (m .control .flushed) (storeBlocks (m .rows));
           kept = kept-alike (droppedMemory m d r) (droppedView m v r) _ (view-dropped m v f r e)
               (dropped-kept m v k f r e d x (none-pinned m f none));
           others = λ g b q. refl;
           long = refl;
-          settled = λ q. absurd (drop-checkpoint q);
+          settled = λ q. absurd (not-checkpoint refl q);
         }
 
     drop-accepted : Accepted m v (Drop f) zeros [] (rowsInto (setBlocks (m .rows) r 0) (releaseUpTo f (buffers m) m))
@@ -121,4 +105,4 @@ drop-step m v k f =
     let number = drop-number m v k f r refl in
     call-step m v (Drop f) k (dropPlaces r (filePinned m f)) (dropAt m f r) refl number
     (neither-place 3 _ _ (omega arith) (neither-place 14 _ [] (omega arith) neither-none))
-    (λ n h e. no-pin m v (Drop f) _ drop-pin) (λ q. drop-done m v k f r refl (sym number ∙ q) q)
+    (λ n h e. no-pin m v (Drop f) _ (not-pin refl)) (λ q. drop-done m v k f r refl (sym number ∙ q) q)

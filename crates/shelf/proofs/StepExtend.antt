@@ -1,7 +1,7 @@
 -- Extend agrees with the shelf.
 use Prim.Native.Nat.{ℕ, _<_}
 use mathlib.Core.Path.{_≡_, refl, sym, ap, _∙_}
-use mathlib.Core.Bool.{Bool, false, _||_}
+use mathlib.Core.Bool.{Bool, _||_}
 use mathlib.Core.List.{List, [], _∷_}
 use native.Mathlib.Omega.{arith}
 use lib.Dec.{eqb}
@@ -9,29 +9,23 @@ use borrow.Author.Tests.{eqb-false}
 use Rattle.laws.specs.First.{Found, found, missing}
 use Rattle.laws.proofs.Tests.{never}
 use Rattle.buftag.specs.declared.name.FileName.{FileName}
-use Rattle.buftag.specs.declared.name.PageName.{PageName}
 use Rattle.bufmodel.specs.Rows.{blocksAt, capacityAt, rowOf, storeBlocks}
 use Rattle.bufmodel.specs.Memory.{Memory}
 use Rattle.bufmodel.specs.Outcome.{Place, place, refusalOf, one}
 use Rattle.bufmodel.specs.Pin.{noRow}
 use Rattle.bufmodel.specs.Calls.{fileFull, extendAt, extend}
-use Rattle.bufmodel.specs.Step.{Pin, Checkpoint, Extend, step}
+use Rattle.bufmodel.specs.Step.{Extend, step}
 use Rattle.bufmodel.proofs.RowsLaws.{row-found}
 use Rattle.bufmodel.proofs.OutcomeLaws.{refusal-passed}
 use Rattle.shelf.specs.Shelf.{Shelf, places, refuses, nextBlock, extendedAt, shelfAfter}
 use Rattle.shelf.specs.Ledger.{backBy, newAt, newBy, putBy, dirtiedBy, dirtyAfter, lastAfter, saidFlushed, flushedAfter, acceptedBy}
+use Rattle.shelf.proofs.CallKinds.{not-pin, not-checkpoint}
 use Rattle.shelf.proofs.Kept.{View, shelfOf, ledgerOf, viewOf, Kept, Ended}
 use Rattle.shelf.proofs.KeptLaws.{Alike, kept-alike}
 use Rattle.shelf.proofs.Refused.{neither-none, neither-place, no-pin, call-step}
 use Rattle.shelf.proofs.Accepted.{ledgerThen, shelfThen, Accepted, accepted-ended}
-use Rattle.shelf.proofs.HighestLaws.{highest-none}
+use Rattle.shelf.proofs.HighestLaws.{highest-still}
 use Rattle.shelf.proofs.ExtendKept.{placeMore, memoryMore, viewMore, store-other, store-long, kept-more}
-
-extend-pin : {f : FileName} (n : PageName) → Extend f ≡ Pin n → ⊥
-extend-pin n e = let z : _≡_ {A = ℕ} 0 1 = cc in omega arith
-
-extend-checkpoint : {f : FileName} → Extend f ≡ Checkpoint → ⊥
-extend-checkpoint e = let z : _≡_ {A = ℕ} 0 1 = cc in omega arith
 
 -- the places of extend, for a row that was found or not
 abbrev placesAt : List ℕ → Found → List Place
@@ -81,16 +75,16 @@ module _ (m : Memory) (v : View) (k : Kept m v) (f : FileName) (r : ℕ) (e : ro
         number = z;
         answers = (_, refl);
         shows = (r, e, refl);
-        pin = no-pin m v (Extend f) _ extend-pin;
+        pin = no-pin m v (Extend f) _ (not-pin refl);
         many = refl;
         wide = refl;
         rows = ap (λ (s : Shelf). s .rows) shelf-then;
         inserted = ap (λ (s : Shelf). s .inserted) shelf-then;
-        flushed = highest-none (ledgerOf m v) (λ g. false) (m .control .flushed) (storeBlocks (m .rows)) (λ g b. refl);
+        flushed = highest-still (ledgerOf m v) (m .control .flushed) (storeBlocks (m .rows));
         kept = kept-alike (memoryMore m r) (viewMore m v r) _ alike-then (kept-more m v k r l room);
         others = λ g b h. store-other m v k r l room g (eqb-false _ _ (sym (put-then g) ∙ h));
         long = store-long m v k r l room;
-        settled = λ q. absurd (extend-checkpoint q);
+        settled = λ q. absurd (not-checkpoint refl q);
       }
 
 module _ (m : Memory) (v : View) (k : Kept m v) (f : FileName) where
@@ -108,5 +102,5 @@ unfolding step extend refuses places
 extend-step m v k f =
     let o = rowOf (m .rows) f in
     call-step m v (Extend f) k (placesAt (m .rows) o) (extendAt m o) refl refl
-    (neither-place 3 _ _ (omega arith) (neither-place 13 _ [] (omega arith) neither-none)) (λ n h e. no-pin m v (Extend f) _ extend-pin)
+    (neither-place 3 _ _ (omega arith) (neither-place 13 _ [] (omega arith) neither-none)) (λ n h e. no-pin m v (Extend f) _ (not-pin refl))
     (λ e. extend-ended m v k f o refl e e)

@@ -4,13 +4,11 @@ use mathlib.Core.Path.{_≡_, refl, sym, ap, _∙_, subst}
 use mathlib.Core.Bool.{Bool, true, false, _&&_, and-true, and-false, or-false}
 use mathlib.Core.Logic.{⊎-elim}
 use mathlib.Core.List.{List, []}
-use native.Mathlib.Omega.{arith}
 use lib.ListN.{length-set}
 use Rattle.laws.specs.Sum.{ind}
 use Rattle.laws.specs.First.{found}
 use Rattle.laws.proofs.First.{found-same}
 use Rattle.laws.proofs.Tests.{true-or-false, eq-or-ne, never}
-use Rattle.buftag.specs.declared.name.PageName.{PageName}
 use Rattle.bufmodel.specs.Word.{dirty}
 use Rattle.bufmodel.specs.Position.{position}
 use Rattle.bufmodel.specs.Rows.{storeBlocks}
@@ -18,35 +16,18 @@ use Rattle.bufmodel.specs.Memory.{Memory, wordOf}
 use Rattle.bufmodel.specs.Moves.{writeBack}
 use Rattle.bufmodel.specs.Outcome.{one, done}
 use Rattle.bufmodel.specs.Calls.{bufferPlaces, flush}
-use Rattle.bufmodel.specs.Step.{Pin, Flush, Checkpoint, step}
+use Rattle.bufmodel.specs.Step.{Flush, step}
 use Rattle.shelf.specs.Shelf.{places, refuses, shelfAfter}
-use Rattle.shelf.specs.Ledger.{
-  isPlace,
-  backBy,
-  newBy,
-  putBy,
-  dirtiedBy,
-  dirtyAfter,
-  lastAfter,
-  saidFlushed,
-  flushedAfter,
-  acceptedBy,
-  highest,
-}
+use Rattle.shelf.specs.Ledger.{isPlace, highest}
+use Rattle.shelf.specs.Ledger.{backBy, newBy, putBy, dirtiedBy, dirtyAfter, lastAfter, saidFlushed, flushedAfter, acceptedBy}
+use Rattle.shelf.proofs.CallKinds.{not-pin, not-checkpoint}
 use Rattle.shelf.proofs.Kept.{View, shelfOf, ledgerOf, Has, Kept, Ended}
 use Rattle.shelf.proofs.KeptLaws.{isPlace-true, isPlace-self, isPlace-other, kept-alike}
 use Rattle.shelf.proofs.Refused.{neither-none, no-pin, call-step}
 use Rattle.shelf.proofs.Accepted.{Accepted, accepted-ended}
-use Rattle.shelf.proofs.HighestLaws.{highest-none}
-use Rattle.shelf.proofs.HighestBound.{highest-one}
+use Rattle.shelf.proofs.HighestLaws.{highest-none, highest-one}
 use Rattle.shelf.proofs.BackKept.{backOf, back-dirty, back-clean, place-below, back-long, back-other, viewBack, kept-backOf}
 use Rattle.shelf.proofs.BufferPlaces.{number-same, number-neither, number-page}
-
-flush-pin : {i : ℕ} (n : PageName) → Flush i ≡ Pin n → ⊥
-flush-pin n e = let z : _≡_ {A = ℕ} 0 1 = cc in omega arith
-
-flush-checkpoint : {i : ℕ} → Flush i ≡ Checkpoint → ⊥
-flush-checkpoint e = let z : _≡_ {A = ℕ} 0 1 = cc in omega arith
 
 module _ (m : Memory) (v : View) (k : Kept m v) (i g : ℕ) (x : Has m i g) (held : v .holds i ≡ found g) where
   abbrev back : ℕ → Bool
@@ -74,7 +55,7 @@ module _ (m : Memory) (v : View) (k : Kept m v) (i g : ℕ) (x : Has m i g) (hel
             number = number;
             answers = (count, refl);
             shows = refl;
-            pin = no-pin m v (Flush i) _ flush-pin;
+            pin = no-pin m v (Flush i) _ (not-pin refl);
             many = refl;
             wide = refl;
             rows = refl;
@@ -92,7 +73,7 @@ module _ (m : Memory) (v : View) (k : Kept m v) (i g : ℕ) (x : Has m i g) (hel
                 }) k;
             others = λ h b z. refl;
             long = refl;
-            settled = λ q. absurd (flush-checkpoint q);
+            settled = λ q. absurd (not-checkpoint refl q);
           }
 
     -- ---- a dirty page
@@ -102,7 +83,7 @@ module _ (m : Memory) (v : View) (k : Kept m v) (i g : ℕ) (x : Has m i g) (hel
 
       flushed-one : highest (ledgerOf m v) (storeBlocks (m .rows)) back (m .control .flushed) ≡ backOf m i g .control .flushed
       flushed-one =
-          highest-one (ledgerOf m v) back (m .control .flushed) (storeBlocks (m .rows)) g (place-below m v k i g x d)
+          highest-one (ledgerOf m v) back (m .control .flushed) (storeBlocks (m .rows)) g (place-below m v k i g x)
           (back-one g ∙ isPlace-self g) (λ h b e. sym (found-same (isPlace-true (found g) h (sym (back-one h) ∙ e))))
           ∙ ap (λ (page : List ℕ). max (m .control .flushed) (position page)) (k .same i g x .bytes)
 
@@ -113,7 +94,7 @@ module _ (m : Memory) (v : View) (k : Kept m v) (i g : ℕ) (x : Has m i g) (hel
             number = number;
             answers = (count, refl);
             shows = refl;
-            pin = no-pin m v (Flush i) _ flush-pin;
+            pin = no-pin m v (Flush i) _ (not-pin refl);
             many = simp length-set;
             wide = refl;
             rows = refl;
@@ -129,10 +110,10 @@ module _ (m : Memory) (v : View) (k : Kept m v) (i g : ℕ) (x : Has m i g) (hel
                   last = λ b. refl;
                   put = λ h. rw (back-one h, or-false);
                 }) (kept-backOf m v k i g x d);
-            others = λ h b z. back-other m v k i g x d h
+            others = λ h b z. back-other m v k i g x h
                 (λ e. never (ap (isPlace (found g)) e ∙ isPlace-self g) (sym (back-one h) ∙ sym (or-false (back h)) ∙ z));
-            long = back-long m v k i g x d;
-            settled = λ q. absurd (flush-checkpoint q);
+            long = back-long m v k i g x;
+            settled = λ q. absurd (not-checkpoint refl q);
           }
 
     flush-ended : Ended m v (Flush i) (done (one count) [] (writeBack m i))
@@ -151,7 +132,7 @@ unfolding step flush refuses places
 flush-step m v k i =
     let number = number-same m v k i [] [] (λ h e. refl) in
     call-step m v (Flush i) k (bufferPlaces m i []) (done (one (ind (dirty (wordOf m i)))) [] (writeBack m i)) refl
-    number (number-neither m i [] neither-none) (λ n h e. no-pin m v (Flush i) _ flush-pin)
+    number (number-neither m i [] neither-none) (λ n h e. no-pin m v (Flush i) _ (not-pin refl))
     (λ e.
     let p = number-page m v k i [] e in
     flush-ended m v k i (p .page) (p .has) (p .holds) (sym number ∙ e) (ind (dirty (wordOf m i))))

@@ -1,55 +1,29 @@
 -- Log inserted and log flushed agree with the shelf.
-use Prim.Native.Nat.{ℕ, _≤_, _<_, max}
-use mathlib.Core.Path.{_≡_, refl, sym, ap, _∙_, subst}
-use mathlib.Core.Bool.{Bool, true, false}
-use mathlib.Core.List.{List, [], _∷_}
+use Prim.Native.Nat.{ℕ, _≤_, max}
+use mathlib.Core.Path.{_≡_, refl}
+use mathlib.Core.List.{[], _∷_}
 use native.Mathlib.Omega.{arith}
 use lib.Dec.{ltb}
 use borrow.Author.Tests.{ltb-false}
-use Rattle.buftag.specs.declared.name.PageName.{PageName}
 use Rattle.bufmodel.specs.Rows.{storeBlocks}
 use Rattle.bufmodel.specs.Memory.{Memory, withInserted, withFlushed}
 use Rattle.bufmodel.specs.Books.{emptyAt}
-use Rattle.bufmodel.specs.Outcome.{place, refusalOf, zeros, done}
+use Rattle.bufmodel.specs.Outcome.{place, zeros, done}
 use Rattle.bufmodel.specs.Calls.{logInserted, logFlushed}
-use Rattle.bufmodel.specs.Step.{Pin, Checkpoint, LogInserted, LogFlushed, step}
+use Rattle.bufmodel.specs.Step.{LogInserted, LogFlushed, step}
 use Rattle.bufmodel.proofs.LikeLaws.{like-good}
 use Rattle.bufmodel.proofs.OutcomeLaws.{refusal-passed}
 use Rattle.shelf.specs.Shelf.{places, refuses, shelfAfter}
-use Rattle.shelf.specs.Ledger.{
-  Ledger,
-  backBy,
-  newBy,
-  putBy,
-  dirtiedBy,
-  dirtyAfter,
-  lastAfter,
-  saidFlushed,
-  flushedAfter,
-  acceptedBy,
-  ledgerAfter,
-  puts,
-}
+use Rattle.shelf.specs.Ledger.{backBy, newBy, putBy, dirtiedBy, dirtyAfter, lastAfter, saidFlushed, flushedAfter, acceptedBy}
+use Rattle.shelf.proofs.CallKinds.{not-pin, not-checkpoint}
 use Rattle.shelf.proofs.Kept.{View, shelfOf, ledgerOf, Kept, Ended}
 use Rattle.shelf.proofs.Refused.{neither-none, neither-place, no-pin, call-step}
 use Rattle.shelf.proofs.Accepted.{Accepted, accepted-ended}
-use Rattle.shelf.proofs.HighestLaws.{highest-none}
-
-flushed-pin : {p : ℕ} (n : PageName) → LogFlushed p ≡ Pin n → ⊥
-flushed-pin n e = let z : _≡_ {A = ℕ} 0 1 = cc in omega arith
-
-flushed-checkpoint : {p : ℕ} → LogFlushed p ≡ Checkpoint → ⊥
-flushed-checkpoint e = let z : _≡_ {A = ℕ} 0 1 = cc in omega arith
-
-inserted-pin : {p : ℕ} (n : PageName) → LogInserted p ≡ Pin n → ⊥
-inserted-pin n e = let z : _≡_ {A = ℕ} 0 1 = cc in omega arith
-
-inserted-checkpoint : {p : ℕ} → LogInserted p ≡ Checkpoint → ⊥
-inserted-checkpoint e = let z : _≡_ {A = ℕ} 0 1 = cc in omega arith
+use Rattle.shelf.proofs.HighestLaws.{highest-still}
 
 module _ (m : Memory) (v : View) (k : Kept m v) (p : ℕ) where
   -- ---- other log positions alone
-  pub kept-log : (inserted flushed : ℕ) → m .control .inserted ≤ inserted → m .control .flushed ≤ flushed → flushed ≤ inserted
+  kept-log : (inserted flushed : ℕ) → m .control .inserted ≤ inserted → m .control .flushed ≤ flushed → flushed ≤ inserted
       → Kept (withInserted inserted (withFlushed flushed m)) v
   unfolding emptyAt
   kept-log inserted flushed hi hf h =
@@ -79,18 +53,18 @@ module _ (m : Memory) (v : View) (k : Kept m v) (p : ℕ) where
         number = e;
         answers = refl;
         shows = refl;
-        pin = no-pin m v (LogFlushed p) _ flushed-pin;
+        pin = no-pin m v (LogFlushed p) _ (not-pin refl);
         many = refl;
         wide = refl;
         rows = refl;
         inserted = refl;
-        flushed = highest-none (ledgerOf m v) (λ g. false) (max (m .control .flushed) p) (storeBlocks (m .rows)) (λ g b. refl);
+        flushed = highest-still (ledgerOf m v) (max (m .control .flushed) p) (storeBlocks (m .rows));
         kept =
             kept-log (m .control .inserted) (max (m .control .flushed) p) (omega arith) (omega arith)
             (omega (arith, k .good .books .log));
         others = λ g b z. refl;
         long = refl;
-        settled = λ q. absurd (flushed-checkpoint q);
+        settled = λ q. absurd (not-checkpoint refl q);
       }
 
   pub flushed-step : Ended m v (LogFlushed p) (step m (LogFlushed p))
@@ -98,7 +72,7 @@ module _ (m : Memory) (v : View) (k : Kept m v) (p : ℕ) where
   flushed-step =
       let ps = place 16 (ltb (m .control .inserted) p) ∷ [] in
       call-step m v (LogFlushed p) k ps (done zeros [] (withFlushed (max (m .control .flushed) p) m)) refl refl
-      (neither-place 16 _ [] (omega arith) neither-none) (λ n h e. no-pin m v (LogFlushed p) _ flushed-pin)
+      (neither-place 16 _ [] (omega arith) neither-none) (λ n h e. no-pin m v (LogFlushed p) _ (not-pin refl))
       (λ e.
       accepted-ended m v (LogFlushed p) zeros [] _
       (flushed-accepted e (ltb-false _ _ (refusal-passed 16 _ [] (omega arith) e .0))))
@@ -112,16 +86,16 @@ module _ (m : Memory) (v : View) (k : Kept m v) (p : ℕ) where
         number = e;
         answers = refl;
         shows = refl;
-        pin = no-pin m v (LogInserted p) _ inserted-pin;
+        pin = no-pin m v (LogInserted p) _ (not-pin refl);
         many = refl;
         wide = refl;
         rows = refl;
         inserted = refl;
-        flushed = highest-none (ledgerOf m v) (λ g. false) (m .control .flushed) (storeBlocks (m .rows)) (λ g b. refl);
+        flushed = highest-still (ledgerOf m v) (m .control .flushed) (storeBlocks (m .rows));
         kept = kept-log p (m .control .flushed) h (omega arith) (omega (arith, k .good .books .log));
         others = λ g b z. refl;
         long = refl;
-        settled = λ q. absurd (inserted-checkpoint q);
+        settled = λ q. absurd (not-checkpoint refl q);
       }
 
   pub inserted-step : Ended m v (LogInserted p) (step m (LogInserted p))
@@ -129,7 +103,7 @@ module _ (m : Memory) (v : View) (k : Kept m v) (p : ℕ) where
   inserted-step =
       let ps = place 15 (ltb p (m .control .inserted)) ∷ [] in
       call-step m v (LogInserted p) k ps (done zeros [] (withInserted p m)) refl refl
-      (neither-place 15 _ [] (omega arith) neither-none) (λ n h e. no-pin m v (LogInserted p) _ inserted-pin)
+      (neither-place 15 _ [] (omega arith) neither-none) (λ n h e. no-pin m v (LogInserted p) _ (not-pin refl))
       (λ e.
       accepted-ended m v (LogInserted p) zeros [] _
       (inserted-accepted e (ltb-false _ _ (refusal-passed 15 _ [] (omega arith) e .0))))

@@ -2,7 +2,6 @@
 use Prim.Native.Nat.{ℕ}
 use mathlib.Core.Path.{_≡_, refl, sym, _∙_}
 use mathlib.Core.List.{List, []}
-use native.Mathlib.Omega.{arith}
 use Rattle.laws.specs.First.{found}
 use Rattle.laws.specs.Block.{block}
 use Rattle.buftag.specs.declared.lookup.Held.{Held}
@@ -13,20 +12,15 @@ use Rattle.bufmodel.specs.Memory.{Memory, size}
 use Rattle.bufmodel.specs.Outcome.{two, done}
 use Rattle.bufmodel.specs.Pin.{namePlaces, heldIn}
 use Rattle.bufmodel.specs.Calls.{offsetOf, partOf, partIn, partAt, part, peek}
-use Rattle.bufmodel.specs.Step.{Pin, Peek, Checkpoint, step}
+use Rattle.bufmodel.specs.Step.{Peek, step}
 use Rattle.shelf.specs.Shelf.{places, refuses, shelfAfter}
 use Rattle.shelf.specs.Ledger.{backBy, newBy, putBy, dirtiedBy, dirtyAfter, lastAfter, saidFlushed, flushedAfter, acceptedBy}
+use Rattle.shelf.proofs.CallKinds.{not-pin, not-checkpoint}
 use Rattle.shelf.proofs.Kept.{View, shelfOf, ledgerOf, Kept, Ended}
 use Rattle.shelf.proofs.Refused.{neither-none, no-pin, call-step}
 use Rattle.shelf.proofs.Accepted.{Accepted, accepted-ended, ledgerThen}
 use Rattle.shelf.proofs.Unchanged.{ledger-stays, unchanged}
 use Rattle.shelf.proofs.NamePage.{name-neither, name-passed, held-has, held-nobody}
-
-peek-pin : {m : PageName} (n : PageName) → Peek m ≡ Pin n → ⊥
-peek-pin n e = let z : _≡_ {A = ℕ} 0 1 = cc in omega arith
-
-peek-checkpoint : {n : PageName} → Peek n ≡ Checkpoint → ⊥
-peek-checkpoint e = let z : _≡_ {A = ℕ} 0 1 = cc in omega arith
 
 -- the part in the store, where the place is known
 part-store : (m : Memory) (n : PageName) {g : ℕ} → placeOf (m .rows) n ≡ found g
@@ -56,14 +50,14 @@ module _ (m : Memory) (v : View) (k : Kept m v) (n : PageName) where
   peek-accepted : refuses (shelfOf m v) (Peek n) ≡ 0 → (g : ℕ) → placeOf (m .rows) n ≡ found g
       → Accepted m v (Peek n) (partOf m n (heldIn m n)) [] m
   peek-accepted e g q =
-      unchanged m v k (Peek n) _ [] (peek-ledger _) peek-checkpoint e (two-words (heldIn m n)) (g, q, peek-part g q (heldIn m n) refl)
-      (no-pin m v (Peek n) _ peek-pin)
+      unchanged m v k (Peek n) _ [] (peek-ledger _) (not-checkpoint refl) e (two-words (heldIn m n)) (g, q, peek-part g q (heldIn m n) refl)
+      (no-pin m v (Peek n) _ (not-pin refl))
 
   pub peek-step : Ended m v (Peek n) (step m (Peek n))
   unfolding step peek refuses places
   peek-step =
       call-step m v (Peek n) k (namePlaces (m .rows) n []) _ refl refl (name-neither (m .rows) n [] neither-none)
-      (λ j h e. no-pin m v (Peek n) _ peek-pin)
+      (λ j h e. no-pin m v (Peek n) _ (not-pin refl))
       (λ e.
       let p = name-passed (m .rows) n [] e .0 in
       accepted-ended m v (Peek n) _ [] m (peek-accepted e (p .0) (p .1)))

@@ -1,11 +1,8 @@
 -- Pin agrees with the shelf: held, from the free list, or the victim of a sweep.
-use Prim.Native.Nat.{ℕ, _≤_, _<_}
-use mathlib.Core.Path.{_≡_, refl, sym, ap, _∙_, subst}
-use mathlib.Core.Bool.{true, false}
+use Prim.Native.Nat.{ℕ}
+use mathlib.Core.Path.{_≡_, refl, sym, _∙_, subst}
 use mathlib.Core.Logic.{⊎-elim}
-use mathlib.Core.List.{List, [], _∷_}
-use native.Mathlib.Omega.{arith}
-use Rattle.laws.specs.Sum.{ind}
+use mathlib.Core.List.{[]}
 use Rattle.laws.specs.First.{Found, found}
 use Rattle.buftag.specs.declared.link.Link.{Link}
 use Rattle.buftag.specs.declared.link.Link.the-variants.{To, End}
@@ -14,24 +11,24 @@ use Rattle.buftag.specs.declared.lookup.Held.the-variants.{At, Nowhere}
 use Rattle.buftag.specs.declared.name.PageName.{PageName}
 use Rattle.buftag.specs.Link.{linkOf}
 use Rattle.buftag.specs.declared.number.BufferNumber.{BufferNumber}
-use Rattle.bufmodel.specs.Word.{usage, dirty, maxUsage}
 use Rattle.bufmodel.specs.Rows.{placeOf}
-use Rattle.bufmodel.specs.Memory.{Memory, buffers, wordOf}
+use Rattle.bufmodel.specs.Memory.{Memory}
 use Rattle.bufmodel.specs.Moves.{load}
-use Rattle.bufmodel.specs.Outcome.{refusalOf, done}
+use Rattle.bufmodel.specs.Outcome.{refusalOf}
 use Rattle.bufmodel.specs.Pin.{heldIn, pinPlaces, pinHeld, pinFree, pinVictim, pinSwept, pinNew, pinTo, pin}
 use Rattle.bufmodel.specs.Step.{Pin, step}
 use Rattle.bufmodel.proofs.SweepEnds.{sweep-finds}
-use Rattle.bufmodel.proofs.LoadLaws.{top-none, top-end}
+use Rattle.bufmodel.proofs.FreeListLaws.{top-none}
+use Rattle.bufmodel.proofs.LoadLaws.{load-hand}
 use Rattle.shelf.specs.Shelf.{refuses}
 use Rattle.shelf.proofs.Kept.{View, shelfOf, Kept, Ended}
 use Rattle.shelf.proofs.Refused.{call-step}
 use Rattle.shelf.proofs.Accepted.{accepted-ended}
 use Rattle.shelf.proofs.PinPlaces.{pin-number, pin-neither, pin-place, pin-open}
 use Rattle.shelf.proofs.PinSix.{pin-says, pin-refused}
-use Rattle.shelf.proofs.StepHit.{hit-accepted}
-use Rattle.shelf.proofs.StepFree.{sought-free, free-accepted, load-hand}
-use Rattle.shelf.proofs.StepVictim.{sweepOf, victim-accepted, victim-sought}
+use Rattle.shelf.proofs.PinHit.{hit-accepted}
+use Rattle.shelf.proofs.PinFree.{sought-free, free-accepted}
+use Rattle.shelf.proofs.PinVictim.{sweepOf, few-used, victim-accepted, victim-sought}
 
 module _ (m : Memory) (v : View) (k : Kept m v) (n : PageName) (z : refusalOf (pinPlaces m n) ≡ 0) where
   -- held
@@ -66,8 +63,7 @@ module _ (m : Memory) (v : View) (k : Kept m v) (n : PageName) (z : refusalOf (p
       victim : (w : ℕ) × (sweepOf m .victim ≡ found w)
       victim =
           let u = pin-open m n z new in
-          let few : (i : ℕ) → i < buffers m → usage (wordOf m i) ≤ maxUsage = λ i l. k .words i l (top-end m (k .good) top i l) .few in
-          let f = sweep-finds (m .states) (m .control .hand) (k .good .sizes .least) (k .good .books .hand) (u .0) (u .1) (u .2) few in
+          let f = sweep-finds (m .states) (m .control .hand) (k .good .books .hand) (u .0) (u .1) (u .2) (few-used m v k top) in
           (f .0, f .1)
 
       victim-ended : Ended m v (Pin n) (pinSwept m n (sweepOf m))
@@ -84,7 +80,7 @@ module _ (m : Memory) (v : View) (k : Kept m v) (n : PageName) (z : refusalOf (p
         (λ t. subst (λ (l : Link). Ended m v (Pin n) (pinNew m n l)) (sym (t .1)) (free-ended (t .0) (t .1)))
         (top-none m (k .good))
 
-  pub pin-ended : Ended m v (Pin n) (pinTo m n (heldIn m n))
+  pin-ended : Ended m v (Pin n) (pinTo m n (heldIn m n))
   unfolding pinTo
   pin-ended = go (heldIn m n) refl
     where

@@ -5,24 +5,18 @@ use mathlib.Core.List.{List, [], _∷_}
 use native.Mathlib.Omega.{arith}
 use lib.Dec.{ltb}
 use lib.ListN.{length, take, drop}
-use Rattle.buftag.specs.declared.name.PageName.{PageName}
 use Rattle.bufmodel.specs.Memory.{Memory, size, pageOf}
 use Rattle.bufmodel.specs.Outcome.{Place, place, refusalOf, zeros}
 use Rattle.bufmodel.specs.Calls.{bufferPlaces, read}
-use Rattle.bufmodel.specs.Step.{Pin, Read, Checkpoint, step}
+use Rattle.bufmodel.specs.Step.{Read, step}
 use Rattle.shelf.specs.Shelf.{places, refuses, shelfAfter}
 use Rattle.shelf.specs.Ledger.{backBy, newBy, putBy, dirtiedBy, dirtyAfter, lastAfter, saidFlushed, flushedAfter, acceptedBy}
+use Rattle.shelf.proofs.CallKinds.{not-pin, not-checkpoint}
 use Rattle.shelf.proofs.Kept.{View, shelfOf, ledgerOf, Kept, Ended}
 use Rattle.shelf.proofs.Refused.{neither-none, neither-place, no-pin, call-step}
 use Rattle.shelf.proofs.Accepted.{Accepted, accepted-ended, ledgerThen}
 use Rattle.shelf.proofs.Unchanged.{ledger-stays, unchanged}
 use Rattle.shelf.proofs.BufferPlaces.{number-neither, number-page, number-same}
-
-read-pin : {i from : ℕ} {out : List ℕ} (n : PageName) → Read i from out ≡ Pin n → ⊥
-read-pin n e = let z : _≡_ {A = ℕ} 0 1 = cc in omega arith
-
-read-checkpoint : {i from : ℕ} {out : List ℕ} → Read i from out ≡ Checkpoint → ⊥
-read-checkpoint e = let z : _≡_ {A = ℕ} 0 1 = cc in omega arith
 
 module _ (m : Memory) (v : View) (k : Kept m v) (i from : ℕ) (out : List ℕ) where
   -- the ledger stays
@@ -42,13 +36,13 @@ module _ (m : Memory) (v : View) (k : Kept m v) (i from : ℕ) (out : List ℕ) 
       → Accepted m v (Read i from out) zeros (take (length out) (drop from (pageOf m i))) m
   read-accepted e =
       let p = number-page m v k i ps e in
-      unchanged m v k (Read i from out) zeros _ (read-ledger zeros) read-checkpoint (sym read-number ∙ e)
+      unchanged m v k (Read i from out) zeros _ (read-ledger zeros) (not-checkpoint refl) (sym read-number ∙ e)
       refl (p .page, p .holds, ap (λ (x : List ℕ). take (length out) (drop from x)) (sym (p .same .bytes)))
-      (no-pin m v (Read i from out) _ read-pin)
+      (no-pin m v (Read i from out) _ (not-pin refl))
 
   pub read-step : Ended m v (Read i from out) (step m (Read i from out))
   unfolding step read
   read-step =
       call-step m v (Read i from out) k (bufferPlaces m i ps) _ refl read-number
-      (number-neither m i ps (neither-place 9 _ [] (omega arith) neither-none)) (λ n h e. no-pin m v (Read i from out) _ read-pin)
+      (number-neither m i ps (neither-place 9 _ [] (omega arith) neither-none)) (λ n h e. no-pin m v (Read i from out) _ (not-pin refl))
       (λ e. accepted-ended m v (Read i from out) zeros _ m (read-accepted e))

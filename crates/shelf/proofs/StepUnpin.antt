@@ -1,7 +1,7 @@
 -- Unpin agrees with the shelf.
 use Prim.Native.Nat.{ℕ, _-_, _<_}
 use mathlib.Core.Path.{_≡_, refl, sym, ap, _∙_, subst}
-use mathlib.Core.Bool.{false, cond}
+use mathlib.Core.Bool.{cond}
 use mathlib.Core.Logic.{⊎-elim}
 use mathlib.Core.List.{[]}
 use native.Mathlib.Omega.{arith}
@@ -10,28 +10,22 @@ use lib.ListN.{set, length-set}
 use borrow.Author.Tests.{eq-eqb, ne-eqb}
 use Rattle.laws.specs.First.{Found, found, missing}
 use Rattle.laws.proofs.Tests.{eq-or-ne}
-use Rattle.buftag.specs.declared.name.PageName.{PageName}
 use Rattle.bufmodel.specs.Word.{pins, pinned, pinLess}
 use Rattle.bufmodel.specs.Rows.{storeBlocks}
 use Rattle.bufmodel.specs.Memory.{Memory, wordOf, withStates}
 use Rattle.bufmodel.specs.Outcome.{refusalOf, zeros, done}
 use Rattle.bufmodel.specs.Calls.{bufferPlaces, unpin}
-use Rattle.bufmodel.specs.Step.{Pin, Unpin, Checkpoint, step}
+use Rattle.bufmodel.specs.Step.{Unpin, step}
 use Rattle.bufmodel.proofs.WordLaws.{pin-less}
 use Rattle.shelf.specs.Shelf.{Shelf, places, refuses, unpinnedAt, shelfAfter}
 use Rattle.shelf.specs.Ledger.{backBy, newBy, putBy, dirtiedBy, dirtyAfter, lastAfter, saidFlushed, flushedAfter, acceptedBy}
+use Rattle.shelf.proofs.CallKinds.{not-pin, not-checkpoint}
 use Rattle.shelf.proofs.Kept.{View, shelfOf, ledgerOf, Kept, Ended}
 use Rattle.shelf.proofs.Refused.{neither-none, no-pin, call-step}
 use Rattle.shelf.proofs.Accepted.{Accepted, accepted-ended}
-use Rattle.shelf.proofs.HighestLaws.{highest-none}
+use Rattle.shelf.proofs.HighestLaws.{highest-still}
 use Rattle.shelf.proofs.BufferPlaces.{PinnedPage, number-neither, number-page, number-same}
-use Rattle.shelf.proofs.WordKept.{pins-kept}
-
-unpin-pin : {i : ℕ} (n : PageName) → Unpin i ≡ Pin n → ⊥
-unpin-pin n e = let z : _≡_ {A = ℕ} 0 1 = cc in omega arith
-
-unpin-checkpoint : {i : ℕ} → Unpin i ≡ Checkpoint → ⊥
-unpin-checkpoint e = let z : _≡_ {A = ℕ} 0 1 = cc in omega arith
+use Rattle.shelf.proofs.TurnKept.{pins-kept}
 
 -- at a count of 1 the number holds none afterwards, since the word then has no pins
 last-pin : (c w g : ℕ) → 0 < c → pins w ≡ c - 1 → cond (eqb c 1) missing (found g) ≡ cond (pinned w) (found g) missing
@@ -73,22 +67,22 @@ module _ (m : Memory) (v : View) (k : Kept m v) (i : ℕ) where
         number = e;
         answers = refl;
         shows = refl;
-        pin = no-pin m v (Unpin i) _ unpin-pin;
+        pin = no-pin m v (Unpin i) _ (not-pin refl);
         many = sym (length-set (m .states) i (pinLess (wordOf m i)));
         wide = refl;
         rows = ap (λ (f : Found). unpinnedAt (shelfOf m v) i f .rows) (p .holds);
         inserted = ap (λ (f : Found). unpinnedAt (shelfOf m v) i f .inserted) (p .holds);
-        flushed = highest-none (ledgerOf m v) (λ g. false) (m .control .flushed) (storeBlocks (m .rows)) (λ g b. refl);
+        flushed = highest-still (ledgerOf m v) (m .control .flushed) (storeBlocks (m .rows));
         kept = unpin-kept p;
         others = λ g b z. refl;
         long = refl;
-        settled = λ q. absurd (unpin-checkpoint q);
+        settled = λ q. absurd (not-checkpoint refl q);
       }
 
   pub unpin-step : Ended m v (Unpin i) (step m (Unpin i))
   unfolding step unpin
   unpin-step =
       call-step m v (Unpin i) k (bufferPlaces m i []) (done zeros [] m′) refl unpin-number (number-neither m i [] neither-none)
-      (λ n h e. no-pin m v (Unpin i) _ unpin-pin)
+      (λ n h e. no-pin m v (Unpin i) _ (not-pin refl))
       (λ e.
       accepted-ended m v (Unpin i) zeros [] m′ (unpin-accepted (sym unpin-number ∙ e) (number-page m v k i [] e)))

@@ -1,41 +1,31 @@
 -- Write agrees with the shelf.
 use Prim.Native.Nat.{ℕ, _+_, _^_, _<_}
 use mathlib.Core.Path.{_≡_, refl, sym, ap, _∙_}
-use mathlib.Core.Bool.{Bool, true, false, _||_, true≢false}
+use mathlib.Core.Bool.{Bool, _||_}
 use mathlib.Core.List.{List, [], _∷_}
 use native.Mathlib.Omega.{arith}
 use lib.Dec.{eqb, ltb}
 use lib.ListN.{length, length-set}
 use borrow.Author.Tests.{ltb-false}
 use Rattle.laws.specs.First.{Found}
-use Rattle.buftag.specs.declared.name.PageName.{PageName}
+use Rattle.laws.proofs.Tests.{or-neither}
 use Rattle.bufmodel.specs.Word.{makeDirty}
 use Rattle.bufmodel.specs.Position.{position}
 use Rattle.bufmodel.specs.Rows.{storeBlocks}
 use Rattle.bufmodel.specs.Memory.{Memory, size, wordOf, pageOf}
 use Rattle.bufmodel.specs.Outcome.{Place, place, refusalOf, zeros, done}
 use Rattle.bufmodel.specs.Calls.{writePlaces, writeTo, write}
-use Rattle.bufmodel.specs.Step.{Pin, Write, Checkpoint, step}
+use Rattle.bufmodel.specs.Step.{Write, step}
 use Rattle.bufmodel.proofs.OutcomeLaws.{refusal-passed}
 use Rattle.shelf.specs.Shelf.{tooLow, places, refuses, writtenAt, shelfAfter}
 use Rattle.shelf.specs.Ledger.{backBy, newBy, putBy, dirtiedBy, dirtyAfter, lastAfter, saidFlushed, flushedAfter, acceptedBy}
+use Rattle.shelf.proofs.CallKinds.{not-pin, not-checkpoint}
 use Rattle.shelf.proofs.Kept.{View, shelfOf, ledgerOf, Kept, Ended}
 use Rattle.shelf.proofs.Refused.{Neither, neither-none, neither-place, no-pin, call-step}
 use Rattle.shelf.proofs.Accepted.{Accepted, accepted-ended}
-use Rattle.shelf.proofs.HighestLaws.{highest-none}
+use Rattle.shelf.proofs.HighestLaws.{highest-still}
 use Rattle.shelf.proofs.BufferPlaces.{PinnedPage, number-neither, number-passed, pinned-page, number-page, number-same}
 use Rattle.shelf.proofs.WriteKept.{WriteFits, write-kept}
-
-write-pin : {i from at : ℕ} {bytes : List ℕ} (n : PageName) → Write i from bytes at ≡ Pin n → ⊥
-write-pin n e = let z : _≡_ {A = ℕ} 0 1 = cc in omega arith
-
-write-checkpoint : {i from at : ℕ} {bytes : List ℕ} → Write i from bytes at ≡ Checkpoint → ⊥
-write-checkpoint e = let z : _≡_ {A = ℕ} 0 1 = cc in omega arith
-
--- where not one of two tests refuses, neither does
-or-false : (a b : Bool) → (a || b) ≡ false → (a ≡ false) × (b ≡ false)
-or-false true b e = absurd (true≢false e)
-or-false false b e = (refl, e)
 
 -- ---- the places behind those of a buffer number
 module _ (m : Memory) (from : ℕ) (bytes : List ℕ) (at : ℕ) where
@@ -64,7 +54,7 @@ module _ (m : Memory) (from : ℕ) (bytes : List ℕ) (at : ℕ) where
       let a = refusal-passed 9 _ _ (omega arith) e in
       let b = refusal-passed 10 _ _ (omega arith) (a .1) in
       let c = refusal-passed 11 _ _ (omega arith) (b .1) in
-      let n = or-false (ltb (size m) (from + length bytes)) (ltb from 8) (a .0) in
+      let n = or-neither (ltb (size m) (from + length bytes)) (ltb from 8) (a .0) in
       record { inside = ltb-false _ _ (n .0); behind = ltb-false _ _ (n .1); low = ltb-false _ _ (c .0) }
 
 module _ (m : Memory) (v : View) (k : Kept m v) (i from : ℕ) (bytes : List ℕ) (at : ℕ) where
@@ -96,16 +86,16 @@ module _ (m : Memory) (v : View) (k : Kept m v) (i from : ℕ) (bytes : List ℕ
         number = sym write-number ∙ e;
         answers = refl;
         shows = refl;
-        pin = no-pin m v (Write i from bytes at) _ write-pin;
+        pin = no-pin m v (Write i from bytes at) _ (not-pin refl);
         many = sym (length-set (m .states) i (makeDirty (wordOf m i)));
         wide = refl;
         rows = ap (λ (f : Found). writtenAt (shelfOf m v) from bytes at f .rows) (p .0 .holds);
         inserted = ap (λ (f : Found). writtenAt (shelfOf m v) from bytes at f .inserted) (p .0 .holds);
-        flushed = highest-none (ledgerOf m v) (λ g. false) (m .control .flushed) (storeBlocks (m .rows)) (λ g b. refl);
+        flushed = highest-still (ledgerOf m v) (m .control .flushed) (storeBlocks (m .rows));
         kept = write-kept m v from bytes at k short (p .1) i (p .0);
         others = λ g b z. refl;
         long = refl;
-        settled = λ q. absurd (write-checkpoint q);
+        settled = λ q. absurd (not-checkpoint refl q);
       }
 
 pub write-step : (m : Memory) (v : View) → Kept m v → (i from : ℕ) (bytes : List ℕ) (at : ℕ) → at < 2 ^ 64
@@ -114,6 +104,6 @@ unfolding step write
 write-step m v k i from bytes at short =
     call-step m v (Write i from bytes at) k (writePlaces m i from bytes at) (done zeros bytes (writeTo m i from bytes at)) refl
     (write-number m v k i from bytes at) (write-neither m v k i from bytes at)
-    (λ n h e. no-pin m v (Write i from bytes at) _ write-pin)
+    (λ n h e. no-pin m v (Write i from bytes at) _ (not-pin refl))
     (λ e.
     accepted-ended m v (Write i from bytes at) zeros bytes _ (write-accepted m v k i from bytes at short e))

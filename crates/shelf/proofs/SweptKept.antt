@@ -8,8 +8,8 @@ use Rattle.bufmodel.specs.Memory.{Memory, buffers, wordOf, nameOf, withStates, 
 use Rattle.bufmodel.specs.Books.{emptyAt}
 use Rattle.bufmodel.specs.Sweep.{Swept, Sweeps}
 use Rattle.bufmodel.proofs.GoodLaws.{Good}
-use Rattle.bufmodel.proofs.SweepLaws.{LessUsed, SweptFrom, sweeps-from}
-use Rattle.bufmodel.proofs.LessUsedLaws.{less-pinned, less-dirty, less-held, less-empty, less-sound}
+use Rattle.bufmodel.proofs.SweepLaws.{SweptFrom, sweeps-from}
+use Rattle.bufmodel.proofs.LessUsedLaws.{LessUsed, less-pinned, less-dirty, less-held, less-empty, less-sound}
 use Rattle.bufmodel.proofs.LikeLaws.{like-good}
 use Rattle.shelf.proofs.Kept.{View, Has, Nobody, Same, Kept}
 
@@ -65,6 +65,7 @@ module _ (m : Memory) (v : View) (k : Kept m v) (s : Swept) (sweeps : Sweeps (bu
   swept-nobody : (g : ℕ) → Nobody (sweptIn m s) g → Nobody m g
   swept-nobody g none i h = none i (swept-has i g h)
 
+  -- all of it
   pub kept-swept : Kept (sweptIn m s) v
   kept-swept =
       let n = swept-from .same-length in

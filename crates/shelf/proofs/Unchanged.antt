@@ -13,7 +13,7 @@ use Rattle.shelf.specs.Statement.{Answers, Shows}
 use Rattle.shelf.proofs.Kept.{View, shelfOf, ledgerOf, viewOf, Kept}
 use Rattle.shelf.proofs.Refused.{PinSays}
 use Rattle.shelf.proofs.Accepted.{Accepted, ledgerThen}
-use Rattle.shelf.proofs.HighestLaws.{highest-none}
+use Rattle.shelf.proofs.HighestLaws.{highest-still}
 
 -- where no page is written back and all else stays, the ledger stays
 pub ledger-stays : (m : Memory) (v : View)
@@ -28,7 +28,7 @@ pub ledger-stays : (m : Memory) (v : View)
     (ledgerOf m v)
 ledger-stays m v =
     ap (λ (f : ℕ). record { shelf = shelfOf m v; dirty = v .dirty; last = v .last; flushed = f; put = v .put })
-    (highest-none (ledgerOf m v) (λ g. false) (m .control .flushed) (storeBlocks (m .rows)) (λ g b. refl))
+    (highest-still (ledgerOf m v) (m .control .flushed) (storeBlocks (m .rows)))
 
 -- nothing is left to show but the number and what the call shows
 pub unchanged : (m : Memory) (v : View) → Kept m v → (c : Call) (answer bytes : List ℕ) → ledgerThen m v c answer ≡ ledgerOf m v

@@ -1,21 +1,71 @@
 -- An accepted write keeps the relation: the pool's page and the shelf's bytes are written alike, and both sides are dirty.
 use Prim.Native.Nat.{ℕ, _+_, _^_, _≤_, _<_}
-use mathlib.Core.Path.{_≡_, sym, _∙_, subst}
+use mathlib.Core.Path.{_≡_, refl, sym, ap, _∙_, subst}
 use mathlib.Core.Bool.{_||_}
 use mathlib.Core.List.{List}
 use native.Mathlib.Omega.{arith}
-use lib.ListN.{length}
+use lib.ListN.{length, set}
 use Rattle.laws.specs.First.{Found, found}
-use Rattle.laws.proofs.Block.{length-block}
-use Rattle.bufmodel.specs.Position.{written}
-use Rattle.bufmodel.specs.Memory.{Memory, buffers, size, pageOf}
+use Rattle.laws.specs.Block.{putBlock}
+use Rattle.laws.proofs.Tests.{never}
+use Rattle.laws.proofs.Block.{length-block, length-putBlock, block-put-same, block-put-other}
+use Rattle.bufmodel.specs.Word.{pinned, makeDirty}
+use Rattle.bufmodel.specs.Position.{position, written}
+use Rattle.bufmodel.specs.Memory.{Memory, buffers, size, wordOf, pageOf, withStates, withPool}
 use Rattle.bufmodel.specs.Calls.{writeTo}
+use Rattle.bufmodel.proofs.WordLaws.{make-dirty}
 use Rattle.bufmodel.proofs.PositionLaws.{length-written, position-written}
 use Rattle.shelf.specs.Shelf.{Shelf, with, withBytes, writtenAt}
 use Rattle.shelf.specs.Ledger.{isPlace}
-use Rattle.shelf.proofs.Kept.{View, shelfOf, Kept}
+use Rattle.shelf.proofs.Kept.{View, shelfOf, Has, Kept}
 use Rattle.shelf.proofs.BufferPlaces.{PinnedPage}
-use Rattle.shelf.proofs.PageKept.{page-kept}
+use Rattle.shelf.proofs.KeptLaws.{isPlace-self, isPlace-other}
+use Rattle.shelf.proofs.WithLaws.{with-same, with-other}
+use Rattle.shelf.proofs.TurnKept.{turn-kept}
+
+module _ (m : Memory) (v : View) (k : Kept m v) (i g : ℕ) (x : Has m i g) where
+  -- other bytes, and dirty
+  page-kept : (page : List ℕ) → length page ≡ size m → position page ≤ m .control .inserted
+      → Kept (withPool (putBlock (size m) i page (m .pool)) (withStates (set (m .states) i (makeDirty (wordOf m i))) m))
+      (record {
+        bytes = with g page (v .bytes);
+        counts = v .counts;
+        holds = v .holds;
+        dirty = λ h. isPlace (found g) h || v .dirty h;
+        last = v .last;
+        put = v .put;
+      })
+  unfolding pinned
+  page-kept page e low =
+      let s = k .same i g x in
+      let b = k .good .books in
+      let p = k .good .sizes .pool in
+      let w = make-dirty (k .words i (x .below) (x .full)) in
+      let own = block-put-same (size m) (buffers m) page (m .pool) p e i (x .below) in
+      turn-kept m v k i g x (m .control .flushed) (makeDirty (wordOf m i)) (putBlock (size m) i page (m .pool)) (m .store) _
+      (record {
+        held = w .held;
+        log = b .log;
+        sizePool = length-putBlock (size m) (buffers m) page (m .pool) p e i (x .below);
+        pages = λ j l ne. block-put-other (size m) (buffers m) page (m .pool) p e i (x .below) j ne;
+        sizeStore = refl;
+        blocks = λ h l ne. refl;
+        low = λ d. omega (arith, ap position own);
+        clean = λ d. never (w .dirty) d;
+        bytes = with-same g page (v .bytes) ∙ sym own;
+        counts = s .counts ∙ sym (w .pins);
+        marked = rw (isPlace-self g) (sym (w .dirty));
+        holds = k .holds i (x .below) ∙ rw (x .place, w .pins);
+        last = s .last;
+        elsewhere = record {
+          bytes = with-other g page (v .bytes);
+          counts = λ h ne. refl;
+          marks = λ h ne. rw (isPlace-other g h ne);
+          holds = λ j ne. refl;
+          last = λ j ne. refl;
+        };
+        put = k .put;
+      })
 
 -- what the places 9 and 11 leave: the bytes are within the page, behind its position, and the new position is at most inserted
 pub record WriteFits (m : Memory) (from : ℕ) (bytes : List ℕ) (at : ℕ) : Type 0 where
@@ -56,4 +106,4 @@ module _ (m : Memory) (v : View) (from : ℕ) (bytes : List ℕ) (at : ℕ) wher
       (viewDirtied v (withBytes (with (p .page) (written at from bytes x) (v .bytes)) (shelfOf m v)) (found (p .page))))
       (sym (p .same .bytes))
       (page-kept m v k i (p .page) (p .has) (written at from bytes page) (length-written at from bytes page room long ∙ e)
-      (omega (arith, position-written at from bytes page room long short))))
+      (omega (arith, position-written at from bytes page short))))

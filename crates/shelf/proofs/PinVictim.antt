@@ -26,7 +26,8 @@ use Rattle.bufmodel.proofs.SweepLaws.{SweptFrom}
 use Rattle.bufmodel.proofs.SweepEnds.{sweepAll-relates}
 use Rattle.bufmodel.proofs.LessUsedLaws.{less-pinned, less-dirty}
 use Rattle.bufmodel.proofs.ReleaseLaws.{release-buffers, release-top}
-use Rattle.bufmodel.proofs.LoadLaws.{top-end, load-is, load-buffers}
+use Rattle.bufmodel.proofs.FreeListLaws.{top-end}
+use Rattle.bufmodel.proofs.LoadLaws.{load-is, load-buffers}
 use Rattle.shelf.specs.Shelf.{refuses}
 use Rattle.shelf.specs.Ledger.{bufferIn, wroteIn}
 use Rattle.shelf.specs.Statement.{Sought, taken}
@@ -38,9 +39,9 @@ use Rattle.shelf.proofs.SweptKept.{sweptIn, swept-from, swept-has, has-
 use Rattle.shelf.proofs.ReleaseKept.{has-release, kept-release}
 use Rattle.shelf.proofs.NamePage.{held-nobody, nobody-held}
 use Rattle.shelf.proofs.LoadKept.{viewLoad, kept-load}
-use Rattle.shelf.proofs.PinNew.{viewWrote, New, new-rule, new-accepted}
-use Rattle.shelf.proofs.HighestOne.{highest-last}
-use Rattle.shelf.proofs.VictimBack.{back-buffers, Backed, victim-backed}
+use Rattle.shelf.proofs.PinAccepted.{viewWrote, highest-last, PinAccepted, new-rule, pin-accepted}
+use Rattle.shelf.proofs.BackKept.{back-buffers}
+use Rattle.shelf.proofs.VictimBack.{Backed, victim-backed}
 
 -- whether it wrote, read off the answer
 wrote-ind : (d : Bool) → eqb (ind d) 1 ≡ d
@@ -52,16 +53,17 @@ abbrev pub sweepOf : Memory → Swept
 sweepOf m = sweepAll (m .states) (m .control .hand)
 
 module _ (m : Memory) (v : View) (k : Kept m v) (top : linkOf (m .control .top) ≡ End) where
-  few : (i : ℕ) → i < buffers m → usage (wordOf m i) ≤ maxUsage
-  few i l = k .words i l (top-end m (k .good) top i l) .few
+  -- no buffer's usage is above the greatest
+  pub few-used : (i : ℕ) → i < buffers m → usage (wordOf m i) ≤ maxUsage
+  few-used i l = k .words i l (top-end m (k .good) top i l) .few
 
   -- it is as published, and ends in time
-  pub victim-sweeps : Sweeps (buffers m) 0 (m .control .hand) (m .states) (sweepOf m)
+  victim-sweeps : Sweeps (buffers m) 0 (m .control .hand) (m .states) (sweepOf m)
       × (sweepOf m .probes ≤ (maxUsage + 1) * buffers m)
-  victim-sweeps = sweepAll-relates (m .states) (m .control .hand) (k .good .books .hand) few
+  victim-sweeps = sweepAll-relates (m .states) (m .control .hand) (k .good .books .hand) few-used
 
   -- its probes are answered
-  pub sought-victim : (n : PageName) (w x : ℕ) (m′ : Memory) → heldIn m n ≡ Nowhere → sweepOf m .victim ≡ found w
+  sought-victim : (n : PageName) (w x : ℕ) (m′ : Memory) → heldIn m n ≡ Nowhere → sweepOf m .victim ≡ found w
       → m′ .control .hand ≡ sweepOf m .hand → m′ .states ≡ set (sweepOf m .words) w loaded
       → Sought m n (done (w ∷ 0 ∷ x ∷ sweepOf m .probes ∷ []) [] m′)
   unfolding bufferIn
@@ -160,7 +162,7 @@ module _ (m : Memory) (v : View) (k : Kept m v) (n : PageName) (w g : ℕ) (new 
     after-many =
         sym (load-buffers (release backed w) n w g ∙ release-buffers backed w ∙ back-buffers swept w ∙ from .same-length)
 
-    victim-new : refuses (shelfOf m v) (Pin n) ≡ 0 → PinSays m v (Pin n) (done answer [] after) → New m v n g answer after
+    victim-new : refuses (shelfOf m v) (Pin n) ≡ 0 → PinSays m v (Pin n) (done answer [] after) → PinAccepted m v n g answer after
     unfolding loadAt release writeBack bufferIn
     victim-new number pin =
         record {
@@ -181,15 +183,17 @@ module _ (m : Memory) (v : View) (k : Kept m v) (n : PageName) (w g : ℕ) (new 
           long = back .long;
         }
 
+  -- the pin as the program makes it, accepted
   pub victim-accepted : s .victim ≡ found w → refuses (shelfOf m v) (Pin n) ≡ 0
       → let m′ = load (release (writeBack (withHand (s .hand) (withStates (s .words) m)) w) w) n in
       PinSays m v (Pin n) (done answer [] m′) → Accepted m v (Pin n) answer [] m′
   victim-accepted victim number pin =
       let e = after-is victim in
       subst (λ (o : Memory). Accepted m v (Pin n) answer [] o) (sym e)
-      (new-accepted m v n g answer (after victim) place
+      (pin-accepted m v n g answer (after victim) place
       (victim-new victim number (subst (λ (o : Memory). PinSays m v (Pin n) (done answer [] o)) e pin)))
 
+  -- and its probes
   pub victim-sought : s .victim ≡ found w
       → let m′ = load (release (writeBack (withHand (s .hand) (withStates (s .words) m)) w) w) n in
       Sought m n (done answer [] m′)

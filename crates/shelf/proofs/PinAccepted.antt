@@ -1,55 +1,37 @@
--- A pin of a page that no buffer has: what the ledger says after it, and what is left to show of it.
-use Prim.Native.Nat.{ℕ, _<_}
+-- An accepted pin: what the ledger says after it, and what is left to show of it.
+use Prim.Native.Nat.{ℕ, _<_, max}
 use mathlib.Core.Path.{_≡_, refl, sym, ap, _∙_}
-use mathlib.Core.Bool.{Bool, true, false, not, _&&_, _||_}
+use mathlib.Core.Bool.{Bool, true, false, not, _&&_, _||_, cond, or-false}
 use mathlib.Core.List.{List, [], _∷_}
-use native.Mathlib.Omega.{arith}
 use lib.ListN.{length}
-use borrow.Author.Tests.{eq-eqb}
 use Rattle.laws.specs.First.{Found, found}
 use Rattle.laws.specs.Block.{block}
+use Rattle.laws.proofs.First.{found-same}
 use Rattle.laws.proofs.Tests.{never}
 use Rattle.buftag.specs.declared.name.PageName.{PageName}
 use Rattle.bufmodel.specs.Word.{pinned}
+use Rattle.bufmodel.specs.Position.{position}
 use Rattle.bufmodel.specs.Rows.{storeBlocks, placeOf}
 use Rattle.bufmodel.specs.Memory.{Memory, buffers, size, wordOf}
 use Rattle.bufmodel.specs.Outcome.{done}
-use Rattle.bufmodel.specs.Step.{Pin, Checkpoint}
-use Rattle.shelf.specs.Shelf.{with, hasPins, refuses, pinnedAt, shelfAfter}
-use Rattle.shelf.specs.Ledger.{
-  isPlace,
-  bufferIn,
-  wroteIn,
-  backBy,
-  newBy,
-  putBy,
-  dirtiedBy,
-  dirtyAfter,
-  lastAfter,
-  highest,
-  saidFlushed,
-  flushedAfter,
-  acceptedBy,
-}
+use Rattle.bufmodel.specs.Step.{Pin}
+use Rattle.shelf.specs.Shelf.{with, refuses, pinnedAt, shelfAfter}
+use Rattle.shelf.specs.Ledger.{Ledger, isPlace, bufferIn, wroteIn, highest}
+use Rattle.shelf.specs.Ledger.{backBy, newBy, putBy, dirtiedBy, dirtyAfter, lastAfter, saidFlushed, flushedAfter, acceptedBy}
 use Rattle.shelf.specs.Statement.{Answers, PinRule}
+use Rattle.shelf.proofs.CallKinds.{not-checkpoint}
 use Rattle.shelf.proofs.Kept.{View, shelfOf, ledgerOf, viewOf, Nobody, Kept}
-use Rattle.shelf.proofs.KeptLaws.{Alike, kept-alike}
+use Rattle.shelf.proofs.KeptLaws.{isPlace-true, isPlace-self, Alike, kept-alike, pins-nobody, holds-none}
+use Rattle.shelf.proofs.HighestLaws.{highest-still, highest-one}
 use Rattle.shelf.proofs.Refused.{PinSays}
 use Rattle.shelf.proofs.Accepted.{Accepted, ledgerThen}
 use Rattle.shelf.proofs.LoadKept.{viewLoad}
-
--- a pin is no checkpoint
-pin-checkpoint : {n : PageName} → Pin n ≡ Checkpoint → ⊥
-pin-checkpoint e = let z : _≡_ {A = ℕ} 0 1 = cc in omega arith
-
-or-none : (a : Bool) → (a || false) ≡ a
-or-none true = refl
-or-none false = refl
 
 -- ---- the page that a pin last got at number b was written back, if the answer says so
 abbrev pub wasLast : View → Bool → ℕ → ℕ → Bool
 wasLast v d b h = d && isPlace (v .last b) h
 
+-- then it is not dirty, and was put
 abbrev pub viewWrote : View → Bool → ℕ → View
 viewWrote v d b =
     record {
@@ -61,12 +43,20 @@ viewWrote v d b =
       put = λ h. wasLast v d b h || v .put h;
     }
 
+-- and flushed is the larger of itself and its position
+pub highest-last : (l : Ledger) (v : View) (t : Bool) (b h p n : ℕ) → v .last b ≡ found h → h < n
+    → highest l n (wasLast v t b) p ≡ cond t (max p (position (l .shelf .bytes h))) p
+highest-last l v true b h p n last below =
+    highest-one l (isPlace (v .last b)) p n h below (ap (λ (f : Found). isPlace f h) last ∙ isPlace-self h)
+    (λ g c t. found-same (sym (isPlace-true (v .last b) g t) ∙ last))
+highest-last l v false b h p n last below = highest-still l p n
+
 -- what the ledger says after a pin that answered so
 abbrev pub viewPin : View → List ℕ → ℕ → View
 viewPin v answer g = viewLoad (viewWrote v (wroteIn answer) (bufferIn answer)) (bufferIn answer) g
 
 module _ (m : Memory) (v : View) (n : PageName) (g : ℕ) (place : placeOf (m .rows) n ≡ found g) (answer : List ℕ) where
-  pub pin-view : Alike (viewPin v answer g) (viewOf (ledgerThen m v (Pin n) answer))
+  pin-view : Alike (viewPin v answer g) (viewOf (ledgerThen m v (Pin n) answer))
   unfolding acceptedBy shelfAfter pinnedAt dirtyAfter dirtiedBy backBy newBy putBy lastAfter
   pin-view =
       let b = bufferIn answer in
@@ -77,18 +67,18 @@ module _ (m : Memory) (v : View) (n : PageName) (g : ℕ) (place : placeOf (m .r
         holds = λ c. ap (λ (f : Found). pinnedAt s b f .holds c) place;
         marks = λ h. refl;
         last = λ c. ap (λ (f : Found). with b f (v .last) c) place;
-        put = λ h. ap (λ (t : Bool). t || v .put h) (or-none (wasLast v (wroteIn answer) b h));
+        put = λ h. ap (λ (t : Bool). t || v .put h) (or-false (wasLast v (wroteIn answer) b h));
       }
 
 -- ---- the rule of buffer numbers: a page that no buffer has has no pins, and an unpinned buffer's number holds none
 pub new-rule : (m : Memory) (v : View) → Kept m v → (g : ℕ) → Nobody m g → (b : ℕ) → b < buffers m → pinned (wordOf m b) ≡ false
     → (rest : List ℕ) (m′ : Memory) → PinRule (shelfOf m v) (done (b ∷ rest) [] m′) g
-unfolding bufferIn hasPins
+unfolding bufferIn
 new-rule m v k g none b l free rest m′ =
     record {
       below = l;
-      had = λ t. never t (ap not (eq-eqb (v .counts g) 0 (k .unpinned g none)));
-      fresh = λ f. k .holds b l ∙ rw free refl;
+      had = λ t. never t (pins-nobody m v k g none);
+      fresh = λ f. holds-none m v k b l free;
     }
 
 -- ---- what is left to show
@@ -96,7 +86,7 @@ module _ (m : Memory) (v : View) (n : PageName) (g : ℕ) (answer : List ℕ) (m
   abbrev back : ℕ → Bool
   back h = wasLast v (wroteIn answer) (bufferIn answer) h
 
-  pub record New : Type 0 where
+  pub record PinAccepted : Type 0 where
     pub number : refuses (shelfOf m v) (Pin n) ≡ 0
     pub words : Answers (done answer [] m′) (Pin n)
     pub rule : PinRule (shelfOf m v) (done answer [] m′) g
@@ -110,9 +100,10 @@ module _ (m : Memory) (v : View) (n : PageName) (g : ℕ) (answer : List ℕ) (m
     pub others : (h : ℕ) → h < storeBlocks (m .rows) → back h ≡ false → block (size m) h (m′ .store) ≡ block (size m) h (m .store)
     pub long : length (m′ .store) ≡ length (m .store)
 
-  pub new-accepted : placeOf (m .rows) n ≡ found g → New → Accepted m v (Pin n) answer [] m′
+  -- this is all, whichever way the pin got its buffer
+  pub pin-accepted : placeOf (m .rows) n ≡ found g → PinAccepted → Accepted m v (Pin n) answer [] m′
   unfolding acceptedBy shelfAfter pinnedAt backBy newBy putBy saidFlushed flushedAfter
-  new-accepted place a =
+  pin-accepted place a =
       let s = shelfOf m v in
       let b = bufferIn answer in
       record {
@@ -126,7 +117,7 @@ module _ (m : Memory) (v : View) (n : PageName) (g : ℕ) (answer : List ℕ) (m
         inserted = ap (λ (f : Found). pinnedAt s b f .inserted) place ∙ a .inserted;
         flushed = a .flushed;
         kept = kept-alike m′ (viewPin v answer g) (viewOf (ledgerThen m v (Pin n) answer)) (pin-view m v n g place answer) (a .kept);
-        others = λ h l e. a .others h l (sym (or-none (back h)) ∙ e);
+        others = λ h l e. a .others h l (sym (or-false (back h)) ∙ e);
         long = a .long;
-        settled = λ q. absurd (pin-checkpoint q);
+        settled = λ q. absurd (not-checkpoint refl q);
       }

@@ -55,7 +55,10 @@ pub record Turned (m : Memory) (v : View) (i g flushed w : ℕ) (pool store : Li
   pub elsewhere : Elsewhere v v′ i g
   pub put : (h : ℕ) → v′ .put h ≡ true → (h < storeBlocks (m .rows)) × (position (block (size m) h store) ≤ flushed)
 
--- ---- the words
+-- ---- the words and the buffers in use
+abbrev pub turned : Memory → ℕ → ℕ → ℕ → List ℕ → List ℕ → Memory
+turned m i flushed w pool store = like m (m .control .hand) (m .control .inserted) flushed (set (m .states) i w) pool store
+
 module _ (words : List ℕ) (i w : ℕ) (l : i < length words) where
   -- what holds of the new word and of the old others holds of each
   word-each : (P : ℕ → ℕ → Type 0) → P i w → ((j : ℕ) → j ≢ i → P j (getD words j 0)) → (j : ℕ) → P j (getD (set words i w) j 0)
@@ -65,10 +68,24 @@ module _ (words : List ℕ) (i w : ℕ) (l : i < length words) where
       (λ ne. subst (P j) (sym (getD-set-other words i j w 0 ne)) (other j ne))
       (eq-or-ne j i)
 
+module _ (m : Memory) (i g : ℕ) (x : Has m i g) (flushed w : ℕ) (pool store : List ℕ) (full : empty w ≡ false) where
+  -- the same buffers are in use
+  turned-empty : (j : ℕ) → emptyAt (turned m i flushed w pool store) j ≡ emptyAt m j
+  unfolding emptyAt
+  turned-empty = word-each (m .states) i w (x .below) (λ j y. empty y ≡ emptyAt m j) (full ∙ sym (x .full)) (λ j ne. refl)
+
+  -- and have the same pages
+  pub turned-then : (j h : ℕ) → Has (turned m i flushed w pool store) j h → Has m j h
+  turned-then j h y =
+      record { below = rw length-set at (y .below); full = sym (turned-empty j) ∙ y .full; place = y .place }
+
+  pub turned-has : (j h : ℕ) → Has m j h → Has (turned m i flushed w pool store) j h
+  turned-has j h y = record { below = rw length-set (y .below); full = turned-empty j ∙ y .full; place = y .place }
+
 module _ (m : Memory) (v : View) (k : Kept m v) (i g : ℕ) (x : Has m i g) (flushed w : ℕ) (pool store : List ℕ) (v′ : View)
     (t : Turned m v i g flushed w pool store v′) where
   abbrev m′ : Memory
-  m′ = like m (m .control .hand) (m .control .inserted) flushed (set (m .states) i w) pool store
+  m′ = turned m i flushed w pool store
 
   many : buffers m′ ≡ buffers m
   many = length-set (m .states) i w
@@ -76,17 +93,14 @@ module _ (m : Memory) (v : View) (k : Kept m v) (i g : ℕ) (x : Has m i g) (flu
   each : (P : ℕ → ℕ → Type 0) → P i w → ((j : ℕ) → j ≢ i → P j (wordOf m j)) → (j : ℕ) → P j (wordOf m′ j)
   each = word-each (m .states) i w (x .below)
 
-  -- the same buffers are in use
   empty-now : (j : ℕ) → emptyAt m′ j ≡ emptyAt m j
-  unfolding emptyAt
-  empty-now = each (λ j y. empty y ≡ emptyAt m j) (t .held .full ∙ sym (x .full)) (λ j ne. refl)
+  empty-now = turned-empty m i g x flushed w pool store (t .held .full)
 
-  -- and have the same pages
   has-then : (j h : ℕ) → Has m′ j h → Has m j h
-  has-then j h y = record { below = rw many at (y .below); full = sym (empty-now j) ∙ y .full; place = y .place }
+  has-then = turned-then m i g x flushed w pool store (t .held .full)
 
   has-now : (j h : ℕ) → Has m j h → Has m′ j h
-  has-now j h y = record { below = rw many (y .below); full = empty-now j ∙ y .full; place = y .place }
+  has-now = turned-has m i g x flushed w pool store (t .held .full)
 
   nobody-then : (h : ℕ) → Nobody m′ h → Nobody m h
   nobody-then h n j y = n j (has-now j h y)
@@ -156,7 +170,7 @@ module _ (m : Memory) (v : View) (k : Kept m v) (i g : ℕ) (x : Has m i g) (flu
       (λ j ne b. t .elsewhere .holds j ne ∙ k .holds j b) j b
 
   -- the relation is kept
-  pub turn-kept : Kept (like m (m .control .hand) (m .control .inserted) flushed (set (m .states) i w) pool store) v′
+  pub turn-kept : Kept (turned m i flushed w pool store) v′
   unfolding emptyAt
   turn-kept =
       record {

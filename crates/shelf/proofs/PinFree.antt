@@ -1,7 +1,6 @@
 -- A pin that takes the top of the free list agrees with the shelf.
 use Prim.Native.Nat.{ℕ}
-use mathlib.Core.Path.{_≡_, refl, sym, ap, _∙_, subst}
-use mathlib.Core.Bool.{true, false}
+use mathlib.Core.Path.{_≡_, refl, sym, subst}
 use mathlib.Core.List.{List, [], _∷_}
 use native.Mathlib.Omega.{arith}
 use Rattle.laws.specs.First.{found}
@@ -9,26 +8,25 @@ use Rattle.buftag.specs.declared.link.Link.the-variants.{To}
 use Rattle.buftag.specs.declared.lookup.Held.the-variants.{Nowhere}
 use Rattle.buftag.specs.declared.name.PageName.{PageName}
 use Rattle.buftag.specs.Link.{linkOf}
-use Rattle.bufmodel.specs.Word.{pinned}
 use Rattle.bufmodel.specs.Rows.{storeBlocks, placeOf}
-use Rattle.bufmodel.specs.Memory.{Memory, wordOf}
-use Rattle.bufmodel.specs.Books.{emptyAt}
+use Rattle.bufmodel.specs.Memory.{Memory}
 use Rattle.bufmodel.specs.Moves.{loadAt, load}
 use Rattle.bufmodel.specs.Outcome.{done}
 use Rattle.bufmodel.specs.Pin.{heldIn}
 use Rattle.bufmodel.specs.Step.{Pin}
-use Rattle.bufmodel.proofs.LessUsedLaws.{empty-zero, zero-unpinned}
-use Rattle.bufmodel.proofs.LoadLaws.{top-empty, load-is, load-buffers}
+use Rattle.bufmodel.proofs.HeldLaws.{empty-unpinned}
+use Rattle.bufmodel.proofs.FreeListLaws.{top-empty}
+use Rattle.bufmodel.proofs.LoadLaws.{load-is, load-buffers}
 use Rattle.shelf.specs.Shelf.{refuses}
 use Rattle.shelf.specs.Ledger.{bufferIn, wroteIn}
 use Rattle.shelf.specs.Statement.{Sought, free}
 use Rattle.shelf.proofs.Kept.{View, shelfOf, ledgerOf, Kept}
 use Rattle.shelf.proofs.Refused.{PinSays}
 use Rattle.shelf.proofs.Accepted.{Accepted}
-use Rattle.shelf.proofs.HighestLaws.{highest-none}
+use Rattle.shelf.proofs.HighestLaws.{highest-still}
 use Rattle.shelf.proofs.NamePage.{held-nobody}
 use Rattle.shelf.proofs.LoadKept.{kept-load}
-use Rattle.shelf.proofs.PinNew.{New, new-rule, new-accepted}
+use Rattle.shelf.proofs.PinAccepted.{PinAccepted, new-rule, pin-accepted}
 
 -- its probes are none
 pub sought-free : (m : Memory) (n : PageName) (i : ℕ) (m′ : Memory) → heldIn m n ≡ Nowhere → linkOf (m .control .top) ≡ To i
@@ -36,24 +34,13 @@ pub sought-free : (m : Memory) (n : PageName) (i : ℕ) (m′ : Memory) → held
 sought-free m n i m′ new top hand =
     record { probes = 0; looked = free new top hand; bound = omega arith; atSix = λ e. absurd (omega arith); answered = λ e. refl }
 
--- a load leaves the hand
-pub load-hand : (m : Memory) (n : PageName) (i g : ℕ) → linkOf (m .control .top) ≡ To i → placeOf (m .rows) n ≡ found g
-    → load m n .control .hand ≡ m .control .hand
-unfolding loadAt
-load-hand m n i g top place = ap (λ (o : Memory). o .control .hand) (load-is m n i g top place)
-
--- an empty buffer is not pinned
-pub empty-unpinned : (m : Memory) (i : ℕ) → emptyAt m i ≡ true → pinned (wordOf m i) ≡ false
-unfolding emptyAt
-empty-unpinned m i e = ap pinned (empty-zero (wordOf m i) e) ∙ zero-unpinned
-
 module _ (m : Memory) (v : View) (k : Kept m v) (n : PageName) (i g : ℕ) (new : heldIn m n ≡ Nowhere)
     (top : linkOf (m .control .top) ≡ To i) (place : placeOf (m .rows) n ≡ found g) where
   abbrev answer : List ℕ
   answer = i ∷ 0 ∷ 0 ∷ 0 ∷ []
 
   free-new : refuses (shelfOf m v) (Pin n) ≡ 0 → PinSays m v (Pin n) (done answer [] (loadAt m n i g))
-      → New m v n g answer (loadAt m n i g)
+      → PinAccepted m v n g answer (loadAt m n i g)
   unfolding loadAt bufferIn wroteIn
   free-new number pin =
       let t = top-empty m (k .good) i top in
@@ -66,16 +53,17 @@ module _ (m : Memory) (v : View) (k : Kept m v) (n : PageName) (i g : ℕ) (new 
         wide = refl;
         rows = refl;
         inserted = refl;
-        flushed = highest-none (ledgerOf m v) (λ h. false) (m .control .flushed) (storeBlocks (m .rows)) (λ h l. refl);
+        flushed = highest-still (ledgerOf m v) (m .control .flushed) (storeBlocks (m .rows));
         kept = kept-load m v k n i g top place new;
         others = λ h l e. refl;
         long = refl;
       }
 
+  -- the pin as the program makes it, accepted
   pub free-accepted : refuses (shelfOf m v) (Pin n) ≡ 0 → PinSays m v (Pin n) (done (i ∷ 0 ∷ 0 ∷ 0 ∷ []) [] (load m n))
       → Accepted m v (Pin n) (i ∷ 0 ∷ 0 ∷ 0 ∷ []) [] (load m n)
   free-accepted number pin =
       let e = load-is m n i g top place in
       subst (λ (o : Memory). Accepted m v (Pin n) answer [] o) (sym e)
-      (new-accepted m v n g answer (loadAt m n i g) place
+      (pin-accepted m v n g answer (loadAt m n i g) place
       (free-new number (subst (λ (o : Memory). PinSays m v (Pin n) (done answer [] o)) e pin)))
