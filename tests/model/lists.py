@@ -170,7 +170,8 @@ WANTED = {f'{kind} {number}' for kind, refusals in REFUSALS.items() for number i
     'a write-back raises flushed', 'a write-back leaves flushed', 'a checkpoint writes 2', 'drop discards', 'drop empties 2',
     'drop puts on a free list', 'drop of none', 'extend clears bytes', 'peek pool', 'peek store', 'peek of a dirty page',
     'peek store at P 2048', 'swept, wrote at P 2048', 'a position above 32 bits', 'a clean page above inserted',
-    'a position of 64 bits'}
+    'a position of 64 bits', 'log flushed below flushed', 'log flushed above flushed', 'log inserted to inserted',
+    'a dropped page before another in its chain'}
 
 
 def events(call, before, o):
@@ -202,7 +203,8 @@ def events(call, before, o):
     if kind == 'drop':
         gone = [i for i in before.used() if after.states[i] == 0]
         happens |= {'drop discards': any(before.states[i] & DIRTY for i in gone), 'drop empties 2': len(gone) > 1, 'drop of none': not gone,
-                    'drop puts on a free list': gone and before.control[TOP] != NO_TOP}
+                    'drop puts on a free list': gone and before.control[TOP] != NO_TOP,
+                    'a dropped page before another in its chain': any(before.chain[i] >= 0 and before.chain[i] not in gone for i in gone)}
     if kind == 'extend':
         part = after.block(call[1] + (o.answer[0],))
         happens['extend clears bytes'] = before.store[part] != bytes(before.control[P])
@@ -210,6 +212,11 @@ def events(call, before, o):
         i = Pool(before).held(call[1])
         happens |= {'peek pool': i is not None, 'peek store': i is None, 'peek store at P 2048': i is None and before.control[P] == 2048,
                     'peek of a dirty page': i is not None and before.states[i] & DIRTY}
+    if kind == 'log_inserted':
+        happens['log inserted to inserted'] = call[1] == before.control[INSERTED]
+    if kind == 'log_flushed':
+        happens |= {'log flushed below flushed': call[1] < before.control[FLUSHED],
+                    'log flushed above flushed': call[1] > before.control[FLUSHED]}
     if kind == 'write':
         happens |= {'a position above 32 bits': call[4] > 2**32, 'a position of 64 bits': call[4] > 2**63}
     yield from (what for what, so in happens.items() if so)

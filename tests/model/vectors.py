@@ -21,10 +21,10 @@ from terms import call_term, lent_books, lent_seen, list_seen, listed, numbers, 
 
 # seeds of lists in which much happens
 AFTER_SET_UP = [
-    46, 118, 134, 157, 165, 239, 293, 415, 532, 679, 698, 699, 787, 854, 973, 1171, 1185, 1223, 1296, 1311, 1325, 1329, 1330, 1342,
-    1403, 1598, 1641, 1657, 1678, 1701, 1710, 1792, 1856, 1859, 1945, 1955, 2053, 2091, 2132, 2191, 2331, 2359, 2382, 2581, 2713, 2729,
-    2749, 2989]
-FROM_SOUND = [29, 123, 135, 168, 226, 280, 316, 360, 390, 392, 413, 503, 570, 591, 721, 724]
+    157, 293, 415, 480, 518, 699, 961, 1641, 1710, 1792, 1864, 1945, 2132, 2293, 2331, 2366, 2473, 2581, 2713, 2729, 2749, 2884, 3069,
+    3087, 3379, 3748, 3949, 3999, 4111, 4148, 4230, 4301, 4302, 4482, 4488, 4527, 4605, 4823, 4996, 5024, 5028, 5078, 5271, 5394, 5466,
+    5656, 5671, 5937]
+FROM_SOUND = [29, 30, 122, 123, 135, 168, 226, 280, 316, 360, 392, 461, 494, 503, 721, 724]
 BELOW = ['laws', 'buftag', 'bufmodel', 'shelf']
 
 HEAD = '''-- Written by tests/model/vectors.py.
@@ -162,6 +162,9 @@ def write_lists(room, unfolding):
             module.state(f'list-{seed}', define_list(module, seed), numbers(observed(seed)))
             count += len(calls)
         crate.add(module, f'{len(seeds)} lists, {count} calls after set up, on the pool, the shelf and the ledger')
+    # only a memory made by hand has so many pins
+    if WANTED - happened != {'pin 5'}:
+        sys.exit(f'the lists after set up miss: {sorted(WANTED - happened)}')
     for k, seeds in enumerate(eights(FROM_SOUND)):
         module, count = Module(f'Sound{k + 1}', unfolding), 0
         for seed in seeds:
@@ -172,8 +175,8 @@ def write_lists(room, unfolding):
             module.state(f'lent-{seed}', f'lentSeen start-{seed} {calls_term(calls)}', numbers(seen))
             count += len(calls)
         crate.add(module, f'{len(seeds)} lists, {count} calls from a sound memory, as C makes them')
-    if happened != WANTED:
-        sys.exit(f'the lists miss: {sorted(WANTED - happened)}')
+    if 'pin 5' not in happened:
+        sys.exit('the lists miss a pin refused with 5')
 
 
 def write_apart(room, seed):

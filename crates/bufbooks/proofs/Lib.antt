@@ -1,2 +1,3 @@
 pub mod PackLaws
 pub mod PositionPart
+pub mod RowFacts

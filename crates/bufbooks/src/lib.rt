@@ -1,4 +1,5 @@
-// The pool's leaves over lent memory: state words and log positions.
+// The pool's leaves over lent memory: state words, log positions, file rows.
 
 pub mod position;
+pub mod rows;
 pub mod word;

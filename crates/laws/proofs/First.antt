@@ -1,13 +1,14 @@
 -- Laws of the first index that passes a test.
-use Prim.Native.Nat.{ℕ, zero, suc, _<_}
+use Prim.Native.Nat.{ℕ, zero, suc, _+_, _≤_, _<_}
 use native.Mathlib.Omega.{arith}
 use native.Mathlib.Numerals.{add-one}
 use native.Mathlib.Nat.{not-suc-le-zero}
 use mathlib.Core.Path.{_≡_, refl, sym, ap, _∙_, subst}
 use mathlib.Core.Bool.{Bool, true, false, cond}
+use mathlib.Core.Logic.{⊎-elim}
 use borrow.Author.Count.{below-more}
 use Rattle.laws.specs.First.{Found, found, missing, orElse, first}
-use Rattle.laws.proofs.Tests.{never}
+use Rattle.laws.proofs.Tests.{never, lt-or-le, at-end}
 
 pub found-same : {i j : ℕ} → found i ≡ found j → i ≡ j
 found-same e = cc
@@ -55,6 +56,23 @@ module _ (p : ℕ → Bool) where
       go : (f : Found) → first n p ≡ f → f ≡ missing
       go (found j) q = let w = first-found n q in never (w .1) (none j (w .0))
       go missing q = refl
+
+-- a loop's turn that does not find it at i, the turn that does, the loop's end
+module _ (p : ℕ → Bool) where
+  pub first-more : (i : ℕ) → first i p ≡ missing → p i ≡ false → first (i + 1) p ≡ missing
+  first-more i e here = first-none p (i + 1) (below-more (λ k. p k ≡ false) i (first-missing p i e) here)
+
+  pub first-hit : (n i : ℕ) → i < n → first i p ≡ missing → p i ≡ true → found i ≡ first n p
+  unfolding first
+  first-hit zero i l e here = absurd (not-suc-le-zero l)
+  first-hit (suc n) i l e here = ⊎-elim (λ m. rw (sym (first-hit n i m e here))) (λ m. last (omega arith)) (lt-or-le i n)
+    where
+      last : i ≡ n → found i ≡ orElse (first n p) (cond (p n) (found n) missing)
+      last s = let q = subst (λ (k : ℕ). first k p ≡ missing) s e in
+          let r = subst (λ (k : ℕ). p k ≡ true) s here in rw (q, r) (ap found s)
+
+  pub first-end : (n i : ℕ) → i ≤ n → n ≤ i → first i p ≡ missing → missing ≡ first n p
+  first-end n i l m e = sym (at-end (λ k. first k p ≡ missing) n i l m e)
 
 -- two tests that agree below n find the same
 pub first-same : (p q : ℕ → Bool) (n : ℕ) → ((i : ℕ) → i < n → p i ≡ q i) → first n p ≡ first n q
