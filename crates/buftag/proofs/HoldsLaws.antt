@@ -28,10 +28,6 @@ used-out words i h = ap (λ (w : ℕ). not (eqb w 0)) (List·getD-eq-default wor
 pub used-in : (words : List ℕ) (i : ℕ) → used words i ≡ true → i < length words
 used-in words i u = ⊎-elim (λ h. h) (λ h. never u (used-out words i h)) (lt-or-le i (length words))
 
--- and so is one whose name falls in a bucket
-pub bucket-in : (words names : List ℕ) (buckets b i : ℕ) → inBucket words names buckets b i ≡ true → i < length words
-bucket-in words names buckets b i h = used-in words i (and-left (used words i) _ h)
-
 module _ {words names : List ℕ} {heads chain : List ℤ} (sound : ChainsSound words names heads chain) where
   module _ {b : ℕ} {xs : List ℕ} (h : b < length heads) (r : Links chain (linkAt heads b) xs) (k : ℕ) where
     -- how often a buffer stands in a bucket's list

@@ -12,6 +12,6 @@ pub mod UnchainLaws
 pub mod MoveLaws
 pub mod LeaveSteps
 pub mod LeaveLaws
+pub mod BudgetLaws
 pub mod TestLaws
-pub mod SpendLaws
 pub mod CheckLaws

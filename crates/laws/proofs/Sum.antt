@@ -4,7 +4,7 @@ use native.Mathlib.Numerals.{add-one}
 use native.Mathlib.Nat.{not-suc-le-zero, le-antisymm, eq-or-lt-of-le}
 use native.Mathlib.Omega.{arith}
 use mathlib.Core.Path.{_≡_, refl, sym, ap, _∙_, subst}
-use mathlib.Core.Bool.{Bool, true, false, _&&_}
+use mathlib.Core.Bool.{Bool, true, false, not, _&&_}
 use mathlib.Core.Logic.{_↔_, ⊎-elim}
 use lib.Dec.{eqb}
 use borrow.Author.Count.{below-more}
@@ -59,6 +59,14 @@ module _ (f g : ℕ → ℕ) where
       (sum-tight n (λ j m. h j (omega arith)) (omega (arith, sum-below n (λ j m. h j (omega arith)), h n (omega arith))))
       (omega (arith, sum-below n (λ j m. h j (omega arith)), h n (omega arith))) i (rw add-one l)
 
+-- the pigeonhole over two indices
+pub sum-tight-both : (f g : ℕ → ℕ → ℕ) (m n : ℕ) → ((b : ℕ) → b < m → (k : ℕ) → k < n → f b k ≤ g b k)
+    → sum m (λ b. sum n (f b)) ≡ sum m (λ b. sum n (g b))
+    → (b : ℕ) → b < m → (k : ℕ) → k < n → f b k ≡ g b k
+sum-tight-both f g m n h e b l =
+    sum-tight (f b) (g b) n (h b l)
+    (sum-tight (λ c. sum n (f c)) (λ c. sum n (g c)) m (λ c j. sum-below (f c) (g c) n (h c j)) e b l)
+
 pub ind-one : {b : Bool} → b ≡ true → ind b ≡ 1
 ind-one e = rw e
 
@@ -68,6 +76,10 @@ ind-none e = rw e
 pub ind-le : (b : Bool) → ind b ≤ 1
 ind-le true = omega arith
 ind-le false = omega arith
+
+ind-not : (b : Bool) → ind b + ind (not b) ≡ 1
+ind-not true = refl
+ind-not false = refl
 
 module _ (p : ℕ → Bool) where
   pub count-none : count 0 p ≡ 0
@@ -90,6 +102,12 @@ module _ (p : ℕ → Bool) where
   unfolding count sum
   count-le zero = omega arith
   count-le (suc n) = omega (arith, count-le n, ind-le (p n))
+
+  -- what passes and what does not is all there is
+  pub count-not : (n : ℕ) → count n p + count n (λ i. not (p i)) ≡ n
+  unfolding count sum
+  count-not zero = refl
+  count-not (suc n) = omega (arith, count-not n, ind-not (p n))
 
 -- ---- sums of one index, and sums in two orders
 eqb-turn : (a b : ℕ) → eqb a b ≡ eqb b a

@@ -1,8 +1,8 @@
-use Rattle.buftag.specs.Check.{spent}
+use Rattle.buftag.specs.Budget.{spent}
 use mathlib.Core.Path.{sym, ap}
 use borrow.Author.Needs.{needs}
-use Rattle.buftag.proofs.check.is_spent.Statement.{statement}
-use Rattle.buftag.proofs.check.is_spent.Tie as tie
+use Rattle.buftag.proofs.budget.is_spent.Statement.{statement}
+use Rattle.buftag.proofs.budget.is_spent.Tie as tie
 
 enum-known-w : tie.Need-enum-known-w
 enum-known-w c = search needs
