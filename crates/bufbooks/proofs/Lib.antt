@@ -1,3 +1,4 @@
-pub mod PackLaws
-pub mod PositionPart
-pub mod RowFacts
+pub mod SizesLaws
+pub mod BuffersLaws
+pub mod BooksLaws
+pub mod LentLaws

@@ -1,5 +1,8 @@
-// The pool's leaves over lent memory: state words, log positions, file rows.
+// Whether lent memory may be used: its sizes, its rows, its books.
 
-pub mod position;
-pub mod rows;
-pub mod word;
+pub mod books;
+pub mod buffers;
+pub mod export;
+pub mod hashes;
+pub mod lent;
+pub mod sizes;

@@ -24,14 +24,14 @@ isOff-true End e = absurd (false≢true e)
 isOff-true Off e = refl
 isOff-true Bad e = absurd (false≢true e)
 
-says-off : (l : Link) → Says (isOff l) (l ≡ Off)
+pub says-off : (l : Link) → Says (isOff l) (l ≡ Off)
 says-off l = record { holds = isOff-true l; shown = λ e. rw e }
 
 isFound-true : (f : Found) → isFound f ≡ true → (g : ℕ) × (f ≡ found g)
 isFound-true (found g) e = (g, refl)
 isFound-true missing e = absurd (false≢true e)
 
-says-found : (f : Found) → Says (isFound f) ((g : ℕ) × (f ≡ found g))
+pub says-found : (f : Found) → Says (isFound f) ((g : ℕ) × (f ≡ found g))
 says-found f = record { holds = isFound-true f; shown = λ e. rw (e .1) refl }
 
 module _ (m : Memory) where

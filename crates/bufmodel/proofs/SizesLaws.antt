@@ -7,12 +7,12 @@ use Rattle.laws.proofs.Says.{says-eq, says-le, says-lt, says-and, says-not, say
 use Rattle.buftag.proofs.NameLaws.{says-same-file}
 use Rattle.bufmodel.specs.Rows.{files, fileAt, blocksAt, capacityAt}
 use Rattle.bufmodel.specs.Memory.{Memory}
-use Rattle.bufmodel.specs.Sizes.{permitted, soundRow, soundRows, RowsSound, sizedFor, SizedFor}
+use Rattle.bufmodel.specs.Sizes.{permitted, newFile, soundRow, soundRows, RowsSound, sizedFor, SizedFor}
 
 row-says : (rows : List ℕ) (r : ℕ)
     → Says (soundRow rows r)
     (((fileAt rows r .fork ≤ 2) × (blocksAt rows r ≤ capacityAt rows r)) × ((s : ℕ) → s < r → fileAt rows s ≡ fileAt rows r → ⊥))
-unfolding soundRow
+unfolding soundRow newFile
 row-says rows r =
     says-and (says-and (says-le _ _) (says-le _ _))
     (says-all r _ _ (λ s l. says-not (says-same-file (fileAt rows s) (fileAt rows r))))

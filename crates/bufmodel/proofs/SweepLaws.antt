@@ -30,23 +30,23 @@ next-lt n hand l =
 
 -- ---- one probe of the function
 module _ (fuel n run probes hand : ℕ) (words : List ℕ) where
-  step-passes : pinned (getD words hand 0) ≡ true → suc run < n
+  pub step-passes : pinned (getD words hand 0) ≡ true → suc run < n
       → sweep (suc fuel) n run probes hand words ≡ sweep fuel n (suc run) (suc probes) (next n hand) words
   unfolding sweep
   step-passes e l = rw (e, sweep, ne-eqb (suc run) n (omega arith))
 
-  step-stops : pinned (getD words hand 0) ≡ true → suc run ≡ n
+  pub step-stops : pinned (getD words hand 0) ≡ true → suc run ≡ n
       → sweep (suc fuel) n run probes hand words ≡ swept missing words (next n hand) (suc probes)
   unfolding sweep
   step-stops e q = rw (e, sweep, eq-eqb (suc run) n q)
 
-  step-lowers : pinned (getD words hand 0) ≡ false → 0 < usage (getD words hand 0)
+  pub step-lowers : pinned (getD words hand 0) ≡ false → 0 < usage (getD words hand 0)
       → sweep (suc fuel) n run probes hand words
       ≡ sweep fuel n 0 (suc probes) (next n hand) (set words hand (useLess (getD words hand 0)))
   unfolding sweep
   step-lowers e l = rw (e, sweep, ne-eqb (usage (getD words hand 0)) 0 (omega arith))
 
-  step-takes : pinned (getD words hand 0) ≡ false → usage (getD words hand 0) ≡ 0
+  pub step-takes : pinned (getD words hand 0) ≡ false → usage (getD words hand 0) ≡ 0
       → sweep (suc fuel) n run probes hand words ≡ swept (found hand) words (next n hand) (suc probes)
   unfolding sweep
   step-takes e z = rw (e, sweep, eq-eqb (usage (getD words hand 0)) 0 z)

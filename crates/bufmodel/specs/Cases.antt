@@ -151,7 +151,8 @@ unfolding Rattle.laws.specs.Every.all Rattle.laws.specs.Every.any Rattle.laws
     Rattle.bufmodel.specs.Rows.fileAt Rattle.bufmodel.specs.Rows.blocksAt Rattle.bufmodel.specs.Rows.capacityAt
     Rattle.bufmodel.specs.Rows.setBlocks Rattle.bufmodel.specs.Rows.rowOf Rattle.bufmodel.specs.Rows.startOf
     Rattle.bufmodel.specs.Rows.storeBlocks Rattle.bufmodel.specs.Rows.placeIn Rattle.bufmodel.specs.Rows.placeOf
-    Rattle.bufmodel.specs.Sizes.permitted Rattle.bufmodel.specs.Sizes.soundRow
+    Rattle.bufmodel.specs.Sizes.permitted Rattle.bufmodel.specs.Sizes.newFile
+    Rattle.bufmodel.specs.Sizes.soundRow
     Rattle.bufmodel.specs.Sizes.soundRows Rattle.bufmodel.specs.Sizes.sizedFor Rattle.bufmodel.specs.Sizes.sized
     Rattle.bufmodel.specs.Books.emptyAt Rattle.bufmodel.specs.Books.soundWords
     Rattle.bufmodel.specs.Books.soundBlanks Rattle.bufmodel.specs.Books.soundFree

@@ -20,6 +20,21 @@ pub record Memory : Type 0 where
   pub rows : List ℕ
   pub store : List ℕ
 
+-- the memory of its parts, in the order in which they are lent
+abbrev pub memory : Control → List ℕ → List ℕ → List ℕ → List ℤ → List ℤ → List ℤ → List ℕ → List ℕ → Memory
+memory control states names pool free heads chain rows store =
+    record {
+      control = control;
+      states = states;
+      names = names;
+      pool = pool;
+      free = free;
+      heads = heads;
+      chain = chain;
+      rows = rows;
+      store = store;
+    }
+
 -- N, the number of buffers, and P, the block size
 abbrev pub buffers : Memory → ℕ
 buffers m = length (m .states)

@@ -32,10 +32,13 @@ abbrev pub maxBlocks : ℕ
 maxBlocks = 65536
 
 -- ---- rows
--- fork ≤ 2; blocks ≤ capacity; no row before it has equal first four numbers
+-- no row before it has equal first four numbers
+unfoldable pub newFile : List ℕ → ℕ → Bool
+newFile rows r = all r (λ s. not (sameFile (fileAt rows s) (fileAt rows r)))
+
+-- fork ≤ 2; blocks ≤ capacity; a file of its own
 unfoldable pub soundRow : List ℕ → ℕ → Bool
-soundRow rows r =
-    isFork (fileAt rows r .fork) && leb (blocksAt rows r) (capacityAt rows r) && all r (λ s. not (sameFile (fileAt rows s) (fileAt rows r)))
+soundRow rows r = isFork (fileAt rows r .fork) && leb (blocksAt rows r) (capacityAt rows r) && newFile rows r
 
 unfoldable pub soundRows : List ℕ → Bool
 soundRows rows =

@@ -1,0 +1,148 @@
+// State words: their fields, whether one is sound, and the changes of the word of a buffer in use.
+
+ghost use mathlib.Core.Path.{_≡_};
+ghost use mathlib.Core.Bool.{true, false};
+ghost use Prim.Native.Nat.{_^_, _<_};
+ghost use Rattle.bufmodel.specs.Word.{
+  pins,
+  usage,
+  flags,
+  pack,
+  dirty,
+  empty,
+  pinned,
+  soundWord,
+  maxPins,
+  pinMore,
+  pinLess,
+  useLess,
+  makeDirty,
+  makeClean,
+  loaded,
+};
+
+// The greatest usage count.
+pub const MAX_USAGE: u32 = 5;
+
+// The greatest pin count.
+pub const MAX_PINS: u32 = 262143;
+
+// One pin, and one use, as parts of a word.
+const PIN: u32 = 1;
+
+const USE: u32 = 262144;
+
+// The flags of a page in a buffer: clean, and dirty.
+const CLEAN: u32 = 524;
+
+const DIRTY: u32 = 590;
+
+// The lowest flag, and the dirty one, as parts of a word.
+const FLAG: u32 = 4194304;
+
+const DIRTY_FLAG: u32 = 8388608;
+
+pub fn pins_of(w: u32) -> u32
+    ensures { λ r. ⌜ r ≡ pins w ⌝ }
+{
+    w % USE
+}
+
+pub fn usage_of(w: u32) -> u32
+    ensures { λ r. ⌜ r ≡ usage w ⌝ }
+{
+    w / USE % 16
+}
+
+pub fn flags_of(w: u32) -> u32
+    ensures { λ r. ⌜ r ≡ flags w ⌝ }
+{
+    w / FLAG
+}
+
+// The word of its fields.
+pub fn pack_word(pins: u32, usage: u32, flags: u32) -> u32
+    requires { ⌜ (pins < 2 ^ 18) × (usage < 2 ^ 4) × (flags < 2 ^ 10) ⌝ }
+    ensures { λ r. ⌜ r ≡ pack pins usage flags ⌝ }
+{
+    pins + usage * USE + flags * FLAG
+}
+
+pub fn is_dirty(w: u32) -> bool
+    ensures { λ r. ⌜ r ≡ dirty w ⌝ }
+{
+    w / DIRTY_FLAG % 2 == 1
+}
+
+pub fn is_pinned(w: u32) -> bool
+    ensures { λ r. ⌜ r ≡ pinned w ⌝ }
+{
+    pins_of(w) != 0
+}
+
+pub fn is_empty(w: u32) -> bool
+    ensures { λ r. ⌜ r ≡ empty w ⌝ }
+{
+    w == 0
+}
+
+// Whether a word is sound between calls.
+pub fn word_ok(w: u32) -> bool
+    ensures { λ r. ⌜ r ≡ soundWord w ⌝ }
+{
+    if w == 0 {
+        return true;
+    }
+    if w / USE % 16 > MAX_USAGE {
+        return false;
+    }
+    let flags = w / FLAG;
+    if flags == CLEAN {
+        return true;
+    }
+    flags == DIRTY
+}
+
+// One pin more, and one use more unless it is the greatest.
+pub fn pin_more(w: u32) -> u32
+    requires { ⌜ (soundWord w ≡ true) × (empty w ≡ false) × (pins w < maxPins) ⌝ }
+    ensures { λ r. ⌜ r ≡ pinMore w ⌝ }
+{
+    if w / USE % 16 == MAX_USAGE {
+        return w + PIN;
+    }
+    w + PIN + USE
+}
+
+pub fn pin_less(w: u32) -> u32
+    requires { ⌜ pinned w ≡ true ⌝ }
+    ensures { λ r. ⌜ r ≡ pinLess w ⌝ }
+{
+    w - PIN
+}
+
+pub fn use_less(w: u32) -> u32
+    requires { ⌜ 0 < usage w ⌝ }
+    ensures { λ r. ⌜ r ≡ useLess w ⌝ }
+{
+    w - USE
+}
+
+pub fn make_dirty(w: u32) -> u32
+    ensures { λ r. ⌜ r ≡ makeDirty w ⌝ }
+{
+    w % FLAG + DIRTY * FLAG
+}
+
+pub fn make_clean(w: u32) -> u32
+    ensures { λ r. ⌜ r ≡ makeClean w ⌝ }
+{
+    w % FLAG + CLEAN * FLAG
+}
+
+// The word of a page just loaded.
+pub fn loaded_word() -> u32
+    ensures { λ r. ⌜ r ≡ loaded ⌝ }
+{
+    CLEAN * FLAG + USE + PIN
+}
