@@ -1,0 +1,128 @@
+/* The checks under 1 and 2 in plain C, in the order and with the passes of the proved code: what the benchmark compares with. */
+#include <stdbool.h>
+#include <stddef.h>
+#include <stdint.h>
+
+#include "memory.h"
+
+check_fn plain_check;
+
+static uint32_t mix(uint32_t h, uint32_t w)
+{
+    for (int k = 0; k < 4; k++) {
+        h = (h ^ (w & 255)) * 16777619u;
+        w >>= 8;
+    }
+    return h;
+}
+
+static bool same_file(const uint32_t *row, const uint32_t *file)
+{
+    return row[2] == file[2] && row[0] == file[0] && row[1] == file[1] && row[3] == file[3];
+}
+
+static bool same_name(const uint32_t *a, const uint32_t *b)
+{
+    return a[0] == b[0] && a[1] == b[1] && a[2] == b[2] && a[3] == b[3] && a[4] == b[4];
+}
+
+static bool rows_ok(const uint32_t *rows, size_t files, uint64_t *blocks)
+{
+    uint64_t sum = 0;
+    if (files > 64) return false;
+    for (size_t r = 0; r < files; r++) sum += rows[6 * r + 5];
+    if (sum > 65536) return false;
+    for (size_t r = 0; r < files; r++) {
+        const uint32_t *row = rows + 6 * r;
+        if (row[3] > 2 || row[4] > row[5]) return false;
+        for (size_t s = 0; s < r; s++)
+            if (same_file(rows + 6 * s, row)) return false;
+    }
+    *blocks = sum;
+    return true;
+}
+
+static bool size_ok(uint64_t size)
+{
+    switch (size) {
+    case 1024: case 2048: case 4096: case 8192: case 16384: case 32768: return true;
+    default: return false;
+    }
+}
+
+static uint32_t word(const uint8_t *p)
+{
+    return p[0] | p[1] << 8 | p[2] << 16 | (uint32_t)p[3] << 24;
+}
+
+static bool list_ok(int32_t at, const int32_t *links, size_t n, size_t *left)
+{
+    while (at != -1) {
+        if (at < 0 || *left == 0 || (size_t)at >= n) return false;
+        at = links[at];
+        --*left;
+    }
+    return true;
+}
+
+/* whether a look-up of a buffer's name finds the buffer */
+static bool is_found(const int32_t *chain, const uint32_t *names, size_t n, int32_t at, size_t i)
+{
+    for (size_t left = n; left > 0; left--) {
+        if (at < 0 || (size_t)at >= n) return false;
+        if (same_name(names + 5 * (size_t)at, names + 5 * i)) return (size_t)at == i;
+        at = chain[at];
+    }
+    return false;
+}
+
+uint32_t plain_check(const uint64_t *control, size_t control_len, const uint32_t *states, size_t n, const uint32_t *names,
+                     size_t names_len, const uint8_t *pool, size_t pool_len, const int32_t *free, size_t free_len,
+                     const int32_t *heads, size_t buckets, const int32_t *chain, size_t chain_len, const uint32_t *rows,
+                     size_t rows_len, const uint8_t *store, size_t store_len, const uint64_t *answer, size_t answer_len)
+{
+    uint32_t hashes[64];
+    uint64_t blocks;
+    size_t files = rows_len / 6, used = 0, near = 0, left;
+    (void)store;
+    (void)answer;
+
+    if (answer_len != 4 || control_len != 5 || !size_ok(control[0])) return 1;
+    if (n == 0 || n > 1024 || buckets < n || buckets > 4096) return 1;
+    if (names_len != 5 * n || pool_len != n * control[0] || free_len != n || chain_len != n) return 1;
+    if (rows_len % 6 != 0 || !rows_ok(rows, files, &blocks) || store_len != blocks * control[0]) return 1;
+
+    if (control[1] >= n || control[4] > control[3]) return 2;
+    for (size_t r = 0; r < files; r++) {
+        const uint32_t *row = rows + 6 * r;
+        hashes[r] = mix(mix(mix(mix(2166136261u, row[0]), row[1]), row[2]), row[3]);
+    }
+    for (size_t i = 0; i < n; i++) {
+        uint32_t w = states[i];
+        const uint32_t *name = names + 5 * i;
+        if (w == 0) {
+            if ((name[0] | name[1] | name[2] | name[3] | name[4]) != 0 || chain[i] != -1) return 2;
+            continue;
+        }
+        if ((w >> 18 & 15) > 5 || (w >> 22 != 524 && w >> 22 != 590) || free[i] != -2) return 2;
+        if (w >> 23 & 1) {
+            const uint8_t *page = pool + i * control[0];
+            if (((uint64_t)word(page) << 32 | word(page + 4)) > control[3]) return 2;
+        }
+        if (near >= files || !same_file(rows + 6 * near, name)) {
+            for (near = 0; near < files; near++)
+                if (same_file(rows + 6 * near, name)) break;
+            if (near == files) return 2;
+        }
+        if (name[4] >= rows[6 * near + 4]) return 2;
+        if (!is_found(chain, names, n, heads[mix(hashes[near], name[4]) % buckets], i)) return 2;
+        used++;
+    }
+    left = n - used;
+    uint64_t top = control[2];
+    if (!list_ok(top == UINT64_MAX ? -1 : top > INT32_MAX ? -3 : (int32_t)top, free, n, &left) || left != 0) return 2;
+    left = used;
+    for (size_t b = 0; b < buckets; b++)
+        if (!list_ok(heads[b], chain, n, &left)) return 2;
+    return left == 0 ? 0 : 2;
+}

@@ -1,0 +1,59 @@
+// The check for C: whether lent memory is acceptable to every call but set up.
+
+ghost use mathlib.Core.Path.{_≡_};
+ghost use mathlib.Core.List.{[]};
+ghost use Rattle.bufmodel.specs.Lent.{Lent, called};
+ghost use Rattle.bufbooks.specs.Lent.{check};
+use crate::lent::ANSWER_WORDS;
+use crate::lent::CONTROL_WORDS;
+use crate::lent::read_control;
+use crate::lent::refusal;
+
+// 0, or the number of the first place that refuses: 1 sizes and rows, 2 the books.
+#[no_mangle]
+pub extern "C" fn bufbooks_check(
+    control: &[u64],
+    states: &[u32],
+    names: &[u32],
+    pool: &[u8],
+    free: &[i32],
+    heads: &[i32],
+    chain: &[i32],
+    rows: &[u32],
+    store: &[u8],
+    answer: &[u64],
+) -> u32
+    ensures { λ r.
+        ⌜ r
+        ≡ called check
+        (record {
+          control = now (control .entry);
+          states = now (states .entry);
+          names = now (names .entry);
+          pool = now (pool .entry);
+          free = now (free .entry);
+          heads = now (heads .entry);
+          chain = now (chain .entry);
+          rows = now (rows .entry);
+          store = now (store .entry);
+        })
+        [] (now (answer .entry)) .result ⌝ }
+{
+    if answer.len() != ANSWER_WORDS {
+        return 1;
+    }
+    if control.len() != CONTROL_WORDS {
+        return 1;
+    }
+    refusal(
+        read_control(control),
+        states,
+        names,
+        pool,
+        free,
+        heads,
+        chain,
+        rows,
+        store,
+    )
+}

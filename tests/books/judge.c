@@ -1,0 +1,156 @@
+/* Document 01's places 1 and 2, rule by rule, written from the document and without regard for speed.
+   SLIP leaves out or changes one rule, so that it is seen that the comparison notices it. */
+#include "memory.h"
+#include <stdbool.h>
+#include <string.h>
+
+#ifndef SLIP
+#define SLIP 0
+#endif
+
+check_fn judge;
+
+/* what is judged: the arguments of one call */
+static struct memory m;
+static size_t n, files, bucket_of[1024];
+
+static bool same(const uint32_t *a, const uint32_t *b, size_t words)
+{
+    return memcmp(a, b, words * sizeof *a) == 0;
+}
+
+static uint64_t capacities(void)
+{
+    uint64_t sum = 0;
+    for (size_t r = 0; r < files; r++) sum += m.rows[6 * r + 5];
+    return sum;
+}
+
+static bool rows_hold(void)
+{
+    if ((m.rows_len % 6 != 0 && SLIP != 27) || files > (SLIP == 1 ? 63 : 64)) return false;
+    if (capacities() > (SLIP == 2 ? 65537 : 65536)) return false;
+    for (size_t r = 0; r < files; r++) {
+        const uint32_t *row = m.rows + 6 * r;
+        if (row[3] > (SLIP == 3 ? 3 : 2) || row[4] > row[5] + (SLIP == 4)) return false;
+        for (size_t s = 0; s < r; s++)
+            if (SLIP != 5 && same(row, m.rows + 6 * s, 4)) return false;
+    }
+    return true;
+}
+
+static bool sizes_hold(void)
+{
+    uint64_t p = m.control_len == 5 || (m.control_len == 6 && SLIP == 28) ? m.control[0] : 0;
+    bool permitted = p == 1024 || p == 2048 || p == 4096 || p == 8192 || p == 16384 || (p == 32768 && SLIP != 6) ||
+                     (p == 512 && SLIP == 21) || (p == 65536 && SLIP == 22);
+    bool buckets = (n <= m.heads_len || (m.heads_len > 0 && SLIP == 25)) && m.heads_len <= (SLIP == 26 ? 4097 : 4096);
+    return (m.answer_len == 4 || SLIP == 23) && permitted && (n >= 1 || SLIP == 24) && n <= 1024 && buckets && m.names_len == 5 * n &&
+           m.pool_len == n * p && m.free_len == n && m.chain_len == n && rows_hold() && (m.store_len == capacities() * p || SLIP == 7);
+}
+
+static bool empty(size_t i)
+{
+    return m.states[i] == 0;
+}
+
+static bool bit(size_t i, int k)
+{
+    return m.states[i] >> k & 1;
+}
+
+static bool word_holds(size_t i)
+{
+    const int others[] = {22, 26, 27, 29, 30};
+    if (empty(i)) return true;
+    for (size_t k = 0; k < 5; k++)
+        if (bit(i, others[k]) && SLIP != 8) return false;
+    return (m.states[i] >> 18 & 15) <= (SLIP == 9 ? 6 : 5) && (bit(i, 24) || SLIP == 29) && (bit(i, 25) || SLIP == 30) &&
+           (bit(i, 31) || SLIP == 31) &&
+           (bit(i, 23) == bit(i, 28) || SLIP == 10);
+}
+
+static bool name_holds(size_t i)
+{
+    static const uint32_t zeros[5];
+    const uint32_t *name = m.names + 5 * i;
+    if (empty(i)) return same(name, zeros, 5) || SLIP == 11;
+    for (size_t j = 0; j < n; j++)
+        if (j != i && !empty(j) && same(name, m.names + 5 * j, 5) && SLIP != 12) return false;
+    for (size_t r = 0; r < files; r++)
+        if (same(name, m.rows + 6 * r, 4)) return name[4] < m.rows[6 * r + 4] + (SLIP == 13);
+    return SLIP == 33;
+}
+
+static bool page_holds(size_t i)
+{
+    const uint8_t *b = m.pool + i * m.control[0];
+    uint64_t high = b[0] | b[1] << 8 | b[2] << 16 | (uint64_t)b[3] << 24, low = b[4] | b[5] << 8 | b[6] << 16 | (uint64_t)b[7] << 24;
+    if (SLIP == 32) high &= 0xFFFFFFF;
+    return !bit(i, 23) || SLIP == 14 || (high << 32 | low) <= m.control[3];
+}
+
+/* how often each buffer stands in the list from a link on; whether the list ends at -1 and leads through buffers alone */
+static bool count_list(int64_t at, const int32_t *links, unsigned *times)
+{
+    memset(times, 0, n * sizeof *times);
+    for (size_t steps = 0; at != -1; steps++) {
+        if (at < 0 || at >= (int64_t)n || steps == n) return false;
+        times[at]++;
+        at = links[at];
+    }
+    return true;
+}
+
+static bool free_holds(void)
+{
+    unsigned times[1024];
+    uint64_t top = m.control[2];
+    if (top != UINT64_MAX && top >= n) return false;
+    if (!count_list(top == UINT64_MAX ? -1 : (int64_t)top, m.free, times)) return false;
+    for (size_t i = 0; i < n; i++) {
+        if (times[i] != empty(i) && !(SLIP == 34 && times[i] == 0)) return false;
+        if (!empty(i) && m.free[i] != -2 && SLIP != 15) return false;
+    }
+    return true;
+}
+
+static bool chain_holds(size_t b)
+{
+    unsigned times[1024];
+    if (!count_list(m.heads[b], m.chain, times)) return false;
+    for (size_t i = 0; i < n; i++) {
+        bool belongs = !empty(i) && bucket_of[i] == b;
+        if (times[i] != belongs && !(SLIP == 16 && times[i] == 0) && !(SLIP == 35 && times[i] == 1)) return false;
+    }
+    return true;
+}
+
+static bool books_hold(void)
+{
+    uint64_t hand = SLIP == 36 ? (uint32_t)m.control[1] : m.control[1];
+    if (hand >= n + (SLIP == 17) || m.control[4] > m.control[3] + (SLIP == 18)) return false;
+    if (!free_holds()) return false;
+    for (size_t i = 0; i < n; i++) bucket_of[i] = name_hash(m.names + 5 * i) % m.heads_len;
+    for (size_t i = 0; i < n; i++) {
+        if (!word_holds(i) || !name_holds(i) || !page_holds(i)) return false;
+        if (empty(i) && m.chain[i] != -1 && SLIP != 19) return false;
+    }
+    for (size_t b = 0; b < m.heads_len; b++)
+        if (!chain_holds(b)) return false;
+    return true;
+}
+
+uint32_t judge(const uint64_t *control, size_t control_len, const uint32_t *states, size_t states_len, const uint32_t *names,
+               size_t names_len, const uint8_t *pool, size_t pool_len, const int32_t *free, size_t free_len, const int32_t *heads,
+               size_t heads_len, const int32_t *chain, size_t chain_len, const uint32_t *rows, size_t rows_len, const uint8_t *store,
+               size_t store_len, const uint64_t *answer, size_t answer_len)
+{
+    m = (struct memory){(uint64_t *)control, (uint64_t *)answer, (uint32_t *)states, (uint32_t *)names, (uint32_t *)rows,
+                        (int32_t *)free, (int32_t *)heads, (int32_t *)chain, (uint8_t *)pool, (uint8_t *)store,
+                        control_len, answer_len, states_len, names_len, rows_len, free_len, heads_len, chain_len, pool_len, store_len};
+    n = states_len;
+    files = rows_len / 6;
+    if (!sizes_hold()) return SLIP == 20 ? 2 : 1;
+    return books_hold() ? 0 : 2;
+}

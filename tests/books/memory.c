@@ -1,0 +1,255 @@
+#include "memory.h"
+#include <stdio.h>
+#include <stdlib.h>
+#include <string.h>
+#include <sys/mman.h>
+#include <unistd.h>
+
+static uint64_t state = 1;
+
+void seed_random(uint64_t seed)
+{
+    state = seed * 0x9E3779B97F4A7C15u + 0x2545F4914F6CDD1Du;
+}
+
+uint32_t random_below(uint32_t n)
+{
+    state ^= state << 13;
+    state ^= state >> 7;
+    state ^= state << 17;
+    return (uint32_t)(state >> 32) % n;
+}
+
+uint32_t name_hash(const uint32_t *name)
+{
+    uint32_t h = 2166136261u;
+    for (int i = 0; i < 5; i++)
+        for (int k = 0; k < 4; k++) h = (h ^ (name[i] >> 8 * k & 255)) * 16777619u;
+    return h;
+}
+
+static struct { uint8_t *at; size_t room; } areas[16];
+static size_t many;
+
+static void protect(void *at, size_t bytes, int rights)
+{
+    if (mprotect(at, bytes, rights) != 0) {
+        perror("mprotect");
+        exit(2);
+    }
+}
+
+/* The end of an area of at least so many bytes, behind which nothing can be read. */
+static void *area_end(size_t bytes)
+{
+    size_t page = (size_t)sysconf(_SC_PAGESIZE), room = (bytes + page - 1) / page * page;
+    uint8_t *at = mmap(NULL, room + page, PROT_READ | PROT_WRITE, MAP_PRIVATE | MAP_ANONYMOUS | MAP_NORESERVE, -1, 0);
+    if (at == MAP_FAILED || many == sizeof areas / sizeof *areas) {
+        perror("area_end");
+        exit(2);
+    }
+    protect(at + room, page, PROT_NONE);
+    areas[many].at = at;
+    areas[many++].room = room;
+    return at + room;
+}
+
+void memory_guard(int writable)
+{
+    for (size_t k = 0; k < many; k++) protect(areas[k].at, areas[k].room, writable ? PROT_READ | PROT_WRITE : PROT_READ);
+}
+
+/* where each slice ends; lengths differ from one memory to the next, and the ends stay */
+static struct memory ends;
+
+/* of the memory filled last */
+static size_t page_size;
+
+/* one element more than the shape asks for, so that a length can be one too long */
+void memory_new(struct memory *m, const struct shape *most)
+{
+    size_t n = most->buffers + 1;
+    memset(m, 0, sizeof *m);
+    many = 0;
+    ends.control = area_end(6 * sizeof *ends.control);
+    ends.answer = area_end(5 * sizeof *ends.answer);
+    ends.states = area_end(n * sizeof *ends.states);
+    ends.names = area_end(5 * n * sizeof *ends.names);
+    ends.rows = area_end(6 * (most->files + 1) * sizeof *ends.rows);
+    ends.free = area_end(n * sizeof *ends.free);
+    ends.heads = area_end((most->buckets + 1) * sizeof *ends.heads);
+    ends.chain = area_end(n * sizeof *ends.chain);
+    ends.pool = area_end(n * most->page);
+    ends.store = area_end(most->files * most->capacity * most->page + 1);
+}
+
+#define PLACE(m, part) ((m)->part = ends.part - (m)->part##_len)
+
+static void place_all(struct memory *m)
+{
+    PLACE(m, control);
+    PLACE(m, answer);
+    PLACE(m, states);
+    PLACE(m, names);
+    PLACE(m, rows);
+    PLACE(m, free);
+    PLACE(m, heads);
+    PLACE(m, chain);
+    PLACE(m, pool);
+    PLACE(m, store);
+}
+
+static void put_position(uint8_t *page, uint64_t position)
+{
+    uint64_t words = position >> 32 | position << 32;
+    for (int k = 0; k < 8; k++) page[k] = (uint8_t)(words >> 8 * k);
+}
+
+static void fill_rows(struct memory *m, const struct shape *s)
+{
+    for (size_t r = 0; r < s->files; r++) {
+        uint32_t k = (uint32_t)r, capacity = (uint32_t)s->capacity;
+        uint32_t shared[6] = {1663, 5 + k / 6, 16384 + k % 6 / 3, k % 3, capacity, capacity};
+        uint32_t own[6] = {1663, 5, 16384 + k, 0, capacity, capacity};
+        const uint32_t *row = s->relations ? own : shared;
+        memcpy(m->rows + 6 * r, row, 6 * sizeof *row);
+    }
+}
+
+/* the kth page that is held: every page once, in runs of 16 blocks of a file, or from file to file */
+static void name_page(struct memory *m, const struct shape *s, size_t k, uint32_t *name)
+{
+    size_t run = s->capacity < 16 ? s->capacity : 16;
+    size_t file = s->runs ? k / run % s->files : k % s->files;
+    size_t block = s->runs ? k / run / s->files * run + k % run : k / s->files;
+    memcpy(name, m->rows + 6 * file, 4 * sizeof *name);
+    name[4] = (uint32_t)(block % s->capacity);
+}
+
+static void fill_buffer(struct memory *m, const struct shape *s, size_t i, size_t k)
+{
+    uint32_t *name = m->names + 5 * i;
+    int is_dirty = random_below(100) < s->dirty;
+    name_page(m, s, k, name);
+    int32_t *head = m->heads + name_hash(name) % m->heads_len;
+    m->chain[i] = *head;
+    *head = (int32_t)i;
+    m->free[i] = -2;
+    m->states[i] = (is_dirty ? 590u : 524u) << 22 | random_below(6) << 18 | random_below(3);
+    uint64_t inserted = m->control[3], below = random_below(1000);
+    put_position(m->pool + i * s->page, is_dirty ? inserted - (below < inserted ? below : inserted) : inserted - 500 + below);
+}
+
+void memory_fill(struct memory *m, const struct shape *s)
+{
+    size_t n = s->buffers, k = 0, pages = s->files * s->capacity;
+    *m = (struct memory){.control_len = 5, .answer_len = 4, .states_len = n, .names_len = 5 * n, .rows_len = 6 * s->files,
+                         .free_len = n, .heads_len = s->buckets, .chain_len = n, .pool_len = n * s->page, .store_len = pages * s->page};
+    place_all(m);
+    uint64_t inserted = s->log + 1 + random_below(1000), hand = n == 0 ? 0 : random_below((uint32_t)n);
+    uint64_t control[5] = {s->page, hand, UINT64_MAX, inserted, inserted - random_below((uint32_t)(inserted - s->log) + 1)};
+    page_size = s->page;
+    memcpy(m->control, control, sizeof control);
+    memset(m->answer, 0, 4 * sizeof *m->answer);
+    memset(m->states, 0, n * sizeof *m->states);
+    memset(m->names, 0, 5 * n * sizeof *m->names);
+    memset(m->chain, 255, n * sizeof *m->chain);
+    memset(m->heads, 255, s->buckets * sizeof *m->heads);
+    fill_rows(m, s);
+    for (size_t i = 0; i < n; i++) {
+        if (k < pages && random_below(100) < s->used) {
+            fill_buffer(m, s, i, k++);
+        } else {
+            m->free[i] = m->control[2] == UINT64_MAX ? -1 : (int32_t)m->control[2];
+            m->control[2] = i;
+        }
+    }
+}
+
+/* a link near the marks and the limits */
+static int32_t some_link(size_t n)
+{
+    return (int32_t)random_below((uint32_t)n + 5) - 4;
+}
+
+/* a length one off; nothing else is damaged after it, since the slice may be shorter than the rules say */
+static void damage_length(struct memory *m)
+{
+    size_t *lengths[] = {&m->control_len, &m->answer_len, &m->states_len, &m->names_len, &m->rows_len,
+                         &m->free_len, &m->heads_len, &m->chain_len, &m->pool_len, &m->store_len};
+    size_t *length = lengths[random_below(10)];
+    uint64_t control[6] = {0};
+    memcpy(control, m->control, m->control_len * sizeof *control);
+    if (random_below(2) && *length > 0) --*length;
+    else ++*length;
+    place_all(m);
+    memcpy(m->control, control, m->control_len * sizeof *control);
+}
+
+static void damage_control(struct memory *m, unsigned kind)
+{
+    size_t n = m->states_len;
+    uint64_t tops[] = {UINT64_MAX, n, n - 1, 0, 1ull << 32, (1ull << 31) + 1, 1ull << 63, UINT64_MAX - 1, UINT32_MAX,
+                       (1ull << 32) + m->control[2], m->control[2] + 1};
+    switch (kind) {
+    case 0: m->control[0] = 512ull << random_below(8); break;
+    case 1: m->control[0] += random_below(3) - 1; break;
+    case 2: m->control[1] = random_below(4) == 0 ? 1ull << 32 : n - random_below(2); break;
+    case 3: m->control[2] = tops[random_below(sizeof tops / sizeof *tops)]; break;
+    case 4: m->control[3] = m->control[4] - random_below(2); break;
+    case 5: m->control[4] = m->control[3] + random_below(2); break;
+    default: m->control[3] = random_below(1000); break;
+    }
+}
+
+static void damage_rows(struct memory *m, unsigned kind)
+{
+    size_t files = m->rows_len / 6;
+    if (files == 0) return;
+    uint32_t *row = m->rows + 6 * random_below((uint32_t)files), *other = m->rows + 6 * random_below((uint32_t)files);
+    switch (kind) {
+    case 0: row[3] = random_below(5); break;
+    case 1: row[4] = row[5] + random_below(2); break;
+    case 2: row[4] = random_below(row[4] + 1); break;
+    case 3: memcpy(row, other, 4 * sizeof *row); break;
+    case 4: row[5] = 65536 + random_below(2); break;
+    case 5:
+        row[5] += 1;
+        m->store_len += page_size;
+        PLACE(m, store);
+        break;
+    default: row[random_below(4)] ^= 1; break;
+    }
+}
+
+static void damage_buffer(struct memory *m, unsigned kind)
+{
+    size_t n = m->states_len;
+    if (n == 0) return;
+    size_t i = random_below((uint32_t)n), j = random_below((uint32_t)n);
+    switch (kind) {
+    case 0: m->states[i] ^= 1u << random_below(32); break;
+    case 1: m->states[i] = (m->states[i] & ~(15u << 18)) | (5 + random_below(3)) << 18; break;
+    case 2: m->states[i] = 0; break;
+    case 3: m->states[i] = 0x83040001u; break;
+    case 4: m->states[i] ^= 1u << 23 | 1u << 28; break;
+    case 5: m->names[5 * i + random_below(5)] ^= 1u << random_below(3); break;
+    case 6: memcpy(m->names + 5 * i, m->names + 5 * j, 5 * sizeof *m->names); break;
+    case 7: memset(m->names + 5 * i, 0, 5 * sizeof *m->names); break;
+    case 8: m->free[i] = some_link(n); break;
+    case 9: m->chain[i] = some_link(n); break;
+    case 10: m->heads[random_below((uint32_t)m->heads_len)] = some_link(n); break;
+    case 11: m->heads[random_below((uint32_t)m->heads_len)] = -1; break;
+    case 12: put_position(m->pool + i * page_size, m->control[3] + random_below(2)); break;
+    case 13: m->names[5 * i + 4] += 1; break;
+    default: put_position(m->pool + i * page_size, m->control[3] ^ 1ull << (32 + random_below(32))); break;
+    }
+}
+
+void memory_damage(struct memory *m, unsigned kind)
+{
+    if (kind < 15) damage_buffer(m, kind);
+    else if (kind < 22) damage_control(m, kind - 15);
+    else if (kind < 29) damage_rows(m, kind - 22);
+    else damage_length(m);
+}
