@@ -1,0 +1,4 @@
+pub mod BackLaws
+pub mod ExchangeLaws
+pub mod FillLaws
+pub mod SweepLaws
