@@ -1,0 +1,256 @@
+-- Laws of the calls on a buffer: what a passed check gives, what a refused call leaves and what an accepted one does.
+use Prim.Native.Nat.{ℕ, zero, suc, _+_, _*_, _≤_, _<_}
+use mathlib.Core.Path.{_≡_, refl, sym, ap, _∙_}
+use mathlib.Core.Bool.{Bool, true, false, not, cond, _||_}
+use mathlib.Core.Logic.{_≢_}
+use mathlib.Core.List.{List, [], _∷_, _++_}
+use native.Mathlib.Omega.{arith}
+use lib.Dec.{eqb, leb, ltb}
+use lib.ListN.{length, set, take, drop}
+use borrow.Author.Tests.{lt-leb, le-leb, lt-ltb, le-ltb, leb-false, ltb-false, not-false}
+use Rattle.laws.specs.Sum.{ind}
+use Rattle.laws.specs.Block.{putBlock}
+use Rattle.laws.proofs.Block.{block-in}
+use Rattle.laws.proofs.Tests.{or-neither}
+use Rattle.bufmodel.specs.declared.control.Control.{Control}
+use Rattle.bufmodel.specs.declared.answer.Accepted as accepted
+use Rattle.bufmodel.specs.declared.answer.Written as wrote
+use Rattle.bufmodel.specs.Word.{pinned, dirty, pinLess, makeDirty}
+use Rattle.bufmodel.specs.Position.{position, written}
+use Rattle.bufmodel.specs.Memory.{Memory, memory, buffers, size, wordOf, pageOf, withStates, withPool}
+use Rattle.bufmodel.specs.Books.{sound}
+use Rattle.bufmodel.specs.Sizes.{sized}
+use Rattle.bufmodel.specs.Outcome.{Outcome, Place, place, refusalOf, checked, outcome, done, zeros, one}
+use Rattle.bufmodel.specs.Answer.{acceptedAt, writtenAt}
+use Rattle.bufmodel.specs.Moves.{writeBack}
+use Rattle.bufmodel.specs.Calls.{bufferPlaces, unpin, read, writePlaces, writeTo, write, flush}
+use Rattle.bufmodel.proofs.OutcomeLaws.{
+  refusal-past,
+  refusal-at,
+  refusal-none,
+  refusal-passed,
+  outcome-done,
+  outcome-refused,
+}
+use Rattle.bufmodel.proofs.GoodLaws.{Good, good-of, good-sized, checked-good}
+use Rattle.bufbooks.proofs.LentLaws.{sized-fits}
+use Rattle.bufmoves.specs.Back.{Backed}
+
+-- ---- the places
+-- the first places that refuse do so whatever comes later
+cond-first : (k : ℕ) (t : Bool) (a b : ℕ) → (b ≢ 0 → a ≡ b) → cond t k b ≢ 0 → cond t k a ≡ cond t k b
+cond-first k true a b f h = refl
+cond-first k false a b f h = f h
+
+pub refusal-first : (ps later : List Place) → refusalOf ps ≢ 0 → refusalOf (ps ++ later) ≡ refusalOf ps
+unfolding refusalOf
+refusal-first [] later h = absurd (h refl)
+refusal-first (p ∷ ps) later h = cond-first (p .number) (p .refuses) (refusalOf (ps ++ later)) (refusalOf ps) (refusal-first ps later) h
+
+module _ (m : Memory) where
+  pub checked-early : (own : List Place) {k : ℕ} → k ≡ checked m [] → k ≢ 0 → k ≡ checked m own
+  unfolding checked
+  checked-early own e h = e ∙ sym (refusal-first (place 1 (not (sized m)) ∷ place 2 (not (sound m)) ∷ []) own (λ z. h (e ∙ z)))
+
+  -- where the places 1 and 2 passed, the memory is good
+  pub checked-passed : (own : List Place) {k : ℕ} → k ≡ checked m own → k ≡ 0 → Good m × (refusalOf own ≡ 0)
+  unfolding checked
+  checked-passed own e z =
+      let a = refusal-passed 1 (not (sized m)) (place 2 (not (sound m)) ∷ own) (omega arith) (sym e ∙ z) in
+      let b = refusal-passed 2 (not (sound m)) own (omega arith) (a .1) in
+      (good-of m (not-false (sized m) (a .0)) (not-false (sound m) (b .0)), b .1)
+
+-- a good memory and a pinned buffer of it: the places 1, 2, 7 and 8 passed
+pub record Held (m : Memory) (i : ℕ) : Type 0 where
+  pub good : Good m
+  pub within : i < buffers m
+  pub held : pinned (wordOf m i) ≡ true
+
+module _ (m : Memory) (i : ℕ) where
+  pub buffer-early : (later : List Place) {k : ℕ} → k ≡ checked m (bufferPlaces m i []) → k ≢ 0
+      → k ≡ checked m (bufferPlaces m i later)
+  unfolding checked bufferPlaces
+  buffer-early later e h =
+      e
+      ∙ sym
+      (refusal-first
+      (place 1 (not (sized m)) ∷ place 2 (not (sound m)) ∷ place 7 (leb (buffers m) i) ∷ place 8 (not (pinned (wordOf m i))) ∷ [])
+      later (λ z. h (e ∙ z)))
+
+  pub buffer-outside : Good m → buffers m ≤ i → 7 ≡ checked m (bufferPlaces m i [])
+  unfolding bufferPlaces
+  buffer-outside g l = sym (checked-good m g _ ∙ refusal-at 7 _ (le-leb (buffers m) i l))
+
+  pub buffer-unpinned : Good m → i < buffers m → pinned (wordOf m i) ≡ false → 8 ≡ checked m (bufferPlaces m i [])
+  unfolding bufferPlaces
+  buffer-unpinned g l p = sym (checked-good m g _ ∙ refusal-past 7 _ (lt-leb (buffers m) i l) ∙ refusal-at 8 [] (ap not p))
+
+  pub buffer-later : Held m i → (later : List Place) → checked m (bufferPlaces m i later) ≡ refusalOf later
+  unfolding bufferPlaces
+  buffer-later k later =
+      checked-good m (k .good) _ ∙ refusal-past 7 _ (lt-leb (buffers m) i (k .within)) ∙ refusal-past 8 later (ap not (k .held))
+
+  pub buffer-pinned : Good m → i < buffers m → pinned (wordOf m i) ≡ true → 0 ≡ checked m (bufferPlaces m i [])
+  buffer-pinned g l p = sym (buffer-later (record { good = g; within = l; held = p }) [] ∙ refusal-none)
+
+  pub buffer-held : {k : ℕ} → k ≡ checked m (bufferPlaces m i []) → k ≡ 0 → Held m i
+  unfolding bufferPlaces
+  buffer-held e z =
+      let g = checked-passed m _ e z in
+      let a = refusal-passed 7 (leb (buffers m) i) (place 8 (not (pinned (wordOf m i))) ∷ []) (omega arith) (g .1) in
+      let b = refusal-passed 8 (not (pinned (wordOf m i))) [] (omega arith) (a .1) in
+      record { good = g .0; within = leb-false (buffers m) i (a .0); held = not-false (pinned (wordOf m i)) (b .0) }
+
+-- ---- its page
+module _ (m : Memory) (i : ℕ) (k : Held m i) where
+  pub held-page : 8 ≤ size m
+  held-page = sized-fits m (good-sized m (k .good)) .page
+
+  pub held-pool : i * size m + size m ≤ length (m .pool)
+  held-pool = block-in (size m) (buffers m) i (m .pool) (k .good .sizes .pool) (k .within)
+
+  -- what write-back asks
+  pub held-backed : Backed (memory (m .control) [] (m .names) (m .pool) [] [] [] (m .rows) (m .store)) i
+  held-backed =
+      record {
+        page = held-page;
+        name = omega (arith, k .good .sizes .names, k .within);
+        pool = held-pool;
+        rows = sized-fits m (good-sized m (k .good)) .rows;
+        store = k .good .sizes .store;
+      }
+
+-- ---- outcomes as the code answers them
+accepted-at : (k : ℕ) → k ≢ 0 → accepted.the-variants.Refused k ≡ acceptedAt k []
+unfolding acceptedAt
+accepted-at zero h = absurd (h refl)
+accepted-at (suc k) h = refl
+
+written-at : (k : ℕ) (ws : List ℕ) → k ≢ 0 → wrote.the-variants.Refused k ≡ writtenAt k ws
+unfolding writtenAt
+written-at zero ws h = absurd (h refl)
+written-at (suc k) ws h = refl
+
+module _ (bytes : List ℕ) (m : Memory) (o : Outcome) where
+  abbrev out : ℕ → Outcome
+  out n = outcome n bytes m o
+
+  pub accepted-refused : {k n : ℕ} → k ≡ n → k ≢ 0 → accepted.the-variants.Refused k ≡ acceptedAt (out n .refusal) []
+  accepted-refused {k} e h = rw (← e, outcome-refused bytes m o k h) (accepted-at k h)
+
+  pub written-refused : {k n : ℕ} → k ≡ n → k ≢ 0 → wrote.the-variants.Refused k ≡ writtenAt (out n .refusal) (out n .answer)
+  written-refused {k} e h = rw (← e, outcome-refused bytes m o k h) (written-at k zeros h)
+
+  pub same-refused : {k n : ℕ} → k ≡ n → k ≢ 0 → m ≡ out n .after
+  same-refused {k} e h = rw (← e, outcome-refused bytes m o k h)
+
+  pub bytes-refused : {k n : ℕ} → k ≡ n → k ≢ 0 → bytes ≡ out n .bytes
+  bytes-refused {k} e h = rw (← e, outcome-refused bytes m o k h)
+
+  pub accepted-done : {n : ℕ} → n ≡ 0 → o .refusal ≡ 0 → accepted.the-variants.Done ≡ acceptedAt (out n .refusal) []
+  unfolding acceptedAt
+  accepted-done e h = rw (outcome-done bytes m o e, h)
+
+-- ---- unpin
+module _ (m : Memory) (i : ℕ) where
+  pub unpin-refused : {k : ℕ} → k ≡ checked m (bufferPlaces m i []) → k ≢ 0
+      → (accepted.the-variants.Refused k ≡ acceptedAt (unpin m i .refusal) []) × (m ≡ unpin m i .after)
+  unfolding unpin
+  unpin-refused e h = (accepted-refused [] m _ e h, same-refused [] m _ e h)
+
+  pub unpin-done : Held m i → {w : ℕ} → w ≡ pinLess (wordOf m i)
+      → (accepted.the-variants.Done ≡ acceptedAt (unpin m i .refusal) []) × (withStates (set (m .states) i w) m ≡ unpin m i .after)
+  unfolding unpin
+  unpin-done k e =
+      let o = done zeros [] (withStates (set (m .states) i (pinLess (wordOf m i))) m) in
+      let z = buffer-later m i k [] ∙ refusal-none in
+      (accepted-done [] m o z refl, rw (e, outcome-done [] m o z))
+
+-- ---- read
+module _ (m : Memory) (i from : ℕ) (bytes : List ℕ) where
+  abbrev readPlaces : List Place
+  readPlaces = place 9 (ltb (size m) (from + length bytes)) ∷ []
+
+  pub read-refused : {k : ℕ} → k ≡ checked m (bufferPlaces m i readPlaces) → k ≢ 0
+      → (accepted.the-variants.Refused k ≡ acceptedAt (read m i from bytes .refusal) []) × (bytes ≡ read m i from bytes .bytes)
+  unfolding read
+  read-refused e h = (accepted-refused bytes m _ e h, bytes-refused bytes m _ e h)
+
+  pub read-outside : Held m i → size m < from + length bytes → 9 ≡ checked m (bufferPlaces m i readPlaces)
+  read-outside k l = sym (buffer-later m i k readPlaces ∙ refusal-at 9 [] (lt-ltb _ _ l))
+
+  pub read-done : Held m i → from + length bytes ≤ size m → {xs : List ℕ} → xs ≡ take (length bytes) (drop from (pageOf m i))
+      → (accepted.the-variants.Done ≡ acceptedAt (read m i from bytes .refusal) []) × (xs ≡ read m i from bytes .bytes)
+  unfolding read
+  read-done k l e =
+      let o = done zeros (take (length bytes) (drop from (pageOf m i))) m in
+      let z = buffer-later m i k readPlaces ∙ refusal-past 9 [] (le-ltb _ _ l) ∙ refusal-none in
+      (accepted-done bytes m o z refl, rw (e, outcome-done bytes m o z))
+
+-- ---- write
+module _ (m : Memory) (i from : ℕ) (bytes : List ℕ) (at : ℕ) where
+  -- its places behind those of every call on a buffer
+  abbrev rangeTest : Bool
+  rangeTest = ltb (size m) (from + length bytes) || ltb from 8
+
+  abbrev bytesPlaces : List Place
+  bytesPlaces =
+      place 10 (eqb (length bytes) 0) ∷ place 11 (ltb (m .control .inserted) at) ∷ place 12 (ltb at (position (pageOf m i))) ∷ []
+
+  pub write-early : {k : ℕ} → k ≡ checked m (bufferPlaces m i []) → k ≢ 0 → k ≡ checked m (writePlaces m i from bytes at)
+  unfolding writePlaces
+  write-early e h = buffer-early m i (place 9 rangeTest ∷ bytesPlaces) e h
+
+  pub write-later : Held m i → {k : ℕ} → k ≡ refusalOf (place 9 rangeTest ∷ bytesPlaces) → k ≡ checked m (writePlaces m i from bytes at)
+  unfolding writePlaces
+  write-later k e = e ∙ sym (buffer-later m i k (place 9 rangeTest ∷ bytesPlaces))
+
+  -- where none of them refuses, the bytes lie within the page
+  pub write-range : {k : ℕ} → k ≡ refusalOf (place 9 rangeTest ∷ bytesPlaces) → k ≡ 0 → from + length bytes ≤ size m
+  write-range e z =
+      let t = refusal-passed 9 rangeTest bytesPlaces (omega arith) (sym e ∙ z) .0 in
+      ltb-false (size m) (from + length bytes) (or-neither (ltb (size m) (from + length bytes)) (ltb from 8) t .0)
+
+  pub write-refused : {k : ℕ} → k ≡ checked m (writePlaces m i from bytes at) → k ≢ 0
+      → (accepted.the-variants.Refused k ≡ acceptedAt (write m i from bytes at .refusal) []) × (m ≡ write m i from bytes at .after)
+  unfolding write
+  write-refused e h = (accepted-refused bytes m _ e h, same-refused bytes m _ e h)
+
+  pub write-done : {k : ℕ} → k ≡ checked m (writePlaces m i from bytes at) → k ≡ 0 → {pool : List ℕ} {w : ℕ}
+      → pool ≡ putBlock (size m) i (written at from bytes (pageOf m i)) (m .pool)
+      → w ≡ makeDirty (wordOf m i)
+      → (accepted.the-variants.Done ≡ acceptedAt (write m i from bytes at .refusal) [])
+      × (withPool pool (withStates (set (m .states) i w) m) ≡ write m i from bytes at .after)
+  unfolding write writeTo
+  write-done e z p q =
+      let o = done zeros bytes (writeTo m i from bytes at) in
+      (accepted-done bytes m o (sym e ∙ z) refl, rw (p, q, outcome-done bytes m o (sym e ∙ z)))
+
+-- ---- flush
+module _ (m : Memory) (i : ℕ) where
+  pub flush-refused : {k : ℕ} → k ≡ checked m (bufferPlaces m i []) → k ≢ 0
+      → (wrote.the-variants.Refused k ≡ writtenAt (flush m i .refusal) (flush m i .answer)) × (m ≡ flush m i .after)
+  unfolding flush
+  flush-refused e h = (written-refused [] m _ e h, same-refused [] m _ e h)
+
+  -- the parts that write-back is not lent are as they were
+  abbrev part : Memory
+  part = memory (m .control) (m .states) (m .names) (m .pool) [] [] [] (m .rows) (m .store)
+
+  abbrev whole : Control → List ℕ → List ℕ → Memory
+  whole c states store = memory c states (m .names) (m .pool) (m .free) (m .heads) (m .chain) (m .rows) store
+
+  pub back-whole : {c : Control} {states store : List ℕ}
+      → memory c states (m .names) (m .pool) [] [] [] (m .rows) store ≡ writeBack part i
+      → whole c states store ≡ writeBack m i
+  unfolding writeBack
+  back-whole e = ap (λ (b : Memory). whole (b .control) (b .states) (b .store)) e
+
+  pub flush-done : Held m i → {n : ℕ} {c : Control} {states store : List ℕ} → n ≡ ind (dirty (wordOf m i))
+      → memory c states (m .names) (m .pool) [] [] [] (m .rows) store ≡ writeBack part i
+      → (wrote.the-variants.Pages n ≡ writtenAt (flush m i .refusal) (flush m i .answer)) × (whole c states store ≡ flush m i .after)
+  unfolding flush writtenAt
+  flush-done k e b =
+      let o = done (one (ind (dirty (wordOf m i)))) [] (writeBack m i) in
+      let z = buffer-later m i k [] ∙ refusal-none in
+      (rw (e, outcome-done [] m o z), back-whole b ∙ ap (λ (x : Outcome). x .after) (sym (outcome-done [] m o z)))

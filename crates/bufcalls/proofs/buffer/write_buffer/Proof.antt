@@ -1,0 +1,141 @@
+use borrow.Author.Needs.{needs}
+use denote.Ref.{now}
+use native.Mathlib.Omega.{arith}
+use Prim.Native.Nat.{ℕ}
+use Rattle.bufmodel.specs.Memory.{Memory, memory}
+use Rattle.bufcalls.proofs.CallLaws.{
+  Held,
+  buffer-held,
+  held-page,
+  held-pool,
+  write-early,
+  write-later,
+  write-range,
+  write-refused,
+  write-done,
+}
+use Rattle.bufcalls.proofs.buffer.write_buffer.Statement.{statement}
+use Rattle.bufcalls.proofs.buffer.write_buffer.Tie as tie
+
+abbrev start : tie.After-buffer-refusal → tie.Start
+start c = c .before .before .before .before .before .before .before .before .before
+
+abbrev lent : tie.After-buffer-refusal → Memory
+lent r =
+    let a = start r .args in
+    memory (a .control) (now (a .states)) (now (a .names)) (now (a .pool)) (now (a .free)) (now (a .heads)) (now (a .chain)) (now (a .rows))
+    (now (a .store))
+
+abbrev at : tie.After-buffer-refusal → ℕ
+at r = start r .args .buffer .0
+
+held : (c : tie.Else1) → Held (lent (c .before)) (at (c .before))
+held c = let r = c .before in buffer-held (lent r) (at r) (r .buffer-refusal .ensures) (c .if1 .left)
+
+buffer-refusal-requires : tie.Need-buffer-refusal-requires
+buffer-refusal-requires c κs = search needs
+
+same-length : tie.Need-same-length
+same-length c = search needs
+
+same-length-2 : tie.Need-same-length-2
+same-length-2 c = search needs
+
+returns : tie.Need-returns
+returns c =
+    let r = c .before in
+    let a = start r .args in
+    write-refused (lent r) (at r) (a .from) (now (a .bytes)) (a .position)
+    (write-early (lent r) (at r) (a .from) (now (a .bytes)) (a .position) (r .buffer-refusal .ensures) (c .if1 .taken)) (c .if1 .taken)
+
+write-refusal-requires : tie.Need-write-refusal-requires
+write-refusal-requires c κs =
+    let e = c .before in
+    let r = e .before in
+    (held-page (lent r) (at r) (held e), held-pool (lent r) (at r) (held e))
+
+same-length-3 : tie.Need-same-length-3
+same-length-3 c = search needs
+
+same-length-4 : tie.Need-same-length-4
+same-length-4 c = search needs
+
+returns-2 : tie.Need-returns-2
+returns-2 c =
+    let w = c .before in
+    let e = w .before .before in
+    let r = e .before in
+    let a = start r .args in
+    write-refused (lent r) (at r) (a .from) (now (a .bytes)) (a .position)
+    (write-later (lent r) (at r) (a .from) (now (a .bytes)) (a .position) (held e) (w .write-refusal .ensures)) (c .if2 .taken)
+
+write-page-requires : tie.Need-write-page-requires
+write-page-requires c κs =
+    let d = c .before in
+    let w = d .before in
+    let e = w .before .before in
+    let r = e .before in
+    let a = start r .args in (
+      held-page (lent r) (at r) (held e),
+      held-pool (lent r) (at r) (held e),
+      write-range (lent r) (at r) (a .from) (now (a .bytes)) (a .position) (w .write-refusal .ensures) (d .if2 .left),
+    )
+
+mul-make-dirty : tie.Need-mul-make-dirty
+mul-make-dirty c =
+    let h = held (c .before .before .before .before .before .before .before) in
+    omega (arith, h .within, h .good .sizes .most)
+
+slice-read-make-dirty : tie.Need-slice-read-make-dirty
+slice-read-make-dirty c = held (c .before .before .before .before .before .before .before .before) .within
+
+make-dirty-requires : tie.Need-make-dirty-requires
+make-dirty-requires c κs = search needs
+
+mul-states : tie.Need-mul-states
+mul-states c =
+    let h = held (c .before .before .before .before .before .before .before .before .before) in
+    omega (arith, h .within, h .good .sizes .most)
+
+slice-write-states : tie.Need-slice-write-states
+slice-write-states c = held (c .before .before .before .before .before .before .before .before .before) .within
+
+same-length-5 : tie.Need-same-length-5
+same-length-5 c = search needs
+
+same-length-6 : tie.Need-same-length-6
+same-length-6 c = search needs
+
+returns-3 : tie.Need-returns-3
+returns-3 c =
+    let p = c .before .before .before .before in
+    let d = p .before .before in
+    let w = d .before in
+    let e = w .before .before in
+    let r = e .before in
+    let a = start r .args in
+    write-done (lent r) (at r) (a .from) (now (a .bytes)) (a .position)
+    (write-later (lent r) (at r) (a .from) (now (a .bytes)) (a .position) (held e) (w .write-refusal .ensures)) (d .if2 .left)
+    (p .write-page .ensures) (c .make-dirty .ensures)
+
+pub write-buffer-spec : {M : Type 1} → statement M
+write-buffer-spec =
+    tie.close
+    (tie.spec
+    buffer-refusal-requires
+    same-length
+    same-length-2
+    returns
+    write-refusal-requires
+    same-length-3
+    same-length-4
+    returns-2
+    write-page-requires
+    mul-make-dirty
+    slice-read-make-dirty
+    make-dirty-requires
+    mul-states
+    slice-write-states
+    same-length-5
+    same-length-6
+    returns-3)

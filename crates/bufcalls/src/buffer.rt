@@ -1,0 +1,337 @@
+// The calls on a pinned buffer: unpin, read, write, flush.
+
+ghost use mathlib.Core.Path.{_≡_};
+ghost use mathlib.Core.List.{[]};
+ghost use mathlib.Core.Bool.{_||_};
+ghost use mathlib.Core.List.{_∷_};
+ghost use Prim.Native.Nat.{_+_, _*_, _≤_};
+ghost use lib.Dec.{eqb, leb, ltb};
+ghost use lib.ListN.{length};
+ghost use Rattle.laws.specs.Block.{block};
+ghost use Rattle.laws.specs.Sum.{ind};
+ghost use Rattle.bufmodel.specs.Position.{position as pagePosition};
+ghost use Rattle.bufmodel.specs.Memory.{memory};
+ghost use Rattle.bufmodel.specs.Outcome.{place, refusalOf, checked};
+ghost use Rattle.bufmodel.specs.Answer.{acceptedAt, writtenAt};
+ghost use Rattle.bufmodel.specs.Calls.{bufferPlaces, unpin, read, write, flush};
+use crate::ends::Flushed;
+use crate::page::read_page;
+use crate::page::write_page;
+use bufbooks::lent::refusal;
+use bufleaf::position::position_at;
+use bufleaf::word::is_dirty;
+use bufleaf::word::is_pinned;
+use bufleaf::word::make_dirty;
+use bufleaf::word::pin_less;
+use bufmodel::answer::Accepted;
+use bufmodel::answer::Written;
+use bufmodel::control::Control;
+use bufmoves::back::write_back;
+use buftag::number::BufferNumber;
+
+// The places 1, 2, 7 and 8: 0 if none refuses.
+fn buffer_refusal(
+    control: Control,
+    states: &[u32],
+    names: &[u32],
+    pool: &[u8],
+    free: &[i32],
+    heads: &[i32],
+    chain: &[i32],
+    rows: &[u32],
+    store: &[u8],
+    buffer: BufferNumber,
+) -> u32
+    ensures { λ r.
+        ⌜ r
+        ≡ checked
+        (memory control (now (states .entry)) (now (names .entry)) (now (pool .entry)) (now (free .entry)) (now (heads .entry))
+        (now (chain .entry)) (now (rows .entry)) (now (store .entry)))
+        (bufferPlaces
+        (memory control (now (states .entry)) (now (names .entry)) (now (pool .entry)) (now (free .entry)) (now (heads .entry))
+        (now (chain .entry)) (now (rows .entry)) (now (store .entry))) (buffer .0) []) ⌝ }
+{
+    let k = refusal(
+        control,
+        states,
+        names,
+        pool,
+        free,
+        heads,
+        chain,
+        rows,
+        store,
+    );
+    if k != 0 {
+        return k;
+    }
+    let i = buffer.0;
+    if i >= states.len() {
+        return 7;
+    }
+    if !is_pinned(states[i]) {
+        return 8;
+    }
+    0
+}
+
+// Pin count - 1.
+pub fn unpin_buffer(
+    control: Control,
+    states: &mut [u32],
+    names: &[u32],
+    pool: &[u8],
+    free: &[i32],
+    heads: &[i32],
+    chain: &[i32],
+    rows: &[u32],
+    store: &[u8],
+    buffer: BufferNumber,
+) -> Accepted
+    ensures { λ r.
+        ⌜ r
+        ≡ acceptedAt
+        (unpin
+        (memory control (now (states .entry)) (now (names .entry)) (now (pool .entry)) (now (free .entry)) (now (heads .entry))
+        (now (chain .entry)) (now (rows .entry)) (now (store .entry))) (buffer .0) .refusal) [] ⌝ }
+    ensures { λ _.
+        ⌜ memory control (now (states .exit)) (now (names .entry)) (now (pool .entry)) (now (free .entry))
+        (now (heads .entry)) (now (chain .entry)) (now (rows .entry)) (now (store .entry))
+        ≡ unpin
+        (memory control (now (states .entry)) (now (names .entry)) (now (pool .entry)) (now (free .entry)) (now (heads .entry))
+        (now (chain .entry)) (now (rows .entry)) (now (store .entry))) (buffer .0) .after ⌝ }
+{
+    let k = buffer_refusal(
+        control,
+        states,
+        names,
+        pool,
+        free,
+        heads,
+        chain,
+        rows,
+        store,
+        buffer,
+    );
+    if k != 0 {
+        return Accepted::Refused(k);
+    }
+    let i = buffer.0;
+    states[i] = pin_less(states[i]);
+    Accepted::Done
+}
+
+// Whether a read's or a write's bytes lie within a page: the sum is not made, since it need not fit.
+fn range_ok(size: usize, from: usize, length: usize) -> bool
+    ensures { λ r. ⌜ r ≡ leb (from + length) size ⌝ }
+{
+    if from > size {
+        return false;
+    }
+    length <= size - from
+}
+
+// Fills `out` from the page.
+pub fn read_buffer(
+    control: Control,
+    states: &[u32],
+    names: &[u32],
+    pool: &[u8],
+    free: &[i32],
+    heads: &[i32],
+    chain: &[i32],
+    rows: &[u32],
+    store: &[u8],
+    buffer: BufferNumber,
+    from: usize,
+    out: &mut [u8],
+) -> Accepted
+    ensures { λ r.
+        ⌜ r
+        ≡ acceptedAt
+        (read
+        (memory control (now (states .entry)) (now (names .entry)) (now (pool .entry)) (now (free .entry)) (now (heads .entry))
+        (now (chain .entry)) (now (rows .entry)) (now (store .entry))) (buffer .0) from (now (out .entry)) .refusal) [] ⌝ }
+    ensures { λ _.
+        ⌜ now (out .exit)
+        ≡ read
+        (memory control (now (states .entry)) (now (names .entry)) (now (pool .entry)) (now (free .entry)) (now (heads .entry))
+        (now (chain .entry)) (now (rows .entry)) (now (store .entry))) (buffer .0) from (now (out .entry)) .bytes ⌝ }
+{
+    let k = buffer_refusal(
+        control,
+        states,
+        names,
+        pool,
+        free,
+        heads,
+        chain,
+        rows,
+        store,
+        buffer,
+    );
+    if k != 0 {
+        return Accepted::Refused(k);
+    }
+    if !range_ok(control.size, from, out.len()) {
+        return Accepted::Refused(9);
+    }
+    read_page(pool, control.size, buffer.0, from, out);
+    Accepted::Done
+}
+
+// The places 9 to 12 of a write, for a pinned buffer: 0 if none refuses.
+fn write_refusal(
+    control: Control,
+    pool: &[u8],
+    i: usize,
+    from: usize,
+    bytes: &[u8],
+    position: u64,
+) -> u32
+    requires { ⌜ (8 ≤ control .size) × (i * control .size + control .size ≤ length (now pool)) ⌝ }
+    ensures { λ r.
+        ⌜ r
+        ≡ refusalOf
+        (place 9 (ltb (control .size) (from + length (now (bytes .entry))) || ltb from 8)
+        ∷ place 10 (eqb (length (now (bytes .entry))) 0)
+        ∷ place 11 (ltb (control .inserted) position)
+        ∷ place 12 (ltb position (pagePosition (block (control .size) i (now (pool .entry)))))
+        ∷ []) ⌝ }
+{
+    if !range_ok(control.size, from, bytes.len()) {
+        return 9;
+    }
+    if from < 8 {
+        return 9;
+    }
+    if bytes.len() == 0 {
+        return 10;
+    }
+    if position > control.inserted {
+        return 11;
+    }
+    if position < position_at(pool, i * control.size) {
+        return 12;
+    }
+    0
+}
+
+// Copies bytes into the page, sets its log position, and makes it dirty.
+pub fn write_buffer(
+    control: Control,
+    states: &mut [u32],
+    names: &[u32],
+    pool: &mut [u8],
+    free: &[i32],
+    heads: &[i32],
+    chain: &[i32],
+    rows: &[u32],
+    store: &[u8],
+    buffer: BufferNumber,
+    from: usize,
+    bytes: &[u8],
+    position: u64,
+) -> Accepted
+    ensures { λ r.
+        ⌜ r
+        ≡ acceptedAt
+        (write
+        (memory control (now (states .entry)) (now (names .entry)) (now (pool .entry)) (now (free .entry)) (now (heads .entry))
+        (now (chain .entry)) (now (rows .entry)) (now (store .entry))) (buffer .0) from (now (bytes .entry)) position .refusal) [] ⌝ }
+    ensures { λ _.
+        ⌜ memory control (now (states .exit)) (now (names .entry)) (now (pool .exit)) (now (free .entry))
+        (now (heads .entry)) (now (chain .entry)) (now (rows .entry)) (now (store .entry))
+        ≡ write
+        (memory control (now (states .entry)) (now (names .entry)) (now (pool .entry)) (now (free .entry)) (now (heads .entry))
+        (now (chain .entry)) (now (rows .entry)) (now (store .entry))) (buffer .0) from (now (bytes .entry)) position .after ⌝ }
+{
+    let k = buffer_refusal(
+        control,
+        states,
+        names,
+        pool,
+        free,
+        heads,
+        chain,
+        rows,
+        store,
+        buffer,
+    );
+    if k != 0 {
+        return Accepted::Refused(k);
+    }
+    let i = buffer.0;
+    let later = write_refusal(control, pool, i, from, bytes, position);
+    if later != 0 {
+        return Accepted::Refused(later);
+    }
+    write_page(pool, control.size, i, from, bytes, position);
+    states[i] = make_dirty(states[i]);
+    Accepted::Done
+}
+
+// Writes the page back if it is dirty.
+pub fn flush_buffer(
+    control: Control,
+    states: &mut [u32],
+    names: &[u32],
+    pool: &[u8],
+    free: &[i32],
+    heads: &[i32],
+    chain: &[i32],
+    rows: &[u32],
+    store: &mut [u8],
+    buffer: BufferNumber,
+) -> Flushed
+    ensures { λ r.
+        ⌜ r .answer
+        ≡ writtenAt
+        (flush
+        (memory control (now (states .entry)) (now (names .entry)) (now (pool .entry)) (now (free .entry)) (now (heads .entry))
+        (now (chain .entry)) (now (rows .entry)) (now (store .entry))) (buffer .0) .refusal)
+        (flush
+        (memory control (now (states .entry)) (now (names .entry)) (now (pool .entry)) (now (free .entry)) (now (heads .entry))
+        (now (chain .entry)) (now (rows .entry)) (now (store .entry))) (buffer .0) .answer) ⌝ }
+    ensures { λ r.
+        ⌜ memory (r .control) (now (states .exit)) (now (names .entry)) (now (pool .entry)) (now (free .entry))
+        (now (heads .entry)) (now (chain .entry)) (now (rows .entry)) (now (store .exit))
+        ≡ flush
+        (memory control (now (states .entry)) (now (names .entry)) (now (pool .entry)) (now (free .entry)) (now (heads .entry))
+        (now (chain .entry)) (now (rows .entry)) (now (store .entry))) (buffer .0) .after ⌝ }
+{
+    let k = buffer_refusal(
+        control,
+        states,
+        names,
+        pool,
+        free,
+        heads,
+        chain,
+        rows,
+        store,
+        buffer,
+    );
+    if k != 0 {
+        return Flushed {
+            control: control,
+            answer: Written::Refused(k),
+        };
+    }
+    let i = buffer.0;
+    let n = one_if(is_dirty(states[i]));
+    let after = write_back(control, states, names, pool, rows, store, i);
+    Flushed {
+        control: after,
+        answer: Written::Pages(n),
+    }
+}
+
+fn one_if(t: bool) -> u64
+    ensures { λ r. ⌜ r ≡ ind t ⌝ }
+{
+    if t {
+        return 1;
+    }
+    0
+}

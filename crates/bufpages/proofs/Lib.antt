@@ -1,0 +1,9 @@
+pub mod WholeLaws
+pub mod BackLaws
+pub mod SweptLaws
+pub mod TakenLaws
+pub mod VictimLaws
+pub mod NewLaws
+pub mod PinLaws
+pub mod FileLaws
+pub mod PeekLaws

@@ -1,0 +1,62 @@
+// Peek: where a page lies, in the pool if it is held, else in the store.
+
+ghost use mathlib.Core.Path.{_≡_};
+ghost use Rattle.bufmodel.specs.Memory.{memory};
+ghost use Rattle.bufmodel.specs.Answer.{peekedAt};
+ghost use Rattle.bufmodel.specs.Calls.{peek};
+use crate::name::Sought;
+use crate::name::seek;
+use bufbooks::lent::refusal;
+use bufmodel::answer::Peeked;
+use bufmodel::control::Control;
+use buftag::lookup::Held;
+use buftag::lookup::look_up;
+use buftag::name::PageName;
+
+pub fn peek_at(
+    control: Control,
+    states: &[u32],
+    names: &[u32],
+    pool: &[u8],
+    free: &[i32],
+    heads: &[i32],
+    chain: &[i32],
+    rows: &[u32],
+    store: &[u8],
+    name: PageName,
+) -> Peeked
+    ensures { λ r.
+        ⌜ r
+        ≡ peekedAt
+        (peek
+        (memory control (now (states .entry)) (now (names .entry)) (now (pool .entry)) (now (free .entry)) (now (heads .entry))
+        (now (chain .entry)) (now (rows .entry)) (now (store .entry))) name .refusal)
+        (peek
+        (memory control (now (states .entry)) (now (names .entry)) (now (pool .entry)) (now (free .entry)) (now (heads .entry))
+        (now (chain .entry)) (now (rows .entry)) (now (store .entry))) name .answer) ⌝ }
+{
+    let k = refusal(
+        control,
+        states,
+        names,
+        pool,
+        free,
+        heads,
+        chain,
+        rows,
+        store,
+    );
+    if k != 0 {
+        return Peeked::Refused(k);
+    }
+    let sought = seek(rows, name);
+    match sought {
+        Sought::Refused(n) => Peeked::Refused(n),
+        Sought::At(g) => {
+            let Held::At(buffer) = look_up(heads, chain, names, name) else {
+                return Peeked::InStore((g * control.size) as u64);
+            };
+            Peeked::InPool((buffer.0 * control.size) as u64)
+        }
+    }
+}
