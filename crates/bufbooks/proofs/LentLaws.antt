@@ -12,7 +12,7 @@ use borrow.Author.Tests.{eq-eqb, ne-eqb, eqb-true, ltb-false}
 use Rattle.laws.specs.Every.{all}
 use Rattle.laws.specs.Times.{times}
 use Rattle.laws.proofs.Every.{all-at}
-use Rattle.laws.proofs.Tests.{lt-or-le, true-or-false}
+use Rattle.laws.proofs.Tests.{lt-or-le, never, true-or-false}
 use Rattle.buftag.specs.declared.link.Link.{Link}
 use Rattle.buftag.specs.declared.link.Link.the-variants.{To, Bad}
 use Rattle.buftag.specs.Link as link
@@ -25,6 +25,7 @@ use Rattle.bufmodel.specs.Outcome.{Outcome, place, refusalOf, checked, done, ze
 use Rattle.bufmodel.specs.Lent.{Lent, oneBits, controlWords, answerWords, topOf, controlOf, opened, ended, called}
 use Rattle.bufmodel.proofs.SizesLaws.{rows-say, sizes-say}
 use Rattle.bufmodel.proofs.BooksLaws.{books-say}
+use Rattle.bufmodel.proofs.GoodLaws.{Good, good-sized, good-sound}
 use Rattle.bufmodel.proofs.OutcomeLaws.{refusal-past, refusal-at, refusal-none, outcome-number}
 use Rattle.bufbooks.specs.Books.{Fitting}
 use Rattle.bufbooks.specs.Lent.{topRead, controlRead, check}
@@ -121,16 +122,25 @@ module _ (m : Memory) (w : ℕ) where
   top-high e l = (rw (e, l), rw e)
 
   module _ (s : sized (withTop (topOf w) m) ≡ true) where
-    sound-high : eqb w oneBits ≡ false → ltb w (2 ^ 31) ≡ false → sound (withTop (topRead w) m) ≡ sound (withTop (topOf w) m)
+    unsound-high : eqb w oneBits ≡ false → ltb w (2 ^ 31) ≡ false → sound (withTop (topOf w) m) ≡ false
     unfolding sized
-    sound-high e l =
+    unsound-high e l =
         let k = sizes-say (size m) (withTop (topOf w) m) .holds s in
-        let t = top-high e l in
-        unsound (withTop (topRead w) m) (λ xs r. links-bad r (ap linkOf (t .0)))
-        ∙ sym
-        (unsound (withTop (topOf w) m) (λ xs r.
-        let low = links-to (subst (λ (z : ℤ). Links (m .free) (linkOf z) xs) (t .1) r) in
-        omega (arith, low, ltb-false w (2 ^ 31) l, k .free, k .most)))
+        unsound (withTop (topOf w) m) (λ xs r.
+        let low = links-to (subst (λ (z : ℤ). Links (m .free) (linkOf z) xs) (top-high e l .1) r) in
+        omega (arith, low, ltb-false w (2 ^ 31) l, k .free, k .most))
+
+    sound-high : eqb w oneBits ≡ false → ltb w (2 ^ 31) ≡ false → sound (withTop (topRead w) m) ≡ sound (withTop (topOf w) m)
+    sound-high e l =
+        unsound (withTop (topRead w) m) (λ xs r. links-bad r (ap linkOf (top-high e l .0))) ∙ sym (unsound-high e l)
+
+    -- where they are sound, the readings are one
+    top-read : sound (withTop (topOf w) m) ≡ true → topRead w ≡ topOf w
+    top-read b =
+        ⊎-elim
+        top-ones
+        (λ e. ⊎-elim (top-low e) (λ l. never b (unsound-high e l)) (true-or-false (ltb w (2 ^ 31))))
+        (true-or-false (eqb w oneBits))
 
     sound-like : topRead w ≡ topOf w → sound (withTop (topRead w) m) ≡ sound (withTop (topOf w) m)
     sound-like e = ap (λ (z : ℤ). sound (withTop z m)) e
@@ -156,12 +166,27 @@ check-number : (m : Memory) → check m .refusal ≡ checked m []
 unfolding check
 check-number m = outcome-number [] m (done zeros [] m) (checked m []) refl
 
-read-opened : (m : Lent)
+pub read-opened : (m : Lent)
     → checked
     (memory (controlRead (m .control)) (m .states) (m .names) (m .pool) (m .free) (m .heads) (m .chain) (m .rows) (m .store)) []
     ≡ checked (opened m) []
 unfolding controlRead controlOf opened
 read-opened m = checked-top (opened m) (getD (m .control) 2 0)
+
+-- and where it is good, it is read as it is
+pub read-good : (m : Lent) → Good (opened m) → controlRead (m .control) ≡ controlOf (m .control)
+unfolding controlRead controlOf opened
+read-good m g =
+    ap
+    (λ (t : ℤ).
+    record {
+      size = getD (m .control) 0 0;
+      hand = getD (m .control) 1 0;
+      top = t;
+      inserted = getD (m .control) 3 0;
+      flushed = getD (m .control) 4 0;
+    })
+    (top-read (opened m) (getD (m .control) 2 0) (good-sized (opened m) g) (good-sound (opened m) g))
 
 module _ (m : Lent) (answer : List ℕ) where
   pub called-answer : length answer ≢ answerWords → 1 ≡ called check m [] answer .result
