@@ -1,9 +1,9 @@
 -- Laws of the calls on a buffer: what a passed check gives, what a refused call leaves and what an accepted one does.
 use Prim.Native.Nat.{ℕ, zero, suc, _+_, _*_, _≤_, _<_}
 use mathlib.Core.Path.{_≡_, refl, sym, ap, _∙_}
-use mathlib.Core.Bool.{Bool, true, false, not, cond, _||_}
+use mathlib.Core.Bool.{Bool, true, false, not, _||_}
 use mathlib.Core.Logic.{_≢_}
-use mathlib.Core.List.{List, [], _∷_, _++_}
+use mathlib.Core.List.{List, [], _∷_}
 use native.Mathlib.Omega.{arith}
 use lib.Dec.{eqb, leb, ltb}
 use lib.ListN.{length, set, take, drop}
@@ -29,37 +29,15 @@ use Rattle.bufmodel.proofs.OutcomeLaws.{
   refusal-at,
   refusal-none,
   refusal-passed,
+  refusal-first,
   outcome-done,
   outcome-refused,
 }
-use Rattle.bufmodel.proofs.GoodLaws.{Good, good-of, good-sized, checked-good}
+use Rattle.bufmodel.proofs.GoodLaws.{Good, good-sized, checked-good, checked-passed}
 use Rattle.bufbooks.proofs.LentLaws.{sized-fits}
 use Rattle.bufmoves.specs.Back.{Backed}
 
 -- ---- the places
--- the first places that refuse do so whatever comes later
-cond-first : (k : ℕ) (t : Bool) (a b : ℕ) → (b ≢ 0 → a ≡ b) → cond t k b ≢ 0 → cond t k a ≡ cond t k b
-cond-first k true a b f h = refl
-cond-first k false a b f h = f h
-
-pub refusal-first : (ps later : List Place) → refusalOf ps ≢ 0 → refusalOf (ps ++ later) ≡ refusalOf ps
-unfolding refusalOf
-refusal-first [] later h = absurd (h refl)
-refusal-first (p ∷ ps) later h = cond-first (p .number) (p .refuses) (refusalOf (ps ++ later)) (refusalOf ps) (refusal-first ps later) h
-
-module _ (m : Memory) where
-  pub checked-early : (own : List Place) {k : ℕ} → k ≡ checked m [] → k ≢ 0 → k ≡ checked m own
-  unfolding checked
-  checked-early own e h = e ∙ sym (refusal-first (place 1 (not (sized m)) ∷ place 2 (not (sound m)) ∷ []) own (λ z. h (e ∙ z)))
-
-  -- where the places 1 and 2 passed, the memory is good
-  pub checked-passed : (own : List Place) {k : ℕ} → k ≡ checked m own → k ≡ 0 → Good m × (refusalOf own ≡ 0)
-  unfolding checked
-  checked-passed own e z =
-      let a = refusal-passed 1 (not (sized m)) (place 2 (not (sound m)) ∷ own) (omega arith) (sym e ∙ z) in
-      let b = refusal-passed 2 (not (sound m)) own (omega arith) (a .1) in
-      (good-of m (not-false (sized m) (a .0)) (not-false (sound m) (b .0)), b .1)
-
 -- a good memory and a pinned buffer of it: the places 1, 2, 7 and 8 passed
 pub record Held (m : Memory) (i : ℕ) : Type 0 where
   pub good : Good m

@@ -2,51 +2,24 @@
 use Prim.Native.Nat.{ℕ, zero, suc}
 use mathlib.Core.Path.{_≡_, refl, sym, _∙_, ap}
 use mathlib.Core.Logic.{_≢_}
-use mathlib.Core.Bool.{Bool, true, false, not}
-use mathlib.Core.List.{List, [], _∷_}
-use native.Mathlib.Omega.{arith}
-use borrow.Author.Tests.{not-false}
+use mathlib.Core.List.{List, []}
 use Rattle.bufmodel.specs.declared.answer.Accepted as accepted
 use Rattle.bufmodel.specs.declared.answer.Written as written
 use Rattle.bufmodel.specs.Memory.{Memory}
-use Rattle.bufmodel.specs.Sizes.{sized}
-use Rattle.bufmodel.specs.Books.{sound}
-use Rattle.bufmodel.specs.Outcome.{Outcome, Place, place, refusalOf, checked, done, refused, outcome, one}
+use Rattle.bufmodel.specs.Outcome.{Outcome, Place, refusalOf, checked, done, refused, outcome, one}
 use Rattle.bufmodel.specs.Answer.{acceptedAt, writtenAt}
-use Rattle.bufmodel.proofs.OutcomeLaws.{refusal-passed, outcome-done, outcome-refused}
-use Rattle.bufmodel.proofs.GoodLaws.{Good, good-of, checked-good}
-
--- ---- the places
--- one of the first two that refuses does so whatever comes later
-first-two : (s b : Bool) (own : List Place) → refusalOf (place 1 (not s) ∷ place 2 (not b) ∷ []) ≢ 0
-    → refusalOf (place 1 (not s) ∷ place 2 (not b) ∷ own) ≡ refusalOf (place 1 (not s) ∷ place 2 (not b) ∷ [])
-unfolding refusalOf
-first-two true true own h = absurd (h refl)
-first-two true false own h = refl
-first-two false b own h = refl
-
-module _ (m : Memory) where
-  pub checked-first : (own : List Place) → checked m [] ≢ 0 → checked m own ≡ checked m []
-  unfolding checked
-  checked-first own h = first-two (sized m) (sound m) own h
-
-  -- where none of them refuses, the memory is good
-  pub checked-passed : checked m [] ≡ 0 → Good m
-  unfolding checked
-  checked-passed e =
-      let f = refusal-passed 1 (not (sized m)) (place 2 (not (sound m)) ∷ []) (omega arith) e in
-      let g = refusal-passed 2 (not (sound m)) [] (omega arith) (f .1) in
-      good-of m (not-false (sized m) (f .0)) (not-false (sound m) (g .0))
+use Rattle.bufmodel.proofs.OutcomeLaws.{outcome-done, outcome-refused}
+use Rattle.bufmodel.proofs.GoodLaws.{checked-good, checked-early, passed-good}
 
 -- ---- the three ends, after the check of all calls gave j
 module _ (m : Memory) (own : List Place) (bytes : List ℕ) (o : Outcome) {j : ℕ} (is : j ≡ checked m []) where
   pub end-first : j ≢ 0 → outcome (checked m own) bytes m o ≡ refused j bytes m
   end-first h =
-      let e : checked m own ≡ j = checked-first m own (λ z. h (is ∙ z)) ∙ sym is in
+      let e : checked m own ≡ j = sym (checked-early m own is h) in
       rw e (outcome-refused bytes m o j h)
 
   end-later : j ≡ 0 → checked m own ≡ refusalOf own
-  end-later z = checked-good m (checked-passed m (sym is ∙ z)) own
+  end-later z = checked-good m (passed-good m is z) own
 
   pub end-own : j ≡ 0 → {k : ℕ} → refusalOf own ≡ k → k ≢ 0 → outcome (checked m own) bytes m o ≡ refused k bytes m
   end-own z {k} e h =

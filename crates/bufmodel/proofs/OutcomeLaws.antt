@@ -2,8 +2,8 @@
 use Prim.Native.Nat.{ℕ, zero, suc, _<_}
 use mathlib.Core.Path.{_≡_, refl}
 use mathlib.Core.Logic.{_≢_}
-use mathlib.Core.Bool.{Bool, true, false}
-use mathlib.Core.List.{List, [], _∷_}
+use mathlib.Core.Bool.{Bool, true, false, cond}
+use mathlib.Core.List.{List, [], _∷_, _++_}
 use native.Mathlib.Omega.{arith}
 use Rattle.bufmodel.specs.Memory.{Memory}
 use Rattle.bufmodel.specs.Outcome.{Outcome, Place, place, refusalOf, refused, outcome}
@@ -28,6 +28,16 @@ pub refusal-passed : (k : ℕ) (t : Bool) (later : List Place) → 0 < k → ref
 unfolding refusalOf
 refusal-passed k true later h e = absurd (omega arith)
 refusal-passed k false later h e = (refl, e)
+
+-- the first places that refuse do so whatever comes later
+cond-first : (k : ℕ) (t : Bool) (a b : ℕ) → (b ≢ 0 → a ≡ b) → cond t k b ≢ 0 → cond t k a ≡ cond t k b
+cond-first k true a b f h = refl
+cond-first k false a b f h = f h
+
+pub refusal-first : (ps later : List Place) → refusalOf ps ≢ 0 → refusalOf (ps ++ later) ≡ refusalOf ps
+unfolding refusalOf
+refusal-first [] later h = absurd (h refl)
+refusal-first (p ∷ ps) later h = cond-first (p .number) (p .refuses) (refusalOf (ps ++ later)) (refusalOf ps) (refusal-first ps later) h
 
 -- places with equal conditions give one number
 pub refusal-same : (k : ℕ) {t u : Bool} (ps qs : List Place) → t ≡ u → refusalOf ps ≡ refusalOf qs

@@ -4,11 +4,11 @@ use native.Mathlib.Numerals.{add-one}
 use native.Mathlib.Omega.{arith}
 use mathlib.Core.Path.{_≡_, refl, sym, ap, _∙_, subst}
 use mathlib.Core.Logic.{_≢_, ⊎-elim}
-use mathlib.Core.Bool.{Bool, true, false, not, cond}
+use mathlib.Core.Bool.{Bool, true, false}
 use mathlib.Core.List.{List, [], _∷_}
 use lib.IntN.{ℤ}
 use lib.ListN.{length, replicate}
-use borrow.Author.Tests.{not-false, eq-eqb, ne-eqb}
+use borrow.Author.Tests.{eq-eqb, ne-eqb}
 use Rattle.laws.specs.First.{Found, found, missing}
 use Rattle.laws.specs.Block.{putBlock}
 use Rattle.laws.proofs.Tests.{true-or-false}
@@ -18,41 +18,21 @@ use Rattle.bufmodel.specs.declared.control.Control.{Control}
 use Rattle.bufmodel.specs.declared.answer.Extended as extended
 use Rattle.bufmodel.specs.declared.answer.Accepted as accepted
 use Rattle.bufmodel.specs.Memory.{Memory, memory, buffers, size, withRows}
-use Rattle.bufmodel.specs.Sizes.{sized}
-use Rattle.bufmodel.specs.Books.{sound, emptyAt}
+use Rattle.bufmodel.specs.Books.{emptyAt}
 use Rattle.bufmodel.specs.Rows.{blocksAt, capacityAt, setBlocks, rowOf, startOf, storeBlocks}
-use Rattle.bufmodel.specs.Outcome.{Outcome, Place, place, refusalOf, checked, refused, outcome}
+use Rattle.bufmodel.specs.Outcome.{Outcome, place, refusalOf, checked, refused, outcome}
 use Rattle.bufmodel.specs.Moves.{release, ofFile, releaseIf, releaseUpTo}
 use Rattle.bufmodel.specs.Pin.{noRow}
 use Rattle.bufmodel.specs.Calls.{fileFull, extendAt, extend, filePinned, dropAt, dropFile}
 use Rattle.bufmodel.specs.Answer.{extendedAt, acceptedAt}
-use Rattle.bufmodel.proofs.OutcomeLaws.{refusal-past, refusal-at, refusal-passed, outcome-done, outcome-refused}
-use Rattle.bufmodel.proofs.GoodLaws.{Good, good-of, checked-good}
-use Rattle.bufmodel.proofs.HeldLaws.{full-used}
+use Rattle.bufmodel.proofs.OutcomeLaws.{refusal-past, refusal-at, outcome-done, outcome-refused}
+use Rattle.bufmodel.proofs.GoodLaws.{Good, checked-good, checked-early}
 use Rattle.bufmodel.proofs.RowsLaws.{row-found, start-in}
 use Rattle.bufmodel.proofs.ReleaseLaws.{release-buffers, release-good}
 use Rattle.bufmodel.proofs.DropLaws.{of-says}
 use Rattle.bufmoves.specs.Exchange.{Chained}
 use Rattle.bufpages.specs.File.{fileAt, pinnedOf}
-
--- ---- the places
--- the places 1 and 2 refuse alike with and without later ones
-early-same : (a b : Bool) (n : ℕ) → _≢_ {A = ℕ} (cond a 1 (cond b 2 0)) 0 → cond a 1 (cond b 2 n) ≡ cond a 1 (cond b 2 0)
-early-same true b n h = refl
-early-same false true n h = refl
-early-same false false n h = absurd (h refl)
-
-pub checked-early : (m : Memory) (own : List Place) {k : ℕ} → k ≡ checked m [] → k ≢ 0 → checked m own ≡ k
-unfolding checked refusalOf
-checked-early m own e h = early-same (not (sized m)) (not (sound m)) (refusalOf own) (λ z. h (e ∙ z)) ∙ sym e
-
--- memory that they pass
-pub passed-good : (m : Memory) {k : ℕ} → k ≡ checked m [] → k ≡ 0 → Good m
-unfolding checked
-passed-good m e z =
-    let p = refusal-passed 1 (not (sized m)) (place 2 (not (sound m)) ∷ []) (omega arith) (sym e ∙ z) in
-    let q = refusal-passed 2 (not (sound m)) [] (omega arith) (p .1) in
-    good-of m (not-false _ (p .0)) (not-false _ (q .0))
+use Rattle.bufpages.proofs.WholeLaws.{good-chained}
 
 -- ---- a call with the place 3 for a row, and one more
 module _ (m : Memory) (r : Found) (k : ℕ) (t : Bool) (o : Outcome) where
@@ -60,7 +40,7 @@ module _ (m : Memory) (r : Found) (k : ℕ) (t : Bool) (o : Outcome) where
   called = outcome (checked m (place 3 (noRow r) ∷ place k t ∷ [])) [] m o
 
   pub called-early : {n : ℕ} → n ≡ checked m [] → n ≢ 0 → called ≡ refused n [] m
-  called-early {n} e h = rw (checked-early m (place 3 (noRow r) ∷ place k t ∷ []) e h) (outcome-refused [] m o n h)
+  called-early {n} e h = rw (← checked-early m (place 3 (noRow r) ∷ place k t ∷ []) e h) (outcome-refused [] m o n h)
 
   module _ (g : Good m) where
     pub called-missing : r ≡ missing → called ≡ refused 3 [] m
@@ -164,14 +144,6 @@ module _ (m : Memory) (f : FileName) where
       dropped q x y = rw (drop-done q, x, y) (refl, refl)
 
 -- ---- the release of a file's buffers
--- what release changes does not depend on the pool, the rows and the store
-pub release-whole : (d : Memory) (i : ℕ) {c : Control} {s n : List ℕ} {f h l : List ℤ}
-    → memory c s n [] f h l [] [] ≡ release (memory (d .control) (d .states) (d .names) [] (d .free) (d .heads) (d .chain) [] []) i
-    → memory c s n (d .pool) f h l (d .rows) (d .store) ≡ release d i
-unfolding release
-release-whole d i e =
-    ap (λ (x : Memory). memory (x .control) (x .states) (x .names) (d .pool) (x .free) (x .heads) (x .chain) (d .rows) (d .store)) e
-
 -- a memory with parts that are equal to those of another
 pub memory-same : (d : Memory) {c : Control} {s n : List ℕ} {f h l : List ℤ} → c ≡ d .control → s ≡ d .states → n ≡ d .names
     → f ≡ d .free → h ≡ d .heads → l ≡ d .chain → memory c s n (d .pool) f h l (d .rows) (d .store) ≡ d
@@ -185,20 +157,7 @@ of-file m f i = refl
 -- what release asks of such a buffer
 pub file-chained : (m : Memory) (f : FileName) (i : ℕ) → Good m → i < buffers m → fileAt (m .states) (m .names) f i ≡ true
     → Chained (memory (m .control) (m .states) (m .names) [] (m .free) (m .heads) (m .chain) [] []) i
-file-chained m f i g l e =
-    record {
-      within =
-          record {
-            few = g .sizes .most;
-            one = l;
-            names = g .sizes .names;
-            free = g .sizes .free;
-            chain = g .sizes .chain;
-            buckets = omega (arith, g .sizes .least, g .sizes .wide);
-          };
-      used = full-used m i (of-says m f i .holds (sym (of-file m f i) ∙ e) .0);
-      sound = g .books .chains;
-    }
+file-chained m f i g l e = good-chained m g i l (of-says m f i .holds (sym (of-file m f i) ∙ e) .0)
 
 -- a memory on the way: the books are sound, the lengths are those of before
 pub record Way (m d : Memory) : Type 0 where

@@ -2,12 +2,12 @@
 use Prim.Native.Nat.{ℕ, zero, suc}
 use native.Mathlib.Omega.{arith}
 use mathlib.Core.Path.{_≡_, refl, sym, ap, _∙_}
-use mathlib.Core.Bool.{Bool, true, false, not}
+use mathlib.Core.Bool.{true, false}
 use mathlib.Core.Logic.{_≢_, ⊎-elim}
 use mathlib.Core.List.{List, [], _∷_}
 use lib.Dec.{eqb, ltb}
 use lib.ListN.{getD, set}
-use borrow.Author.Tests.{not-false, ltb-false, lt-leb, ltb-true, le-leb}
+use borrow.Author.Tests.{ltb-false, lt-leb, ltb-true, le-leb}
 use Rattle.laws.specs.Every.{all}
 use Rattle.laws.specs.First.{Found, found, missing}
 use Rattle.laws.proofs.Every.{all-at}
@@ -17,20 +17,18 @@ use Rattle.buftag.specs.declared.lookup.Held.the-variants.{At, Nowhere}
 use Rattle.buftag.specs.declared.name.PageName.{PageName}
 use Rattle.buftag.specs.declared.number.BufferNumber.{BufferNumber}
 use Rattle.buftag.specs.Link.{linkOf}
-use Rattle.buftag.specs.Lookup.{held, lookUp}
+use Rattle.buftag.specs.Lookup.{lookUp}
 use Rattle.buftag.proofs.LookupLaws.{look-up-held}
 use Rattle.bufmodel.specs.declared.answer.Pinned as answer
 use Rattle.bufmodel.specs.Word.{pins, maxPins, pinned, pinMore}
 use Rattle.bufmodel.specs.Rows.{blocksAt, rowOf, placeIn, placeOf}
 use Rattle.bufmodel.specs.Memory.{Memory, buffers, wordOf, withStates}
-use Rattle.bufmodel.specs.Sizes.{sized}
-use Rattle.bufmodel.specs.Books.{sound}
 use Rattle.bufmodel.specs.Outcome.{Outcome, Place, place, refusalOf, checked, zeros, outcome}
 use Rattle.bufmodel.specs.Answer.{pinnedAt}
 use Rattle.bufmodel.specs.Pin.{noRow, noBlock, countFull, noVictim, heldIn, namePlaces, pinPlaces, pinHeld, pinVictim, pinSwept, pinNew}
 use Rattle.bufmodel.specs.Pin.{pinTo, pin}
-use Rattle.bufmodel.proofs.OutcomeLaws.{refusal-past, refusal-at, refusal-none, refusal-passed, outcome-done, outcome-refused}
-use Rattle.bufmodel.proofs.GoodLaws.{Good, good-of, checked-good}
+use Rattle.bufmodel.proofs.OutcomeLaws.{refusal-past, refusal-at, refusal-none, outcome-done, outcome-refused}
+use Rattle.bufmodel.proofs.GoodLaws.{Good, checked-good, checked-early}
 use Rattle.bufmodel.proofs.HeldLaws.{pinned-full}
 use Rattle.bufmodel.proofs.FreeListLaws.{top-full}
 use Rattle.bufpages.specs.declared.name.Sought as name
@@ -38,27 +36,6 @@ use Rattle.bufpages.specs.Name.{soughtIn, sought}
 use Rattle.bufpages.specs.Pin.{heldAt, pinnedWords}
 use Rattle.bufpages.proofs.SweptLaws.{swept-stuck}
 use Rattle.bufpages.proofs.NewLaws.{new-swept}
-
--- ---- the places 1 and 2
--- where one of the first two places refuses, the later ones do not matter
-early : (t u : Bool) (own : List Place) (k : ℕ) → k ≢ 0 → refusalOf (place 1 t ∷ place 2 u ∷ []) ≡ k
-    → refusalOf (place 1 t ∷ place 2 u ∷ own) ≡ k
-unfolding refusalOf
-early true u own k ne e = e
-early false true own k ne e = e
-early false false own k ne e = absurd (ne (sym e))
-
-module _ (m : Memory) where
-  pub checked-early : (own : List Place) {k : ℕ} → k ≢ 0 → k ≡ checked m [] → checked m own ≡ k
-  unfolding checked
-  checked-early own {k} ne e = early (not (sized m)) (not (sound m)) own k ne (sym e)
-
-  pub checked-passed : 0 ≡ checked m [] → Good m
-  unfolding checked
-  checked-passed e =
-      let a = refusal-passed 1 (not (sized m)) (place 2 (not (sound m)) ∷ []) (omega arith) (sym e) in
-      let b = refusal-passed 2 (not (sound m)) [] (omega arith) (a .1) in
-      good-of m (not-false (sized m) (a .0)) (not-false (sound m) (b .0))
 
 -- ---- the places 3 and 4
 at-found : {g h : ℕ} → name.the-variants.At g ≡ name.the-variants.At h → found g ≡ found h
@@ -134,7 +111,7 @@ module _ (m : Memory) (n : PageName) where
   pin-refused {k} ne e = rw (e, outcome-refused [] m (pinTo m n (heldIn m n)) k ne) (refused-answer k ne, refl)
 
   pub pin-early : {k : ℕ} → k ≢ 0 → k ≡ checked m [] → Says (answer.the-variants.Refused k) m
-  pin-early ne e = pin-refused ne (checked-early m (pinPlaces m n) ne e)
+  pin-early ne e = pin-refused ne (sym (checked-early m (pinPlaces m n) e ne))
 
   module _ (good : Good m) where
     pub pin-nameless : {k : ℕ} → sought (m .rows) n ≡ name.the-variants.Refused k → Says (answer.the-variants.Refused k) m

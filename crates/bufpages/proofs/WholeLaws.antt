@@ -38,37 +38,24 @@ module _ (m : Memory) (i : ℕ) (c : Control) (states : List ℕ) where
       → memory c states (m .names) (m .pool) (m .free) (m .heads) (m .chain) (m .rows) store ≡ writeBack m i
   unfolding writeBack
   back-whole store e =
-      let a : c ≡ writeBack (backPart m) i .control = ap (λ (o : Memory). o .control) e in
-      let b : states ≡ writeBack (backPart m) i .states = ap (λ (o : Memory). o .states) e in
-      let d : store ≡ writeBack (backPart m) i .store = ap (λ (o : Memory). o .store) e in
-      rw (a, b, d)
+      ap
+      (λ (o : Memory). memory (o .control) (o .states) (m .names) (m .pool) (m .free) (m .heads) (m .chain) (m .rows) (o .store)) e
 
   pub release-whole : (names : List ℕ) (free heads chain : List ℤ)
       → memory c states names [] free heads chain [] [] ≡ release (releasePart m) i
       → memory c states names (m .pool) free heads chain (m .rows) (m .store) ≡ release m i
   unfolding release
   release-whole names free heads chain e =
-      let a : c ≡ release (releasePart m) i .control = ap (λ (o : Memory). o .control) e in
-      let b : states ≡ release (releasePart m) i .states = ap (λ (o : Memory). o .states) e in
-      let d : names ≡ release (releasePart m) i .names = ap (λ (o : Memory). o .names) e in
-      let f : free ≡ release (releasePart m) i .free = ap (λ (o : Memory). o .free) e in
-      let h : heads ≡ release (releasePart m) i .heads = ap (λ (o : Memory). o .heads) e in
-      let l : chain ≡ release (releasePart m) i .chain = ap (λ (o : Memory). o .chain) e in
-      rw (a, b, d, f, h, l)
+      ap
+      (λ (o : Memory). memory (o .control) (o .states) (o .names) (m .pool) (o .free) (o .heads) (o .chain) (m .rows) (m .store)) e
 
   pub load-whole : (n : PageName) (g : ℕ) (names pool : List ℕ) (free heads chain : List ℤ)
       → memory c states names pool free heads chain [] (m .store) ≡ loadAt (loadPart m) n i g
       → memory c states names pool free heads chain (m .rows) (m .store) ≡ loadAt m n i g
   unfolding loadAt
   load-whole n g names pool free heads chain e =
-      let a : c ≡ loadAt (loadPart m) n i g .control = ap (λ (o : Memory). o .control) e in
-      let b : states ≡ loadAt (loadPart m) n i g .states = ap (λ (o : Memory). o .states) e in
-      let d : names ≡ loadAt (loadPart m) n i g .names = ap (λ (o : Memory). o .names) e in
-      let p : pool ≡ loadAt (loadPart m) n i g .pool = ap (λ (o : Memory). o .pool) e in
-      let f : free ≡ loadAt (loadPart m) n i g .free = ap (λ (o : Memory). o .free) e in
-      let h : heads ≡ loadAt (loadPart m) n i g .heads = ap (λ (o : Memory). o .heads) e in
-      let l : chain ≡ loadAt (loadPart m) n i g .chain = ap (λ (o : Memory). o .chain) e in
-      rw (a, b, d, p, f, h, l)
+      ap
+      (λ (o : Memory). memory (o .control) (o .states) (o .names) (o .pool) (o .free) (o .heads) (o .chain) (m .rows) (m .store)) e
 
 -- ---- what they ask
 module _ (m : Memory) (k : Good m) (i : ℕ) (l : i < buffers m) where

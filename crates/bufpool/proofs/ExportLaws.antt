@@ -10,12 +10,10 @@ use Rattle.laws.proofs.Tests.{eq-or-ne}
 use Rattle.bufmodel.specs.declared.control.Control.{Control}
 use Rattle.bufmodel.specs.Memory.{Memory, memory}
 use Rattle.bufmodel.specs.Outcome.{Outcome, checked, refused, zeros}
-use Rattle.bufmodel.specs.Lent.{Lent, Called, controlWords, answerWords, controlOf, wordsOf, opened, closed, ended, called}
-use Rattle.bufmodel.proofs.GoodLaws.{Good}
-use Rattle.bufmodel.proofs.LentLaws.{words-of-control}
+use Rattle.bufmodel.specs.Lent.{Lent, Called, controlWords, answerWords, opened, closed, ended, called}
+use Rattle.bufmodel.proofs.GoodLaws.{Good, passed-good}
 use Rattle.bufbooks.specs.Lent.{controlRead}
 use Rattle.bufbooks.proofs.LentLaws.{read-opened, read-good}
-use Rattle.bufcalls.proofs.EndLaws.{checked-passed}
 use Rattle.bufpool.specs.Lent.{lent, ends, keptWords}
 
 -- the memory with the control record as the code reads it
@@ -56,7 +54,7 @@ module _ (call : Memory → Outcome) (bytes : List ℕ) (early : Early call byte
   call-read : endedBy l (call (readAs l)) ≡ endedBy l (call (opened l))
   call-read =
       ⊎-elim
-      (λ z. ap (λ (m : Memory). endedBy l (call m)) (read-same l (checked-passed (opened l) z)))
+      (λ z. ap (λ (m : Memory). endedBy l (call m)) (read-same l (passed-good (opened l) refl z)))
       (λ h.
       let k = checked (opened l) [] in
       ap (endedBy l) (early (readAs l) k (sym (read-opened l)) h)

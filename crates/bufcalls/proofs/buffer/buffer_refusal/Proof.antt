@@ -1,12 +1,12 @@
 use borrow.Author.Needs.{needs}
 use borrow.Author.Tests.{not-true, not-false}
 use denote.Ref.{now}
-use mathlib.Core.List.{[]}
 use mathlib.Core.Path.{sym, _∙_}
 use Prim.Native.Nat.{ℕ}
 use Rattle.bufmodel.specs.Memory.{Memory, memory}
 use Rattle.bufmodel.proofs.GoodLaws.{Good}
-use Rattle.bufcalls.proofs.CallLaws.{checked-early, checked-passed, buffer-outside, buffer-unpinned, buffer-pinned}
+use Rattle.bufmodel.proofs.GoodLaws.{checked-early, passed-good}
+use Rattle.bufcalls.proofs.CallLaws.{buffer-outside, buffer-unpinned, buffer-pinned}
 use Rattle.bufcalls.proofs.buffer.buffer_refusal.Statement.{statement}
 use Rattle.bufcalls.proofs.buffer.buffer_refusal.Tie as tie
 
@@ -23,7 +23,7 @@ abbrev at : tie.After-refusal → ℕ
 at r = start r .args .buffer .0
 
 passed : (c : tie.Else1) → Good (lent (c .before))
-passed c = let r = c .before in checked-passed (lent r) [] (r .refusal .ensures) (c .if1 .left) .0
+passed c = let r = c .before in passed-good (lent r) (r .refusal .ensures) (c .if1 .left)
 
 refusal-requires : tie.Need-refusal-requires
 refusal-requires c κs = search needs

@@ -6,7 +6,8 @@ use Rattle.bufmodel.specs.declared.answer.Written.the-variants.{Pages}
 use Rattle.bufmodel.specs.Memory.{Memory, memory, buffers}
 use Rattle.bufmodel.specs.Calls.{checkpoint}
 use Rattle.bufmodel.proofs.OutcomeLaws.{refusal-none}
-use Rattle.bufcalls.proofs.EndLaws.{checked-passed, end-first, end-done, written-refused, written-done}
+use Rattle.bufmodel.proofs.GoodLaws.{passed-good}
+use Rattle.bufcalls.proofs.EndLaws.{end-first, end-done, written-refused, written-done}
 use Rattle.bufcalls.proofs.CheckpointLaws.{good-stored, linked, up-linked}
 use Rattle.bufcalls.proofs.checkpoint.checkpoint_pool.Statement.{statement}
 use Rattle.bufcalls.proofs.checkpoint.checkpoint_pool.Tie as tie
@@ -40,7 +41,7 @@ write-all-requires : tie.Need-write-all-requires
 write-all-requires c κs =
     let e = c .before .before .before .before in
     let m = lent (entry (e .before)) in
-    good-stored m (checked-passed m (sym (e .before .refusal .ensures) ∙ e .if1 .left))
+    good-stored m (passed-good m (e .before .refusal .ensures) (e .if1 .left))
 
 same-length-3 : tie.Need-same-length-3
 same-length-3 c = search needs

@@ -3,14 +3,11 @@ use native.Mathlib.Omega.{arith}
 use denote.Ref.{now}
 use lib.ListN.{drop, length-drop}
 use lib.Seq.{length-take-le}
-use mathlib.Core.Path.{_≡_}
-use Prim.Native.Nat.{ℕ, _+_, _-_, _*_}
+use native.Mathlib.Nat.{add-sub-cancel-left}
+use Prim.Native.Nat.{_*_}
 use Rattle.laws.specs.Block.{putBlock}
 use Rattle.bufmoves.proofs.block.clear_block.Statement.{statement}
 use Rattle.bufmoves.proofs.block.clear_block.Tie as tie
-
-part-size : (a p : ℕ) → a + p - a ≡ p
-part-size a p = omega arith
 
 mul-a : tie.Need-mul-a
 mul-a c = search needs
@@ -40,7 +37,7 @@ returns c =
     let a = b .before .before .before .args in
     let q = a .t * a .size in
     let long = length-take-le (a .size) (drop q (now (a .to))) (simp length-drop (omega (arith, b .before .before .before .pre))) in
-    rw (b .clear-bytes .ensures, part-size q (a .size), long)
+    rw (b .clear-bytes .ensures, add-sub-cancel-left q (a .size), long)
 
 pub clear-block-spec : {M : Type 1} → statement M
 clear-block-spec =

@@ -1,13 +1,9 @@
 use borrow.Author.Needs.{needs}
-use native.Mathlib.Omega.{arith}
-use mathlib.Core.Path.{_≡_}
-use Prim.Native.Nat.{ℕ, _+_, _-_, _*_}
+use native.Mathlib.Nat.{add-sub-cancel-left}
+use Prim.Native.Nat.{_*_}
 use Rattle.laws.specs.Block.{block, putBlock}
 use Rattle.bufmoves.proofs.block.copy_block.Statement.{statement}
 use Rattle.bufmoves.proofs.block.copy_block.Tie as tie
-
-part-size : (a p : ℕ) → a + p - a ≡ p
-part-size a p = omega arith
 
 mul-a : tie.Need-mul-a
 mul-a c = search needs
@@ -50,7 +46,7 @@ unfolding putBlock block
 returns c =
     let b = c .before .before in
     let a = b .before .before .before .before .before .args in
-    rw (b .copy-bytes .ensures, part-size (a .t * a .size) (a .size), part-size (a .f * a .size) (a .size))
+    rw (b .copy-bytes .ensures, add-sub-cancel-left (a .t * a .size) (a .size), add-sub-cancel-left (a .f * a .size) (a .size))
 
 pub copy-block-spec : {M : Type 1} → statement M
 copy-block-spec =

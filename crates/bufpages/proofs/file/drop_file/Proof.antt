@@ -11,7 +11,8 @@ use Rattle.bufmodel.specs.Rows.{rowOf}
 use Rattle.bufmodel.proofs.GoodLaws.{Good, good-sized, good-sound}
 use Rattle.bufmodel.proofs.SizesLaws.{rows-say}
 use Rattle.bufleaf.proofs.RowsLaws.{row-at, row-none, row-fits}
-use Rattle.bufpages.proofs.FileLaws.{passed-good, refused-accepted, drop-early, drop-missing, drop-pinned, dropped}
+use Rattle.bufmodel.proofs.GoodLaws.{passed-good}
+use Rattle.bufpages.proofs.FileLaws.{refused-accepted, drop-early, drop-missing, drop-pinned, dropped}
 use Rattle.bufpages.proofs.file.drop_file.Statement.{statement}
 use Rattle.bufpages.proofs.file.drop_file.Tie as tie
 

@@ -16,7 +16,8 @@ use Rattle.bufmodel.specs.Sizes.{maxFiles, maxBlocks}
 use Rattle.bufmodel.proofs.GoodLaws.{Good}
 use Rattle.bufmodel.proofs.SizesLaws.{rows-say}
 use Rattle.bufleaf.proofs.RowsLaws.{row-at, row-none, row-fits}
-use Rattle.bufpages.proofs.FileLaws.{passed-good, refused-extended, extend-early, extend-missing, extend-full}
+use Rattle.bufmodel.proofs.GoodLaws.{passed-good}
+use Rattle.bufpages.proofs.FileLaws.{refused-extended, extend-early, extend-missing, extend-full}
 use Rattle.bufpages.proofs.FileLaws.{next-less, next-in, extended-more}
 use Rattle.bufpages.proofs.file.extend_file.Statement.{statement}
 use Rattle.bufpages.proofs.file.extend_file.Tie as tie

@@ -9,7 +9,8 @@ use Rattle.laws.proofs.Tests.{at-end}
 use Rattle.bufmodel.specs.Memory.{Memory, memory}
 use Rattle.bufmodel.specs.Moves.{releaseUpTo}
 use Rattle.bufmodel.proofs.GoodLaws.{Good, good-of}
-use Rattle.bufpages.proofs.FileLaws.{Way, way-up-to, file-chained, release-whole, memory-same}
+use Rattle.bufpages.proofs.FileLaws.{Way, way-up-to, file-chained, memory-same}
+use Rattle.bufpages.proofs.WholeLaws.{release-whole}
 use Rattle.bufpages.proofs.FileLaws.{released-none, released-hit, released-miss}
 use Rattle.bufpages.proofs.file.release_file.Statement.{statement}
 use Rattle.bufpages.proofs.file.release_file.Tie as tie
@@ -84,7 +85,7 @@ loop-again c =
           let o : Memory = memory (r .result) (r .last .1 .0) (r .last .1 .1 .0) (d .pool) (r .last .1 .1 .1 .0)
           (r .last .1 .1 .1 .1 .0) (r .last .1 .1 .1 .1 .1 .0) (d .rows) (d .store) in
           memory-same o (w .19) (w .14) (w .15) (w .16) (w .17) (w .18)
-          ∙ release-whole d i (r .ensures) ∙ released-hit m f i d e (sym h ∙ w .0 .taken))
+          ∙ release-whole d i _ _ _ _ _ _ (r .ensures) ∙ released-hit m f i d e (sym h ∙ w .0 .taken))
           (λ w. memory-same d (w .6) (w .1) (w .2) (w .3) (w .4) (w .5) ∙ released-miss m f i d e (sym h ∙ w .0 .left))
           (c .if1 .came),
     )

@@ -8,7 +8,7 @@ use Rattle.bufmodel.proofs.GoodLaws.{Good}
 use Rattle.bufmodel.proofs.SizesLaws.{rows-say}
 use Rattle.bufpages.specs.declared.name.Sought.the-variants.{At}
 use Rattle.bufpages.specs.Name.{sought}
-use Rattle.bufpages.proofs.FileLaws.{passed-good}
+use Rattle.bufmodel.proofs.GoodLaws.{passed-good}
 use Rattle.bufpages.proofs.PeekLaws.{peek-early, peek-refused, peek-pool, peek-store, place-small, buffer-small}
 use Rattle.bufpages.proofs.peek.peek_at.Statement.{statement}
 use Rattle.bufpages.proofs.peek.peek_at.Tie as tie

@@ -14,7 +14,8 @@ use Rattle.bufmodel.proofs.GoodLaws.{Good, good-sized, good-sound}
 use Rattle.bufmodel.proofs.HeldLaws.{held-at}
 use Rattle.bufpages.specs.declared.name.Sought as name
 use Rattle.bufpages.specs.Name.{sought}
-use Rattle.bufpages.proofs.PinLaws.{checked-passed, name-at, looked-up, pin-early, pin-nameless, pin-held, pin-new}
+use Rattle.bufmodel.proofs.GoodLaws.{passed-good}
+use Rattle.bufpages.proofs.PinLaws.{name-at, looked-up, pin-early, pin-nameless, pin-held, pin-new}
 use Rattle.bufpages.proofs.pin.pin_page.Statement.{statement}
 use Rattle.bufpages.proofs.pin.pin_page.Tie as tie
 
@@ -30,7 +31,7 @@ good : (c : tie.Else1)
     Good (whole s)
 good c =
     let s = c .before .before .before .before .before .before .before .before .before .before .before .before .before .before in
-    checked-passed (whole s) (sym (c .if1 .left) ∙ c .before .refusal .ensures)
+    passed-good (whole s) (c .before .refusal .ensures) (c .if1 .left)
 
 -- the page's place
 at : (c : tie.After-known-told2)
