@@ -327,7 +327,8 @@ pub fn flush_buffer(
     }
 }
 
-fn one_if(t: bool) -> u64
+// 1 for true, 0 for false.
+pub fn one_if(t: bool) -> u64
     ensures { λ r. ⌜ r ≡ ind t ⌝ }
 {
     if t {

@@ -3,7 +3,6 @@
 ghost use mathlib.Core.Path.{_≡_};
 ghost use mathlib.Core.List.{[], _∷_};
 ghost use lib.ListN.{length};
-ghost use Rattle.laws.specs.Sum.{ind};
 ghost use Rattle.bufmodel.specs.Outcome.{zeros};
 ghost use Rattle.bufmodel.specs.Lent.{answerWords};
 ghost use Rattle.bufmodel.specs.Answer.{
@@ -18,6 +17,7 @@ ghost use Rattle.bufmodel.specs.Answer.{
   writtenNumber,
   writtenWords,
 };
+use bufcalls::buffer::one_if;
 use bufmodel::answer::Accepted;
 use bufmodel::answer::Extended;
 use bufmodel::answer::Peeked;
@@ -32,15 +32,6 @@ pub fn put_words(answer: &mut [u64], a: u64, b: u64, c: u64, d: u64)
     answer[1] = b;
     answer[2] = c;
     answer[3] = d;
-}
-
-fn one_if(t: bool) -> u64
-    ensures { λ r. ⌜ r ≡ ind t ⌝ }
-{
-    if t {
-        return 1;
-    }
-    0
 }
 
 pub fn put_accepted(answer: &mut [u64], accepted: Accepted) -> u32
