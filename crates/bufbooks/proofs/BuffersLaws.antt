@@ -1,13 +1,13 @@
 -- What the code of the pass over the buffers shows, put together.
 use Prim.Native.Nat.{ℕ, _%_, _≤_, _<_}
-use mathlib.Core.Path.{_≡_, refl, sym, ap, _∙_}
-use mathlib.Core.Bool.{Bool, true, false, _&&_, cond}
+use mathlib.Core.Path.{_≡_, ap, _∙_}
+use mathlib.Core.Bool.{Bool, true, false}
 use mathlib.Core.List.{List}
 use lib.IntN.{ℤ}
 use lib.ListN.{getD}
 use Rattle.laws.specs.Every.{all}
 use Rattle.laws.specs.Sum.{count}
-use Rattle.laws.specs.First.{Found, found, missing}
+use Rattle.laws.specs.First.{found, missing}
 use Rattle.laws.proofs.Every.{all-fails, all-passes}
 use Rattle.laws.proofs.Sum.{count-done}
 use Rattle.buftag.specs.declared.name.PageName.{PageName}
@@ -20,14 +20,12 @@ use Rattle.buftag.specs.Check.{findsItself}
 use Rattle.buftag.proofs.NameLaws.{hash-continued}
 use Rattle.bufmodel.specs.Rows.{blocksAt, rowOf, placeOf, placeIn}
 use Rattle.bufmodel.specs.Memory.{Memory, buffers, wordOf}
-use Rattle.bufmodel.specs.Books.{isFound, emptyAt}
+use Rattle.bufmodel.specs.Books.{emptyAt}
 use Rattle.bufmodel.proofs.RowsLaws.{row-found, place-is, place-behind}
 use Rattle.bufbooks.specs.declared.buffers.Counted.{Counted}
 use Rattle.bufbooks.specs.declared.buffers.Counted.the-variants.{Used, Wrong}
-use Rattle.bufleaf.specs.declared.rows.Row.{Row}
-use Rattle.bufleaf.specs.Rows.{foundRow}
 use Rattle.bufbooks.specs.Hashes.{Hashed}
-use Rattle.bufbooks.specs.Buffers.{emptyTest, usedTest, heldTest, rowHeld, bufferTest, countedOf}
+use Rattle.bufbooks.specs.Buffers.{emptyTest, usedTest, heldTest, bufferTest, countedOf}
 
 -- the bucket of a name, from the hash of its file's row
 pub bucket-continued : (rows hashes : List ℕ) → Hashed rows hashes → (n : PageName) {r : ℕ} → rowOf rows (n .file) ≡ found r
@@ -38,37 +36,21 @@ bucket-continued rows hashes k n {r} e {h} q buckets =
     ap (λ (x : ℕ). x % buckets)
     (q ∙ ap (fnv (wordBytes (n .block .0))) (k r (w .0) ∙ ap (λ f. fnv (fileBytes f) fnvStart) (w .1)) ∙ hash-continued n)
 
--- ---- the row of a buffer's file, by what the code looks at
+-- ---- the look-up of a buffer's name, by what the code looks at
 module _ (names : List ℕ) (heads chain : List ℤ) (rows : List ℕ) (i : ℕ) where
-  pub held-nowhere : rowOf rows (nameAt names i .file) ≡ missing → missing ≡ rowHeld names heads chain rows i
-  unfolding rowHeld heldTest placeOf placeIn
+  pub held-nowhere : rowOf rows (nameAt names i .file) ≡ missing → false ≡ heldTest names heads chain rows i
+  unfolding heldTest placeOf placeIn
   held-nowhere e = rw e
 
   module _ {r : ℕ} (e : rowOf rows (nameAt names i .file) ≡ found r) where
-    pub held-behind : blocksAt rows r ≤ nameAt names i .block .0 → missing ≡ rowHeld names heads chain rows i
-    unfolding rowHeld heldTest
+    pub held-behind : blocksAt rows r ≤ nameAt names i .block .0 → false ≡ heldTest names heads chain rows i
+    unfolding heldTest
     held-behind l = rw (place-behind rows (nameAt names i) e l)
 
     pub held-page : nameAt names i .block .0 < blocksAt rows r → {t : Bool} → findsItself names heads chain i ≡ t
-        → cond t (found r) missing ≡ rowHeld names heads chain rows i
-    unfolding rowHeld heldTest
-    held-page l f = rw (place-is rows (nameAt names i) e l, e, f)
-
--- there is such a row exactly if the test holds: a page with a place has a row
-row-if : (r : ℕ) (t : Bool) → isFound (cond t (found r) missing) ≡ t
-row-if r true = refl
-row-if r false = refl
-
-row-or-none : (rows : List ℕ) (b : ℕ) (t : Bool) (o : Found)
-    → isFound (cond (isFound (placeIn rows b o) && t) o missing) ≡ (isFound (placeIn rows b o) && t)
-unfolding placeIn
-row-or-none rows b t (found r) = row-if r _
-row-or-none rows b t missing = refl
-
-held-is : (names : List ℕ) (heads chain : List ℤ) (rows : List ℕ) (i : ℕ)
-    → isFound (rowHeld names heads chain rows i) ≡ heldTest names heads chain rows i
-unfolding rowHeld heldTest placeOf
-held-is names heads chain rows i = row-or-none rows _ _ (rowOf rows (nameAt names i .file))
+        → t ≡ heldTest names heads chain rows i
+    unfolding heldTest
+    held-page l f = rw (place-is rows (nameAt names i) e l, f)
 
 -- ---- the test of a buffer
 module _ (m : Memory) (i : ℕ) where
@@ -81,10 +63,10 @@ module _ (m : Memory) (i : ℕ) where
     unfolding bufferTest
     buffer-unfit f = rw (e, f)
 
-    pub buffer-held : usedTest (m .control) (m .pool) (m .free) (wordOf m i) i ≡ true → (r : Row)
-        → foundRow r ≡ rowHeld (m .names) (m .heads) (m .chain) (m .rows) i → bufferTest m i ≡ isFound (foundRow r)
+    pub buffer-held : usedTest (m .control) (m .pool) (m .free) (wordOf m i) i ≡ true → {t : Bool}
+        → heldTest (m .names) (m .heads) (m .chain) (m .rows) i ≡ t → bufferTest m i ≡ t
     unfolding bufferTest
-    buffer-held f r h = rw (e, f) (sym (ap isFound h ∙ held-is (m .names) (m .heads) (m .chain) (m .rows) i))
+    buffer-held f h = rw (e, f, h)
 
 -- ---- what the pass answers
 module _ (m : Memory) where

@@ -1,5 +1,5 @@
 -- The places 1 and 2 over lent memory, in the order in which the code looks at them, and the check as a call.
-use Prim.Native.Nat.{ℕ, zero, suc, _^_, _≤_, _<_}
+use Prim.Native.Nat.{ℕ, zero, suc, _^_, _<_}
 use mathlib.Core.Path.{_≡_, refl, sym, ap, subst, _∙_}
 use mathlib.Core.Bool.{Bool, true, false, not}
 use mathlib.Core.Logic.{_≢_, ⊎-elim}
@@ -8,22 +8,19 @@ use native.Mathlib.Omega.{arith}
 use lib.Dec.{eqb, ltb}
 use lib.IntN.{ℤ, negsuc, pos}
 use lib.ListN.{length, getD}
-use borrow.Author.Tests.{eq-eqb, ne-eqb, eqb-true, ltb-false}
-use Rattle.laws.specs.Every.{all}
-use Rattle.laws.specs.Times.{times}
-use Rattle.laws.proofs.Every.{all-at}
-use Rattle.laws.proofs.Tests.{lt-or-le, never, true-or-false}
+use borrow.Author.Tests.{eq-eqb, ne-eqb, ltb-false}
+use Rattle.laws.proofs.Tests.{never, true-or-false}
 use Rattle.buftag.specs.declared.link.Link.{Link}
 use Rattle.buftag.specs.declared.link.Link.the-variants.{To, Bad}
 use Rattle.buftag.specs.Link as link
 use Rattle.buftag.specs.Link.{linkOf, Links, step}
 use Rattle.bufmodel.specs.declared.control.Control.{Control}
 use Rattle.bufmodel.specs.Memory.{Memory, memory, size, withTop, withStore}
-use Rattle.bufmodel.specs.Sizes.{blockSizes, sized, sizedFor}
+use Rattle.bufmodel.specs.Sizes.{sized, sizedFor}
 use Rattle.bufmodel.specs.Books.{emptyAt, soundWords, soundBlanks, soundFree, soundNames, soundPages, sound}
 use Rattle.bufmodel.specs.Outcome.{Outcome, place, refusalOf, checked, done, zeros}
 use Rattle.bufmodel.specs.Lent.{Lent, oneBits, controlWords, answerWords, topOf, controlOf, opened, ended, called}
-use Rattle.bufmodel.proofs.SizesLaws.{rows-say, sizes-say}
+use Rattle.bufmodel.proofs.SizesLaws.{rows-say, sizes-say, sized-page}
 use Rattle.bufmodel.proofs.BooksLaws.{books-say}
 use Rattle.bufmodel.proofs.GoodLaws.{Good, good-sized, good-sound}
 use Rattle.bufmodel.proofs.OutcomeLaws.{refusal-past, refusal-at, refusal-none, outcome-number}
@@ -56,24 +53,12 @@ checked-same a b e alike =
     (true-or-false (sized b))
 
 -- ---- sizes that fit: the books are checked without the store
--- no block size is below 8
-small-none : all 8 (λ p. eqb (times p blockSizes) 0) ≡ true
-unfolding all times
-small-none = refl
-
-permitted-page : (p : ℕ) → 0 < times p blockSizes → 8 ≤ p
-permitted-page p h =
-    ⊎-elim
-    (λ l. omega (arith, eqb-true (times p blockSizes) 0 (all-at (λ k. eqb (times k blockSizes) 0) 8 small-none p l)))
-    (λ l. l)
-    (lt-or-le p 8)
-
 pub sized-fits : (m : Memory) → sized m ≡ true → Fitting (withStore [] m)
 unfolding sized
 sized-fits m h =
     let s = sizes-say (size m) m .holds h in
     record {
-      page = permitted-page (size m) (s .permitted);
+      page = sized-page s .0;
       buckets = omega (arith, s .least, s .wide);
       names = s .names;
       pool = s .pool;

@@ -1,4 +1,4 @@
-pub mod SizesLaws
+pub mod GuessesLaws
 pub mod BuffersLaws
 pub mod BooksLaws
 pub mod LentLaws

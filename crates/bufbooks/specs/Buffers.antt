@@ -4,7 +4,6 @@ use mathlib.Core.List.{List}
 use Prim.Native.Nat.{ℕ}
 use lib.Dec.{leb}
 use lib.IntN.{ℤ}
-use Rattle.laws.specs.First.{Found, missing}
 use Rattle.laws.specs.Block.{block}
 use Rattle.buftag.specs.Name.{sameName}
 use Rattle.buftag.specs.Names.{nameAt, noName}
@@ -13,7 +12,7 @@ use Rattle.buftag.specs.Check.{findsItself}
 use Rattle.bufmodel.specs.declared.control.Control.{Control}
 use Rattle.bufmodel.specs.Word.{dirty, soundWord}
 use Rattle.bufmodel.specs.Position.{position}
-use Rattle.bufmodel.specs.Rows.{rowOf, placeOf}
+use Rattle.bufmodel.specs.Rows.{placeOf}
 use Rattle.bufmodel.specs.Memory.{Memory, wordOf}
 use Rattle.bufmodel.specs.Books.{isFound, isOff, emptyAt}
 use Rattle.bufbooks.specs.declared.buffers.Counted.{Counted}
@@ -31,10 +30,6 @@ usedTest c pool free w i =
 -- its name names a block below its file's block count, and a look-up of it finds the buffer
 unfoldable pub heldTest : List ℕ → List ℤ → List ℤ → List ℕ → ℕ → Bool
 heldTest names heads chain rows i = isFound (placeOf rows (nameAt names i)) && findsItself names heads chain i
-
--- the row of its file, if that is so
-unfoldable pub rowHeld : List ℕ → List ℤ → List ℤ → List ℕ → ℕ → Found
-rowHeld names heads chain rows i = cond (heldTest names heads chain rows i) (rowOf rows (nameAt names i .file)) missing
 
 unfoldable pub bufferTest : Memory → ℕ → Bool
 bufferTest m i =

@@ -7,6 +7,7 @@ ghost use Rattle.bufmodel.specs.Books.{sound};
 ghost use Rattle.bufbooks.specs.Books.{Fitting};
 use crate::buffers::Counted;
 use crate::buffers::buffers_ok;
+use crate::guesses::guess_rows;
 use crate::hashes::hash_rows;
 use bufmodel::control::Control;
 use buftag::budget::is_spent;
@@ -41,6 +42,8 @@ pub fn books_ok(
     }
     let mut hashes = [0u32; 64];
     hash_rows(rows, &mut hashes);
+    let mut guesses = [0u32; 64];
+    guess_rows(rows, &mut guesses);
     let counted = buffers_ok(
         control,
         states,
@@ -51,6 +54,7 @@ pub fn books_ok(
         chain,
         rows,
         &hashes,
+        &guesses,
     );
     let Counted::Used(used) = counted else {
         return false;

@@ -13,31 +13,31 @@ ghost use Rattle.bufmodel.specs.Rows.{rowOf};
 ghost use Rattle.bufmodel.specs.Memory.{memory};
 ghost use Rattle.bufmodel.specs.Sizes.{soundRows};
 ghost use Rattle.bufmodel.specs.Books.{isOff};
-ghost use Rattle.bufleaf.specs.Rows.{foundRow};
+ghost use Rattle.bufrows.specs.Rows.{foundRow};
 ghost use Rattle.bufbooks.specs.Hashes.{Hashed};
 ghost use Rattle.bufbooks.specs.Books.{Fitting};
-ghost use Rattle.bufbooks.specs.Buffers.{emptyTest, usedTest, rowHeld, bufferTest, countedOf};
-use bufleaf::position::position_at;
-use bufleaf::rows::ROW_WORDS;
-use bufleaf::rows::Row;
-use bufleaf::rows::blocks_at;
-use bufleaf::rows::find_row;
-use bufleaf::rows::is_file;
-use bufleaf::word::is_dirty;
-use bufleaf::word::is_empty;
-use bufleaf::word::word_ok;
+ghost use Rattle.bufbooks.specs.Buffers.{emptyTest, usedTest, heldTest, bufferTest, countedOf};
+use crate::guesses::slot_of;
 use bufmodel::control::Control;
+use bufrows::rows::ROW_WORDS;
+use bufrows::rows::Row;
+use bufrows::rows::blocks_at;
+use bufrows::rows::find_row;
+use bufrows::rows::is_file;
 use buftag::check::is_first;
 use buftag::link::Link;
 use buftag::link::is_end;
 use buftag::link::link_at;
 use buftag::name::FileName;
-use buftag::name::PageName;
 use buftag::name::hash_block;
 use buftag::names::holds;
+use buftag::names::no_name;
 use buftag::names::stored;
-use buftag::number::BlockNumber;
 use buftag::number::BufferNumber;
+use bufword::position::position_at;
+use bufword::word::is_dirty;
+use bufword::word::is_empty;
+use bufword::word::word_ok;
 
 // How many buffers are in use, if each buffer is sound.
 pub enum Counted {
@@ -61,16 +61,7 @@ fn empty_ok(names: &[u32], chain: &[i32], i: usize) -> bool
     requires { ⌜ (nameWords * i + nameWords ≤ length (now names)) × (i < length (now chain)) ⌝ }
     ensures { λ r. ⌜ r ≡ emptyTest (now (names .entry)) (now (chain .entry)) i ⌝ }
 {
-    let none = PageName {
-        file: FileName {
-            tablespace: 0,
-            database: 0,
-            relation: 0,
-            fork: 0,
-        },
-        block: BlockNumber(0),
-    };
-    if !holds(names, BufferNumber(i), none) {
+    if !holds(names, BufferNumber(i), no_name()) {
         return false;
     }
     is_end(link_at(chain, i))
@@ -93,11 +84,12 @@ fn used_ok(control: Control, pool: &[u8], free: &[i32], w: u32, i: usize) -> boo
     position_at(pool, i * control.size) <= control.inserted
 }
 
-// The row of a file, which is likely to be `near`.
-fn row_near(rows: &[u32], near: usize, file: FileName) -> Row
+// The row of a file, by a guess that need not be right.
+fn row_near(rows: &[u32], guess: u32, file: FileName) -> Row
     requires { ⌜ soundRows (now rows) ≡ true ⌝ }
     ensures { λ r. ⌜ foundRow r ≡ rowOf (now (rows .entry)) file ⌝ }
 {
+    let near = guess as usize;
     if near < rows.len() / ROW_WORDS {
         if is_file(rows, near, file) {
             return Row::At(near);
@@ -106,36 +98,32 @@ fn row_near(rows: &[u32], near: usize, file: FileName) -> Row
     find_row(rows, file)
 }
 
-// The row of a buffer's file, if the file has the block and a look-up of the name finds the buffer.
-fn row_held(
+// Whether a buffer's name names a block that its file has, and a look-up of it finds the buffer.
+fn held_ok(
     names: &[u32],
     heads: &[i32],
     chain: &[i32],
     rows: &[u32],
     hashes: &[u32; 64],
-    near: usize,
+    guesses: &[u32; 64],
     i: usize,
-) -> Row
+) -> bool
     requires { ⌜ (0 < length (now heads)) × (length (now names) ≡ nameWords * length (now chain)) × (i < length (now chain))
         × (soundRows (now rows) ≡ true)
         × Hashed (now rows) (now hashes) ⌝ }
-    ensures { λ r.
-        ⌜ foundRow r ≡ rowHeld (now (names .entry)) (now (heads .entry)) (now (chain .entry)) (now (rows .entry)) i ⌝ }
+    ensures { λ r. ⌜ r ≡ heldTest (now (names .entry)) (now (heads .entry)) (now (chain .entry)) (now (rows .entry)) i ⌝ }
 {
     let name = stored(names, BufferNumber(i));
     let file = name.file;
     let block = name.block;
-    let Row::At(row) = row_near(rows, near, file) else {
-        return Row::Missing;
+    let Row::At(row) = row_near(rows, guesses[slot_of(file)], file) else {
+        return false;
     };
     if block.0 >= blocks_at(rows, row) {
-        return Row::Missing;
+        return false;
     }
     let b = hash_block(hashes[row], block) as usize % heads.len();
-    if !is_first(chain, names, link_at(heads, b), i) {
-        return Row::Missing;
-    }
-    Row::At(row)
+    is_first(chain, names, link_at(heads, b), BufferNumber(i))
 }
 
 // Looks at every buffer, and counts those in use.
@@ -149,6 +137,7 @@ pub fn buffers_ok(
     chain: &[i32],
     rows: &[u32],
     hashes: &[u32; 64],
+    guesses: &[u32; 64],
 ) -> Counted
     requires { ⌜ Fitting (memory control (now states) (now names) (now pool) (now free) (now heads) (now chain) (now rows) [])
         × Hashed (now rows) (now hashes) ⌝ }
@@ -162,7 +151,6 @@ pub fn buffers_ok(
         (count (length (now (states .entry))) (used (now (states .entry)))) ⌝ }
 {
     let mut used = 0;
-    let mut near = 0;
     let mut i = 0;
     while i < states.len() {
         let w = states[i];
@@ -174,10 +162,9 @@ pub fn buffers_ok(
             if !used_ok(control, pool, free, w, i) {
                 return Counted::Wrong;
             }
-            let Row::At(row) = row_held(names, heads, chain, rows, hashes, near, i) else {
+            if !held_ok(names, heads, chain, rows, hashes, guesses, i) {
                 return Counted::Wrong;
-            };
-            near = row;
+            }
             used += 1;
         }
         i += 1;

@@ -8,6 +8,7 @@ use crate::lent::ANSWER_WORDS;
 use crate::lent::CONTROL_WORDS;
 use crate::lent::read_control;
 use crate::lent::refusal;
+use bufmodel::refusal::SIZES;
 
 // 0, or the number of the first place that refuses: 1 sizes and rows, 2 the books.
 #[no_mangle]
@@ -40,10 +41,10 @@ pub extern "C" fn bufbooks_check(
         [] (now (answer .entry)) .result ⌝ }
 {
     if answer.len() != ANSWER_WORDS {
-        return 1;
+        return SIZES;
     }
     if control.len() != CONTROL_WORDS {
-        return 1;
+        return SIZES;
     }
     refusal(
         read_control(control),

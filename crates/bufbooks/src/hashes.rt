@@ -4,8 +4,8 @@ ghost use Prim.Native.Nat.{_≤_};
 ghost use Rattle.bufmodel.specs.Rows.{files};
 ghost use Rattle.bufmodel.specs.Sizes.{maxFiles};
 ghost use Rattle.bufbooks.specs.Hashes.{Hashed};
-use bufleaf::rows::ROW_WORDS;
-use bufleaf::rows::file_at;
+use bufrows::rows::ROW_WORDS;
+use bufrows::rows::file_at;
 use buftag::name::hash_file;
 
 pub fn hash_rows(rows: &[u32], hashes: &mut [u32; 64])

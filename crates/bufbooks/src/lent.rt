@@ -9,8 +9,11 @@ ghost use Rattle.bufmodel.specs.Lent.{controlWords};
 ghost use Rattle.bufmodel.specs.Outcome.{checked};
 ghost use Rattle.bufbooks.specs.Lent.{topRead, controlRead};
 use crate::books::books_ok;
-use crate::sizes::sizes_ok;
 use bufmodel::control::Control;
+use bufmodel::refusal::BOOKS;
+use bufmodel::refusal::SIZES;
+use bufsizes::sizes::sizes_ok;
+use buftag::link::NONE;
 
 pub const CONTROL_WORDS: usize = 5;
 
@@ -21,7 +24,7 @@ fn read_top(w: u64) -> i32
     ensures { λ r. ⌜ r ≡ topRead w ⌝ }
 {
     if w == 18446744073709551615 {
-        return -1;
+        return NONE;
     }
     if w >= 2147483648 {
         return -3;
@@ -72,10 +75,10 @@ pub fn refusal(
         rows,
         store,
     ) {
-        return 1;
+        return SIZES;
     }
     if !books_ok(control, states, names, pool, free, heads, chain, rows) {
-        return 2;
+        return BOOKS;
     }
     0
 }

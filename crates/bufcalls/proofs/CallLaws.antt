@@ -1,6 +1,6 @@
 -- Laws of the calls on a buffer: what a passed check gives, what a refused call leaves and what an accepted one does.
-use Prim.Native.Nat.{ℕ, zero, suc, _+_, _*_, _≤_, _<_}
-use mathlib.Core.Path.{_≡_, refl, sym, ap, _∙_}
+use Prim.Native.Nat.{ℕ, _+_, _*_, _≤_, _<_}
+use mathlib.Core.Path.{_≡_, sym, ap, _∙_}
 use mathlib.Core.Bool.{Bool, true, false, not, _||_}
 use mathlib.Core.Logic.{_≢_}
 use mathlib.Core.List.{List, [], _∷_}
@@ -10,7 +10,6 @@ use lib.ListN.{length, set, take, drop}
 use borrow.Author.Tests.{lt-leb, le-leb, lt-ltb, le-ltb, leb-false, ltb-false, not-false}
 use Rattle.laws.specs.Sum.{ind}
 use Rattle.laws.specs.Block.{putBlock}
-use Rattle.laws.proofs.Block.{block-in}
 use Rattle.laws.proofs.Tests.{or-neither}
 use Rattle.bufmodel.specs.declared.control.Control.{Control}
 use Rattle.bufmodel.specs.declared.answer.Accepted as accepted
@@ -20,22 +19,15 @@ use Rattle.bufmodel.specs.Position.{position, written}
 use Rattle.bufmodel.specs.Memory.{Memory, memory, buffers, size, wordOf, pageOf, withStates, withPool}
 use Rattle.bufmodel.specs.Books.{sound}
 use Rattle.bufmodel.specs.Sizes.{sized}
-use Rattle.bufmodel.specs.Outcome.{Outcome, Place, place, refusalOf, checked, outcome, done, zeros, one}
+use Rattle.bufmodel.specs.Outcome.{Place, place, refusalOf, checked, done, zeros, one}
 use Rattle.bufmodel.specs.Answer.{acceptedAt, writtenAt}
 use Rattle.bufmodel.specs.Moves.{writeBack}
 use Rattle.bufmodel.specs.Calls.{bufferPlaces, unpin, read, writePlaces, writeTo, write, flush}
-use Rattle.bufmodel.proofs.OutcomeLaws.{
-  refusal-past,
-  refusal-at,
-  refusal-none,
-  refusal-passed,
-  refusal-first,
-  outcome-done,
-  outcome-refused,
-}
-use Rattle.bufmodel.proofs.GoodLaws.{Good, good-sized, checked-good, checked-passed}
-use Rattle.bufbooks.proofs.LentLaws.{sized-fits}
-use Rattle.bufmoves.specs.Back.{Backed}
+use Rattle.bufmodel.proofs.OutcomeLaws.{refusal-past, refusal-at, refusal-none, refusal-passed, refusal-first, outcome-done}
+use Rattle.bufmodel.proofs.SizesLaws.{sized-page}
+use Rattle.bufmodel.proofs.GoodLaws.{Good, checked-good, checked-passed}
+use Rattle.bufmodel.proofs.AnswerLaws.{end-at, accepted-refused, bytes-refused, accepted-done, written-refused, written-done}
+use Rattle.bufmoves.proofs.WholeLaws.{backPart, back-whole, page-in}
 
 -- ---- the places
 -- a good memory and a pinned buffer of it: the places 1, 2, 7 and 8 passed
@@ -82,59 +74,17 @@ module _ (m : Memory) (i : ℕ) where
 -- ---- its page
 module _ (m : Memory) (i : ℕ) (k : Held m i) where
   pub held-page : 8 ≤ size m
-  held-page = sized-fits m (good-sized m (k .good)) .page
+  held-page = sized-page (k .good .sizes) .0
 
   pub held-pool : i * size m + size m ≤ length (m .pool)
-  held-pool = block-in (size m) (buffers m) i (m .pool) (k .good .sizes .pool) (k .within)
-
-  -- what write-back asks
-  pub held-backed : Backed (memory (m .control) [] (m .names) (m .pool) [] [] [] (m .rows) (m .store)) i
-  held-backed =
-      record {
-        page = held-page;
-        name = omega (arith, k .good .sizes .names, k .within);
-        pool = held-pool;
-        rows = sized-fits m (good-sized m (k .good)) .rows;
-        store = k .good .sizes .store;
-      }
-
--- ---- outcomes as the code answers them
-accepted-at : (k : ℕ) → k ≢ 0 → accepted.the-variants.Refused k ≡ acceptedAt k []
-unfolding acceptedAt
-accepted-at zero h = absurd (h refl)
-accepted-at (suc k) h = refl
-
-written-at : (k : ℕ) (ws : List ℕ) → k ≢ 0 → wrote.the-variants.Refused k ≡ writtenAt k ws
-unfolding writtenAt
-written-at zero ws h = absurd (h refl)
-written-at (suc k) ws h = refl
-
-module _ (bytes : List ℕ) (m : Memory) (o : Outcome) where
-  abbrev out : ℕ → Outcome
-  out n = outcome n bytes m o
-
-  pub accepted-refused : {k n : ℕ} → k ≡ n → k ≢ 0 → accepted.the-variants.Refused k ≡ acceptedAt (out n .refusal) []
-  accepted-refused {k} e h = rw (← e, outcome-refused bytes m o k h) (accepted-at k h)
-
-  pub written-refused : {k n : ℕ} → k ≡ n → k ≢ 0 → wrote.the-variants.Refused k ≡ writtenAt (out n .refusal) (out n .answer)
-  written-refused {k} e h = rw (← e, outcome-refused bytes m o k h) (written-at k zeros h)
-
-  pub same-refused : {k n : ℕ} → k ≡ n → k ≢ 0 → m ≡ out n .after
-  same-refused {k} e h = rw (← e, outcome-refused bytes m o k h)
-
-  pub bytes-refused : {k n : ℕ} → k ≡ n → k ≢ 0 → bytes ≡ out n .bytes
-  bytes-refused {k} e h = rw (← e, outcome-refused bytes m o k h)
-
-  pub accepted-done : {n : ℕ} → n ≡ 0 → o .refusal ≡ 0 → accepted.the-variants.Done ≡ acceptedAt (out n .refusal) []
-  unfolding acceptedAt
-  accepted-done e h = rw (outcome-done bytes m o e, h)
+  held-pool = page-in m (k .good) i (k .within)
 
 -- ---- unpin
 module _ (m : Memory) (i : ℕ) where
   pub unpin-refused : {k : ℕ} → k ≡ checked m (bufferPlaces m i []) → k ≢ 0
       → (accepted.the-variants.Refused k ≡ acceptedAt (unpin m i .refusal) []) × (m ≡ unpin m i .after)
   unfolding unpin
-  unpin-refused e h = (accepted-refused [] m _ e h, same-refused [] m _ e h)
+  unpin-refused e h = accepted-refused h (end-at [] m _ e h)
 
   pub unpin-done : Held m i → {w : ℕ} → w ≡ pinLess (wordOf m i)
       → (accepted.the-variants.Done ≡ acceptedAt (unpin m i .refusal) []) × (withStates (set (m .states) i w) m ≡ unpin m i .after)
@@ -142,7 +92,7 @@ module _ (m : Memory) (i : ℕ) where
   unpin-done k e =
       let o = done zeros [] (withStates (set (m .states) i (pinLess (wordOf m i))) m) in
       let z = buffer-later m i k [] ∙ refusal-none in
-      (accepted-done [] m o z refl, rw (e, outcome-done [] m o z))
+      rw e (accepted-done (outcome-done [] m o z))
 
 -- ---- read
 module _ (m : Memory) (i from : ℕ) (bytes : List ℕ) where
@@ -152,7 +102,7 @@ module _ (m : Memory) (i from : ℕ) (bytes : List ℕ) where
   pub read-refused : {k : ℕ} → k ≡ checked m (bufferPlaces m i readPlaces) → k ≢ 0
       → (accepted.the-variants.Refused k ≡ acceptedAt (read m i from bytes .refusal) []) × (bytes ≡ read m i from bytes .bytes)
   unfolding read
-  read-refused e h = (accepted-refused bytes m _ e h, bytes-refused bytes m _ e h)
+  read-refused e h = let r = end-at bytes m _ e h in (accepted-refused h r .0, bytes-refused h r)
 
   pub read-outside : Held m i → size m < from + length bytes → 9 ≡ checked m (bufferPlaces m i readPlaces)
   read-outside k l = sym (buffer-later m i k readPlaces ∙ refusal-at 9 [] (lt-ltb _ _ l))
@@ -163,7 +113,8 @@ module _ (m : Memory) (i from : ℕ) (bytes : List ℕ) where
   read-done k l e =
       let o = done zeros (take (length bytes) (drop from (pageOf m i))) m in
       let z = buffer-later m i k readPlaces ∙ refusal-past 9 [] (le-ltb _ _ l) ∙ refusal-none in
-      (accepted-done bytes m o z refl, rw (e, outcome-done bytes m o z))
+      let d = outcome-done bytes m o z in
+      (accepted-done d .0, rw (e, d))
 
 -- ---- write
 module _ (m : Memory) (i from : ℕ) (bytes : List ℕ) (at : ℕ) where
@@ -192,7 +143,7 @@ module _ (m : Memory) (i from : ℕ) (bytes : List ℕ) (at : ℕ) where
   pub write-refused : {k : ℕ} → k ≡ checked m (writePlaces m i from bytes at) → k ≢ 0
       → (accepted.the-variants.Refused k ≡ acceptedAt (write m i from bytes at .refusal) []) × (m ≡ write m i from bytes at .after)
   unfolding write
-  write-refused e h = (accepted-refused bytes m _ e h, same-refused bytes m _ e h)
+  write-refused e h = accepted-refused h (end-at bytes m _ e h)
 
   pub write-done : {k : ℕ} → k ≡ checked m (writePlaces m i from bytes at) → k ≡ 0 → {pool : List ℕ} {w : ℕ}
       → pool ≡ putBlock (size m) i (written at from bytes (pageOf m i)) (m .pool)
@@ -202,33 +153,22 @@ module _ (m : Memory) (i from : ℕ) (bytes : List ℕ) (at : ℕ) where
   unfolding write writeTo
   write-done e z p q =
       let o = done zeros bytes (writeTo m i from bytes at) in
-      (accepted-done bytes m o (sym e ∙ z) refl, rw (p, q, outcome-done bytes m o (sym e ∙ z)))
+      rw (p, q) (accepted-done (outcome-done bytes m o (sym e ∙ z)))
 
 -- ---- flush
 module _ (m : Memory) (i : ℕ) where
   pub flush-refused : {k : ℕ} → k ≡ checked m (bufferPlaces m i []) → k ≢ 0
       → (wrote.the-variants.Refused k ≡ writtenAt (flush m i .refusal) (flush m i .answer)) × (m ≡ flush m i .after)
   unfolding flush
-  flush-refused e h = (written-refused [] m _ e h, same-refused [] m _ e h)
+  flush-refused e h = written-refused h (end-at [] m _ e h)
 
   -- the parts that write-back is not lent are as they were
-  abbrev part : Memory
-  part = memory (m .control) (m .states) (m .names) (m .pool) [] [] [] (m .rows) (m .store)
-
-  abbrev whole : Control → List ℕ → List ℕ → Memory
-  whole c states store = memory c states (m .names) (m .pool) (m .free) (m .heads) (m .chain) (m .rows) store
-
-  pub back-whole : {c : Control} {states store : List ℕ}
-      → memory c states (m .names) (m .pool) [] [] [] (m .rows) store ≡ writeBack part i
-      → whole c states store ≡ writeBack m i
-  unfolding writeBack
-  back-whole e = ap (λ (b : Memory). whole (b .control) (b .states) (b .store)) e
-
   pub flush-done : Held m i → {n : ℕ} {c : Control} {states store : List ℕ} → n ≡ ind (dirty (wordOf m i))
-      → memory c states (m .names) (m .pool) [] [] [] (m .rows) store ≡ writeBack part i
-      → (wrote.the-variants.Pages n ≡ writtenAt (flush m i .refusal) (flush m i .answer)) × (whole c states store ≡ flush m i .after)
-  unfolding flush writtenAt
-  flush-done k e b =
+      → memory c states (m .names) (m .pool) [] [] [] (m .rows) store ≡ writeBack (backPart m) i
+      → (wrote.the-variants.Pages n ≡ writtenAt (flush m i .refusal) (flush m i .answer))
+      × (memory c states (m .names) (m .pool) (m .free) (m .heads) (m .chain) (m .rows) store ≡ flush m i .after)
+  unfolding flush
+  flush-done k {n} {c} {states} {store} e b =
       let o = done (one (ind (dirty (wordOf m i)))) [] (writeBack m i) in
-      let z = buffer-later m i k [] ∙ refusal-none in
-      (rw (e, outcome-done [] m o z), back-whole b ∙ ap (λ (x : Outcome). x .after) (sym (outcome-done [] m o z)))
+      let end = written-done (outcome-done [] m o (buffer-later m i k [] ∙ refusal-none)) in
+      (ap wrote.the-variants.Pages e ∙ end .0, back-whole m i c states store b ∙ end .1)

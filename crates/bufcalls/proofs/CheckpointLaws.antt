@@ -12,10 +12,9 @@ use Rattle.bufmodel.specs.Word.{dirty}
 use Rattle.bufmodel.specs.Rows.{storeBlocks, placeOf}
 use Rattle.bufmodel.specs.Memory.{Memory, memory, buffers, size, wordOf, nameOf, pageOf}
 use Rattle.bufmodel.specs.Moves.{putAt, writeBack, writeUpTo}
-use Rattle.bufmodel.proofs.GoodLaws.{Good, good-sized}
+use Rattle.bufmodel.proofs.GoodLaws.{Good}
 use Rattle.bufmodel.proofs.RowsLaws.{place-in}
-use Rattle.bufmodel.proofs.SizesLaws.{rows-say}
-use Rattle.bufbooks.proofs.LentLaws.{sized-fits}
+use Rattle.bufmodel.proofs.SizesLaws.{rows-say, sized-page}
 use Rattle.bufmoves.specs.Back.{Backed}
 use Rattle.bufcalls.specs.Checkpoint.{Stored}
 
@@ -26,8 +25,8 @@ bare m = memory (m .control) (m .states) (m .names) (m .pool) [] [] [] (m .rows)
 
 pub good-stored : (m : Memory) → Good m → Stored (bare m)
 good-stored m g =
-    let f = sized-fits m (good-sized m g) in
-    record { page = f .page; names = f .names; pool = f .pool; rows = f .rows; store = g .sizes .store }
+    let s = g .sizes in
+    record { page = sized-page s .0; names = s .names; pool = s .pool; rows = rows-say (m .rows) .shown (s .rows); store = s .store }
 
 pub stored-backed : (m : Memory) → Stored m → (i : ℕ) → i < buffers m
     → Backed (memory (m .control) [] (m .names) (m .pool) [] [] [] (m .rows) (m .store)) i

@@ -8,7 +8,6 @@ ghost use Prim.Native.Nat.{_+_, _*_, _≤_};
 ghost use lib.Dec.{eqb, leb, ltb};
 ghost use lib.ListN.{length};
 ghost use Rattle.laws.specs.Block.{block};
-ghost use Rattle.laws.specs.Sum.{ind};
 ghost use Rattle.bufmodel.specs.Position.{position as pagePosition};
 ghost use Rattle.bufmodel.specs.Memory.{memory};
 ghost use Rattle.bufmodel.specs.Outcome.{place, refusalOf, checked};
@@ -18,16 +17,23 @@ use crate::ends::Flushed;
 use crate::page::read_page;
 use crate::page::write_page;
 use bufbooks::lent::refusal;
-use bufleaf::position::position_at;
-use bufleaf::word::is_dirty;
-use bufleaf::word::is_pinned;
-use bufleaf::word::make_dirty;
-use bufleaf::word::pin_less;
 use bufmodel::answer::Accepted;
 use bufmodel::answer::Written;
 use bufmodel::control::Control;
+use bufmodel::refusal::EARLIER;
+use bufmodel::refusal::NO_BUFFER;
+use bufmodel::refusal::NO_BYTES;
+use bufmodel::refusal::NOT_INSERTED;
+use bufmodel::refusal::NOT_PINNED;
+use bufmodel::refusal::RANGE;
 use bufmoves::back::write_back;
 use buftag::number::BufferNumber;
+use bufword::flag::one_if;
+use bufword::position::position_at;
+use bufword::word::is_dirty;
+use bufword::word::is_pinned;
+use bufword::word::make_dirty;
+use bufword::word::pin_less;
 
 // The places 1, 2, 7 and 8: 0 if none refuses.
 fn buffer_refusal(
@@ -67,10 +73,10 @@ fn buffer_refusal(
     }
     let i = buffer.0;
     if i >= states.len() {
-        return 7;
+        return NO_BUFFER;
     }
     if !is_pinned(states[i]) {
-        return 8;
+        return NOT_PINNED;
     }
     0
 }
@@ -174,7 +180,7 @@ pub fn read_buffer(
         return Accepted::Refused(k);
     }
     if !range_ok(control.size, from, out.len()) {
-        return Accepted::Refused(9);
+        return Accepted::Refused(RANGE);
     }
     read_page(pool, control.size, buffer.0, from, out);
     Accepted::Done
@@ -200,19 +206,19 @@ fn write_refusal(
         ∷ []) ⌝ }
 {
     if !range_ok(control.size, from, bytes.len()) {
-        return 9;
+        return RANGE;
     }
     if from < 8 {
-        return 9;
+        return RANGE;
     }
     if bytes.len() == 0 {
-        return 10;
+        return NO_BYTES;
     }
     if position > control.inserted {
-        return 11;
+        return NOT_INSERTED;
     }
     if position < position_at(pool, i * control.size) {
-        return 12;
+        return EARLIER;
     }
     0
 }
@@ -320,19 +326,9 @@ pub fn flush_buffer(
     }
     let i = buffer.0;
     let n = one_if(is_dirty(states[i]));
-    let after = write_back(control, states, names, pool, rows, store, i);
+    let after = write_back(control, states, names, pool, rows, store, buffer);
     Flushed {
         control: after,
         answer: Written::Pages(n),
     }
-}
-
-// 1 for true, 0 for false.
-pub fn one_if(t: bool) -> u64
-    ensures { λ r. ⌜ r ≡ ind t ⌝ }
-{
-    if t {
-        return 1;
-    }
-    0
 }

@@ -12,10 +12,11 @@ ghost use Rattle.bufmodel.specs.Calls.{checkpoint};
 ghost use Rattle.bufcalls.specs.Checkpoint.{Stored};
 use crate::ends::Flushed;
 use bufbooks::lent::refusal;
-use bufleaf::word::is_dirty;
 use bufmodel::answer::Written;
 use bufmodel::control::Control;
 use bufmoves::back::write_back;
+use buftag::number::BufferNumber;
+use bufword::word::is_dirty;
 
 fn count_dirty(states: &[u32]) -> u64
     ensures { λ r. ⌜ r ≡ count (length (now (states .entry))) (λ i. dirty (getD (now (states .entry)) i 0)) ⌝ }
@@ -50,7 +51,9 @@ fn write_all(
     let mut after = control;
     let mut i = 0;
     while i < n {
-        after = write_back(after, states, names, pool, rows, store, i);
+        if is_dirty(states[i]) {
+            after = write_back(after, states, names, pool, rows, store, BufferNumber(i));
+        }
         i += 1;
     }
     after

@@ -1,13 +1,21 @@
--- The tests of the rows and of the sizes decide their statements.
+-- The tests of the rows and of the sizes decide their statements; the least and the greatest block size.
 use Prim.Native.Nat.{ℕ, _<_, _≤_}
 use mathlib.Core.Path.{_≡_}
-use mathlib.Core.List.{List}
+use mathlib.Core.Bool.{true}
+use mathlib.Core.Logic.{inl, inr, ⊎-elim}
+use mathlib.Core.List.{List, [], _∷_}
+use native.Mathlib.Omega.{arith}
+use types.Run.{OneOf}
+use borrow.Author.Tests.{lt-ltb}
 use Rattle.laws.specs.Says.{Says}
+use Rattle.laws.specs.Times.{times}
 use Rattle.laws.proofs.Says.{says-eq, says-le, says-lt, says-and, says-not, says-all, says-as}
+use Rattle.laws.proofs.Tests.{eq-or-ne}
+use Rattle.laws.proofs.Times.{times-here, times-other}
 use Rattle.buftag.proofs.NameLaws.{says-same-file}
 use Rattle.bufmodel.specs.Rows.{files, fileAt, blocksAt, capacityAt}
 use Rattle.bufmodel.specs.Memory.{Memory}
-use Rattle.bufmodel.specs.Sizes.{permitted, newFile, soundRow, soundRows, RowsSound, sizedFor, SizedFor}
+use Rattle.bufmodel.specs.Sizes.{blockSizes, permitted, newFile, soundRow, soundRows, RowsSound, sizedFor, SizedFor}
 
 row-says : (rows : List ℕ) (r : ℕ)
     → Says (soundRow rows r)
@@ -67,3 +75,38 @@ sizes-say p m =
     (says-eq _ _))
     (rows-say (m .rows)))
     (says-eq _ _))
+
+-- ---- block sizes
+-- a number that is one of a list, as an arm of a match says it
+one-times : (k : ℕ) (xs : List ℕ) → OneOf xs k → 0 < times k xs
+unfolding times
+one-times k [] h = absurd h
+one-times k (x ∷ []) h = rw h (times-here x [])
+one-times k (x ∷ y ∷ xs) h = ⊎-elim (λ e. rw e (times-here x (y ∷ xs))) (λ l. omega (arith, one-times k (y ∷ xs) l)) h
+
+times-one : (k : ℕ) (xs : List ℕ) → 0 < times k xs → OneOf xs k
+unfolding times
+times-one k [] h = absurd (omega arith)
+times-one k (x ∷ []) h = ⊎-elim (λ e. e) (λ ne. absurd (omega (arith, times-other k x [] ne))) (eq-or-ne k x)
+times-one k (x ∷ y ∷ xs) h =
+    ⊎-elim (λ e. inl e) (λ ne. inr (times-one k (y ∷ xs) (omega (arith, times-other k x (y ∷ xs) ne)))) (eq-or-ne k x)
+
+pub permitted-says : (p : ℕ) → Says (permitted p) (OneOf blockSizes p)
+unfolding permitted
+permitted-says p = says-as (times-one p blockSizes) (one-times p blockSizes) (says-lt _ _)
+
+-- the least and the greatest: a page has room for its log position
+pub permitted-fits : {p : ℕ} → permitted p ≡ true → (8 ≤ p) × (p ≤ 32768)
+permitted-fits {p} h =
+    ⊎-elim (λ e. (omega arith, omega arith))
+    (⊎-elim (λ e. (omega arith, omega arith))
+    (⊎-elim (λ e. (omega arith, omega arith))
+    (⊎-elim (λ e. (omega arith, omega arith)) (⊎-elim (λ e. (omega arith, omega arith)) (λ e. (omega arith, omega arith))))))
+    (permitted-says p .holds h)
+
+pub permitted-sized : {p : ℕ} {m : Memory} → SizedFor p m → permitted p ≡ true
+unfolding permitted
+permitted-sized s = lt-ltb _ _ (s .permitted)
+
+pub sized-page : {p : ℕ} {m : Memory} → SizedFor p m → (8 ≤ p) × (p ≤ 32768)
+sized-page s = permitted-fits (permitted-sized s)

@@ -1,4 +1,5 @@
 pub mod BackLaws
 pub mod ExchangeLaws
+pub mod WholeLaws
 pub mod FillLaws
 pub mod SweepLaws

@@ -11,14 +11,14 @@ ghost use Rattle.bufmodel.specs.Memory.{memory};
 ghost use Rattle.bufmodel.specs.Moves.{putAt, writeBack};
 ghost use Rattle.bufmoves.specs.Back.{Backed};
 use crate::block::copy_block;
-use bufleaf::place::Place;
-use bufleaf::place::place_of;
-use bufleaf::position::position_at;
-use bufleaf::word::is_dirty;
-use bufleaf::word::make_clean;
 use bufmodel::control::Control;
+use bufrows::place::Place;
+use bufrows::place::place_of;
 use buftag::names::stored;
 use buftag::number::BufferNumber;
+use bufword::position::position_at;
+use bufword::word::is_dirty;
+use bufword::word::make_clean;
 
 fn larger(a: u64, b: u64) -> u64
     ensures { λ r. ⌜ r ≡ max a b ⌝ }
@@ -46,18 +46,25 @@ pub fn flushed_to(control: Control, position: u64) -> Control
     after
 }
 
-// The page of buffer `i` goes to its place in the store.
-fn put_page(control: Control, names: &[u32], pool: &[u8], rows: &[u32], store: &mut [u8], i: usize)
-    requires { ⌜ Backed (memory control [] (now names) (now pool) [] [] [] (now rows) (now store)) i ⌝ }
+// A buffer's page goes to its place in the store.
+fn put_page(
+    control: Control,
+    names: &[u32],
+    pool: &[u8],
+    rows: &[u32],
+    store: &mut [u8],
+    buffer: BufferNumber,
+)
+    requires { ⌜ Backed (memory control [] (now names) (now pool) [] [] [] (now rows) (now store)) (buffer .0) ⌝ }
     ensures { λ _.
         ⌜ now (store .exit)
-        ≡ putAt (control .size) (block (control .size) i (now (pool .entry))) (now (store .entry))
-        (placeOf (now (rows .entry)) (nameAt (now (names .entry)) i)) ⌝ }
+        ≡ putAt (control .size) (block (control .size) (buffer .0) (now (pool .entry))) (now (store .entry))
+        (placeOf (now (rows .entry)) (nameAt (now (names .entry)) (buffer .0))) ⌝ }
 {
-    let Place::At(g) = place_of(rows, stored(names, BufferNumber(i))) else {
+    let Place::At(g) = place_of(rows, stored(names, buffer)) else {
         return;
     };
-    copy_block(store, g, pool, i, control.size);
+    copy_block(store, g, pool, buffer.0, control.size);
 }
 
 // Writes a page back if it is dirty.
@@ -68,21 +75,23 @@ pub fn write_back(
     pool: &[u8],
     rows: &[u32],
     store: &mut [u8],
-    i: usize,
+    buffer: BufferNumber,
 ) -> Control
-    requires { ⌜ Backed (memory control [] (now names) (now pool) [] [] [] (now rows) (now store)) i × (i < length (now states)) ⌝ }
+    requires { ⌜ Backed (memory control [] (now names) (now pool) [] [] [] (now rows) (now store)) (buffer .0)
+        × (buffer .0 < length (now states)) ⌝ }
     ensures { λ r.
         ⌜ memory r (now (states .exit)) (now (names .entry)) (now (pool .entry)) [] [] [] (now (rows .entry)) (now (store .exit))
         ≡ writeBack
         (memory control (now (states .entry)) (now (names .entry)) (now (pool .entry)) [] [] [] (now (rows .entry))
-        (now (store .entry))) i ⌝ }
+        (now (store .entry))) (buffer .0) ⌝ }
 {
+    let i = buffer.0;
     let w = states[i];
     if !is_dirty(w) {
         return control;
     }
     let c = flushed_to(control, position_at(pool, i * control.size));
-    put_page(control, names, pool, rows, store, i);
+    put_page(control, names, pool, rows, store, buffer);
     states[i] = make_clean(w);
     c
 }

@@ -16,6 +16,29 @@ pub fn copy_bytes(to: &mut [u8], from: &[u8])
     }
 }
 
+// The bytes of a page of the usual size. A local array overlaps neither slice, so the compiler makes one memmove of both copies; of
+// copy_bytes alone, whose slices it cannot tell apart, it makes a loop.
+fn copy_usual(to: &mut [u8], from: &[u8])
+    requires { ⌜ (length (now to) ≡ 8192) × (length (now from) ≡ 8192) ⌝ }
+    ensures { λ _. ⌜ now (to .exit) ≡ now (from .entry) ⌝ }
+{
+    let mut page = [0u8; 8192];
+    copy_bytes(&mut page[..], from);
+    copy_bytes(to, &page[..]);
+}
+
+// The bytes of a page of any size.
+fn copy_page(to: &mut [u8], from: &[u8])
+    requires { ⌜ length (now to) ≡ length (now from) ⌝ }
+    ensures { λ _. ⌜ now (to .exit) ≡ now (from .entry) ⌝ }
+{
+    if from.len() == 8192 {
+        copy_usual(to, from);
+        return;
+    }
+    copy_bytes(to, from);
+}
+
 fn clear_bytes(to: &mut [u8])
     ensures { λ _. ⌜ now (to .exit) ≡ replicate (length (now (to .entry))) 0 ⌝ }
 {
@@ -35,7 +58,7 @@ pub fn copy_block(to: &mut [u8], t: usize, from: &[u8], f: usize, size: usize)
     let b = f * size;
     let a_end = a + size;
     let b_end = b + size;
-    copy_bytes(&mut to[a..a_end], &from[b..b_end]);
+    copy_page(&mut to[a..a_end], &from[b..b_end]);
 }
 
 // Block `t` of `to` becomes zeros.

@@ -2,38 +2,22 @@
 
 ghost use mathlib.Core.Path.{_≡_};
 ghost use mathlib.Core.List.{[]};
-ghost use Rattle.buftag.specs.Names.{noName};
 ghost use Rattle.bufmodel.specs.Memory.{memory};
 ghost use Rattle.bufmodel.specs.Moves.{release, loadAt};
 ghost use Rattle.bufmoves.specs.Exchange.{Chained, Lodged};
 use crate::block::copy_block;
-use bufleaf::word::loaded_word;
 use bufmodel::control::Control;
 use buftag::chain::insert;
 use buftag::chain::remove;
-use buftag::name::FileName;
+use buftag::link::OFF;
 use buftag::name::PageName;
+use buftag::names::no_name;
 use buftag::names::put_name;
 use buftag::names::stored;
-use buftag::number::BlockNumber;
 use buftag::number::BufferNumber;
+use bufword::word::loaded_word;
 
-// The name of an empty buffer.
-fn no_name() -> PageName
-    ensures { λ r. ⌜ r ≡ noName ⌝ }
-{
-    PageName {
-        file: FileName {
-            tablespace: 0,
-            database: 0,
-            relation: 0,
-            fork: 0,
-        },
-        block: BlockNumber(0),
-    }
-}
-
-// Buffer `i` gives up its page: it leaves its chain, has a name of zeros and word 0, and is put on top of the free list.
+// A buffer gives up its page: it leaves its chain, has a name of zeros and word 0, and is put on top of the free list.
 pub fn release_buffer(
     control: Control,
     states: &mut [u32],
@@ -41,18 +25,19 @@ pub fn release_buffer(
     free: &mut [i32],
     heads: &mut [i32],
     chain: &mut [i32],
-    i: usize,
+    buffer: BufferNumber,
 ) -> Control
-    requires { ⌜ Chained (memory control (now states) (now names) [] (now free) (now heads) (now chain) [] []) i ⌝ }
+    requires { ⌜ Chained (memory control (now states) (now names) [] (now free) (now heads) (now chain) [] []) (buffer .0) ⌝ }
     ensures { λ r.
         ⌜ memory r (now (states .exit)) (now (names .exit)) [] (now (free .exit)) (now (heads .exit)) (now (chain .exit)) [] []
         ≡ release
         (memory control (now (states .entry)) (now (names .entry)) [] (now (free .entry)) (now (heads .entry)) (now (chain .entry)) []
-        []) i ⌝ }
+        []) (buffer .0) ⌝ }
 {
-    let name = stored(names, BufferNumber(i));
-    remove(heads, chain, name, BufferNumber(i));
-    put_name(names, BufferNumber(i), no_name());
+    let i = buffer.0;
+    let name = stored(names, buffer);
+    remove(heads, chain, name, buffer);
+    put_name(names, buffer, no_name());
     states[i] = 0;
     let top = control.top;
     free[i] = top;
@@ -61,7 +46,7 @@ pub fn release_buffer(
     after
 }
 
-// The page `name`, at place `g` of the store, comes into buffer `i`, the top of the free list.
+// The page `name`, at place `g` of the store, comes into a buffer, the top of the free list.
 pub fn load_page(
     control: Control,
     states: &mut [u32],
@@ -72,21 +57,23 @@ pub fn load_page(
     chain: &mut [i32],
     store: &[u8],
     name: PageName,
-    i: usize,
+    buffer: BufferNumber,
     g: usize,
 ) -> Control
-    requires { ⌜ Lodged (memory control (now states) (now names) (now pool) (now free) (now heads) (now chain) [] (now store)) i g ⌝ }
+    requires { ⌜ Lodged (memory control (now states) (now names) (now pool) (now free) (now heads) (now chain) [] (now store))
+        (buffer .0) g ⌝ }
     ensures { λ r.
         ⌜ memory r (now (states .exit)) (now (names .exit)) (now (pool .exit)) (now (free .exit)) (now (heads .exit))
         (now (chain .exit)) [] (now (store .entry))
         ≡ loadAt
         (memory control (now (states .entry)) (now (names .entry)) (now (pool .entry)) (now (free .entry)) (now (heads .entry))
-        (now (chain .entry)) [] (now (store .entry))) name i g ⌝ }
+        (now (chain .entry)) [] (now (store .entry))) name (buffer .0) g ⌝ }
 {
+    let i = buffer.0;
     let next = free[i];
-    free[i] = -2;
-    put_name(names, BufferNumber(i), name);
-    insert(heads, chain, name, BufferNumber(i));
+    free[i] = OFF;
+    put_name(names, buffer, name);
+    insert(heads, chain, name, buffer);
     copy_block(pool, i, store, g, control.size);
     states[i] = loaded_word();
     let mut after = control;

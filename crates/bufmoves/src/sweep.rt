@@ -6,11 +6,11 @@ ghost use lib.ListN.{length};
 ghost use Rattle.bufmodel.specs.Sizes.{maxBuffers};
 ghost use Rattle.bufmodel.specs.Sweep.{next, sweepAll};
 ghost use Rattle.bufmoves.specs.Sweep.{victimOf};
-use bufleaf::word::MAX_USAGE;
-use bufleaf::word::is_pinned;
-use bufleaf::word::usage_of;
-use bufleaf::word::use_less;
 use buftag::number::BufferNumber;
+use bufword::word::MAX_USAGE;
+use bufword::word::is_pinned;
+use bufword::word::usage_of;
+use bufword::word::use_less;
 
 // The buffer taken, the hand afterwards and the probes; or that every buffer is pinned.
 pub enum Victim {

@@ -20,86 +20,59 @@ use Rattle.bufmodel.specs.declared.answer.Accepted as accepted
 use Rattle.bufmodel.specs.Memory.{Memory, memory, buffers, size, withRows}
 use Rattle.bufmodel.specs.Books.{emptyAt}
 use Rattle.bufmodel.specs.Rows.{blocksAt, capacityAt, setBlocks, rowOf, startOf, storeBlocks}
-use Rattle.bufmodel.specs.Outcome.{Outcome, place, refusalOf, checked, refused, outcome}
+use Rattle.bufmodel.specs.Outcome.{Outcome, Place, place, checked, refused, outcome}
 use Rattle.bufmodel.specs.Moves.{release, ofFile, releaseIf, releaseUpTo}
 use Rattle.bufmodel.specs.Pin.{noRow}
 use Rattle.bufmodel.specs.Calls.{fileFull, extendAt, extend, filePinned, dropAt, dropFile}
 use Rattle.bufmodel.specs.Answer.{extendedAt, acceptedAt}
-use Rattle.bufmodel.proofs.OutcomeLaws.{refusal-past, refusal-at, outcome-done, outcome-refused}
-use Rattle.bufmodel.proofs.GoodLaws.{Good, checked-good, checked-early}
+use Rattle.bufmodel.proofs.OutcomeLaws.{refusal-past, refusal-at, refusal-none}
+use Rattle.bufmodel.proofs.GoodLaws.{Good}
+use Rattle.bufmodel.proofs.AnswerLaws.{end-first, end-own, end-done}
 use Rattle.bufmodel.proofs.RowsLaws.{row-found, start-in}
 use Rattle.bufmodel.proofs.ReleaseLaws.{release-buffers, release-good}
 use Rattle.bufmodel.proofs.DropLaws.{of-says}
 use Rattle.bufmoves.specs.Exchange.{Chained}
 use Rattle.bufpages.specs.File.{fileAt, pinnedOf}
-use Rattle.bufpages.proofs.WholeLaws.{good-chained}
+use Rattle.bufmoves.proofs.WholeLaws.{good-chained}
 
 -- ---- a call with the place 3 for a row, and one more
-module _ (m : Memory) (r : Found) (k : ℕ) (t : Bool) (o : Outcome) where
-  abbrev pub called : Outcome
-  called = outcome (checked m (place 3 (noRow r) ∷ place k t ∷ [])) [] m o
+module _ (m : Memory) (g : Good m) (r : Found) (k : ℕ) (t : Bool) (o : Outcome) where
+  abbrev places : List Place
+  places = place 3 (noRow r) ∷ place k t ∷ []
 
-  pub called-early : {n : ℕ} → n ≡ checked m [] → n ≢ 0 → called ≡ refused n [] m
-  called-early {n} e h = rw (← checked-early m (place 3 (noRow r) ∷ place k t ∷ []) e h) (outcome-refused [] m o n h)
+  call-missing : r ≡ missing → outcome (checked m places) [] m o ≡ refused 3 [] m
+  unfolding noRow
+  call-missing e = end-own m places [] o g (refusal-at 3 (place k t ∷ []) (ap noRow e)) (λ z. absurd (omega arith))
 
-  module _ (g : Good m) where
-    pub called-missing : r ≡ missing → called ≡ refused 3 [] m
-    unfolding noRow
-    called-missing e =
-        rw (checked-good m g (place 3 (noRow r) ∷ place k t ∷ []), refusal-at 3 (place k t ∷ []) (ap noRow e))
-        (outcome-refused [] m o 3 (λ z. absurd (omega arith)))
+  call-refused : {s : ℕ} → r ≡ found s → k ≢ 0 → t ≡ true → outcome (checked m places) [] m o ≡ refused k [] m
+  unfolding noRow
+  call-refused e h f = end-own m places [] o g (refusal-past 3 (place k t ∷ []) (ap noRow e) ∙ refusal-at k [] f) h
 
-    pub called-refused : {s : ℕ} → r ≡ found s → k ≢ 0 → t ≡ true → called ≡ refused k [] m
-    unfolding noRow
-    called-refused e h f =
-        rw (checked-good m g (place 3 (noRow r) ∷ place k t ∷ []), refusal-past 3 (place k t ∷ []) (ap noRow e), refusal-at k [] f)
-        (outcome-refused [] m o k h)
-
-    pub called-done : {s : ℕ} → r ≡ found s → t ≡ false → called ≡ o
-    unfolding noRow refusalOf
-    called-done e f =
-        outcome-done [] m o
-        (checked-good m g (place 3 (noRow r) ∷ place k t ∷ []) ∙ refusal-past 3 (place k t ∷ []) (ap noRow e) ∙ refusal-past k [] f)
-
--- ---- what the code answers
-refused-block : (n : ℕ) → n ≢ 0 → (ws : List ℕ) → extended.the-variants.Refused n ≡ extendedAt n ws
-unfolding extendedAt
-refused-block zero z ws = absurd (z refl)
-refused-block (suc n) z ws = refl
-
-refused-plain : (n : ℕ) → n ≢ 0 → (ws : List ℕ) → accepted.the-variants.Refused n ≡ acceptedAt n ws
-unfolding acceptedAt
-refused-plain zero z ws = absurd (z refl)
-refused-plain (suc n) z ws = refl
-
-module _ (m : Memory) {o : Outcome} {k : ℕ} (h : k ≢ 0) (e : o ≡ refused k [] m) where
-  pub refused-extended : (extended.the-variants.Refused k ≡ extendedAt (o .refusal) (o .answer)) × (m ≡ o .after)
-  refused-extended = (rw e (refused-block k h _), sym (ap (λ (x : Outcome). x .after) e))
-
-  pub refused-accepted : (accepted.the-variants.Refused k ≡ acceptedAt (o .refusal) []) × (m ≡ o .after)
-  refused-accepted = (rw e (refused-plain k h _), sym (ap (λ (x : Outcome). x .after) e))
+  call-done : {s : ℕ} → r ≡ found s → t ≡ false → outcome (checked m places) [] m o ≡ o
+  unfolding noRow
+  call-done e f = end-done m places [] o g (refusal-past 3 (place k t ∷ []) (ap noRow e) ∙ refusal-past k [] f ∙ refusal-none)
 
 -- ---- extend
 module _ (m : Memory) (f : FileName) where
   pub extend-early : {n : ℕ} → n ≡ checked m [] → n ≢ 0 → extend m f ≡ refused n [] m
   unfolding extend
-  extend-early e h = called-early m (rowOf (m .rows) f) 13 _ _ e h
+  extend-early e h = end-first m _ [] _ e h
 
   module _ (g : Good m) where
     pub extend-missing : rowOf (m .rows) f ≡ missing → extend m f ≡ refused 3 [] m
     unfolding extend
-    extend-missing e = called-missing m (rowOf (m .rows) f) 13 _ _ g e
+    extend-missing e = call-missing m g (rowOf (m .rows) f) 13 _ _ e
 
     module _ {r : ℕ} (e : rowOf (m .rows) f ≡ found r) where
       pub extend-full : blocksAt (m .rows) r ≡ capacityAt (m .rows) r → extend m f ≡ refused 13 [] m
       unfolding extend fileFull
       extend-full q =
-          called-refused m (rowOf (m .rows) f) 13 _ _ g e (λ z. absurd (omega arith)) (rw e (eq-eqb _ _ q))
+          call-refused m g (rowOf (m .rows) f) 13 _ _ e (λ z. absurd (omega arith)) (rw e (eq-eqb _ _ q))
 
       extend-done : blocksAt (m .rows) r ≢ capacityAt (m .rows) r → extend m f ≡ extendAt m (found r)
       unfolding extend fileFull
       extend-done q =
-          called-done m (rowOf (m .rows) f) 13 _ _ g e (rw e (ne-eqb _ _ q)) ∙ ap (extendAt m) e
+          call-done m g (rowOf (m .rows) f) 13 _ _ e (rw e (ne-eqb _ _ q)) ∙ ap (extendAt m) e
 
       -- the next block is within the capacity, so within the store
       pub next-less : blocksAt (m .rows) r ≢ capacityAt (m .rows) r → blocksAt (m .rows) r < capacityAt (m .rows) r
@@ -121,21 +94,21 @@ module _ (m : Memory) (f : FileName) where
 module _ (m : Memory) (f : FileName) where
   pub drop-early : {n : ℕ} → n ≡ checked m [] → n ≢ 0 → dropFile m f ≡ refused n [] m
   unfolding dropFile
-  drop-early e h = called-early m (rowOf (m .rows) f) 14 _ _ e h
+  drop-early e h = end-first m _ [] _ e h
 
   module _ (g : Good m) where
     pub drop-missing : rowOf (m .rows) f ≡ missing → dropFile m f ≡ refused 3 [] m
     unfolding dropFile
-    drop-missing e = called-missing m (rowOf (m .rows) f) 14 _ _ g e
+    drop-missing e = call-missing m g (rowOf (m .rows) f) 14 _ _ e
 
     module _ {r : ℕ} (e : rowOf (m .rows) f ≡ found r) where
       pub drop-pinned : pinnedOf (m .states) (m .names) f ≡ true → dropFile m f ≡ refused 14 [] m
       unfolding dropFile filePinned pinnedOf ofFile fileAt emptyAt
-      drop-pinned q = called-refused m (rowOf (m .rows) f) 14 _ _ g e (λ z. absurd (omega arith)) q
+      drop-pinned q = call-refused m g (rowOf (m .rows) f) 14 _ _ e (λ z. absurd (omega arith)) q
 
       drop-done : pinnedOf (m .states) (m .names) f ≡ false → dropFile m f ≡ dropAt m f (found r)
       unfolding dropFile filePinned pinnedOf ofFile fileAt emptyAt
-      drop-done q = called-done m (rowOf (m .rows) f) 14 _ _ g e q ∙ ap (dropAt m f) e
+      drop-done q = call-done m g (rowOf (m .rows) f) 14 _ _ e q ∙ ap (dropAt m f) e
 
       pub dropped : pinnedOf (m .states) (m .names) f ≡ false → {d : Memory} {rows : List ℕ} → d ≡ releaseUpTo f (buffers m) m
           → rows ≡ setBlocks (m .rows) r 0

@@ -1,9 +1,3 @@
-pub mod WholeLaws
-pub mod BackLaws
-pub mod SweptLaws
-pub mod TakenLaws
-pub mod VictimLaws
-pub mod NewLaws
-pub mod PinLaws
+pub mod NameLaws
 pub mod FileLaws
 pub mod PeekLaws

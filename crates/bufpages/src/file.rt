@@ -4,6 +4,7 @@ ghost use mathlib.Core.Path.{_≡_};
 ghost use mathlib.Core.Bool.{true};
 ghost use mathlib.Core.List.{[]};
 ghost use lib.ListN.{length};
+ghost use Rattle.bufmodel.specs.declared.answer.Accepted.the-variants.{Refused};
 ghost use Rattle.bufmodel.specs.Memory.{memory};
 ghost use Rattle.bufmodel.specs.Sizes.{sized};
 ghost use Rattle.bufmodel.specs.Books.{sound};
@@ -14,24 +15,27 @@ ghost use Rattle.buftag.specs.Names.{nameWords};
 ghost use Prim.Native.Nat.{_*_, _<_};
 ghost use Rattle.bufpages.specs.File.{fileAt, pinnedOf};
 use bufbooks::lent::refusal;
-use bufleaf::rows::Row;
-use bufleaf::rows::blocks_at;
-use bufleaf::rows::capacity_at;
-use bufleaf::rows::find_row;
-use bufleaf::rows::set_blocks;
-use bufleaf::rows::start_of;
-use bufleaf::word::is_empty;
-use bufleaf::word::is_pinned;
 use bufmodel::answer::Accepted;
 use bufmodel::answer::Extended;
 use bufmodel::control::Control;
+use bufmodel::refusal::FILE_FULL;
+use bufmodel::refusal::FILE_PINNED;
+use bufmodel::refusal::NO_FILE;
 use bufmoves::block::clear_block;
 use bufmoves::exchange::release_buffer;
+use bufrows::rows::Row;
+use bufrows::rows::blocks_at;
+use bufrows::rows::capacity_at;
+use bufrows::rows::find_row;
+use bufrows::rows::set_blocks;
+use bufrows::rows::start_of;
 use buftag::name::FileName;
 use buftag::name::same_file;
 use buftag::names::stored;
 use buftag::number::BlockNumber;
 use buftag::number::BufferNumber;
+use bufword::word::is_empty;
+use bufword::word::is_pinned;
 
 // The next block of a file becomes zeros in the store.
 pub fn extend_file(
@@ -77,11 +81,11 @@ pub fn extend_file(
         return Extended::Refused(k);
     }
     let Row::At(row) = find_row(rows, file) else {
-        return Extended::Refused(3);
+        return Extended::Refused(NO_FILE);
     };
     let blocks = blocks_at(rows, row);
     if blocks == capacity_at(rows, row) {
-        return Extended::Refused(13);
+        return Extended::Refused(FILE_FULL);
     }
     clear_block(
         store,
@@ -151,7 +155,7 @@ fn release_file(
     let mut i = 0;
     while i < n {
         if is_of_file(states, names, file, i) {
-            after = release_buffer(after, states, names, free, heads, chain, i);
+            after = release_buffer(after, states, names, free, heads, chain, BufferNumber(i));
         }
         i += 1;
     }
@@ -162,6 +166,16 @@ fn release_file(
 pub struct Dropped {
     pub control: Control,
     pub answer: Accepted,
+}
+
+// A refused drop hands the control record back.
+fn refused(control: Control, k: u32) -> Dropped
+    ensures { λ r. ⌜ r ≡ record { control = control; answer = Refused k } ⌝ }
+{
+    Dropped {
+        control: control,
+        answer: Accepted::Refused(k),
+    }
 }
 
 // A file's buffers are emptied, and it has no blocks.
@@ -202,22 +216,13 @@ pub fn drop_file(
         store,
     );
     if k != 0 {
-        return Dropped {
-            control: control,
-            answer: Accepted::Refused(k),
-        };
+        return refused(control, k);
     }
     let Row::At(row) = find_row(rows, file) else {
-        return Dropped {
-            control: control,
-            answer: Accepted::Refused(3),
-        };
+        return refused(control, NO_FILE);
     };
     if any_pinned(states, names, file) {
-        return Dropped {
-            control: control,
-            answer: Accepted::Refused(14),
-        };
+        return refused(control, FILE_PINNED);
     }
     let after = release_file(
         control,

@@ -4,10 +4,12 @@ ghost use mathlib.Core.Path.{_≡_};
 ghost use mathlib.Core.Bool.{true};
 ghost use Rattle.bufmodel.specs.Sizes.{soundRows};
 ghost use Rattle.bufpages.specs.Name.{sought};
-use bufleaf::rows::Row;
-use bufleaf::rows::blocks_at;
-use bufleaf::rows::find_row;
-use bufleaf::rows::start_of;
+use bufmodel::refusal::NO_BLOCK;
+use bufmodel::refusal::NO_FILE;
+use bufrows::rows::Row;
+use bufrows::rows::blocks_at;
+use bufrows::rows::find_row;
+use bufrows::rows::start_of;
 use buftag::name::PageName;
 
 // A page's place in the store, or the number that refuses its name.
@@ -23,10 +25,10 @@ pub fn seek(rows: &[u32], name: PageName) -> Sought
     let file = name.file;
     let block = name.block.0;
     let Row::At(row) = find_row(rows, file) else {
-        return Sought::Refused(3);
+        return Sought::Refused(NO_FILE);
     };
     if block >= blocks_at(rows, row) {
-        return Sought::Refused(4);
+        return Sought::Refused(NO_BLOCK);
     }
     Sought::At(start_of(rows, row) as usize + block as usize)
 }

@@ -3,7 +3,7 @@
 ghost use mathlib.Core.Path.{_≡_};
 ghost use Rattle.bufmodel.specs.Memory.{memory};
 ghost use Rattle.bufmodel.specs.Answer.{peekedAt};
-ghost use Rattle.bufmodel.specs.Calls.{peek};
+ghost use Rattle.bufmodel.specs.Calls.{part, peek};
 use crate::name::Sought;
 use crate::name::seek;
 use bufbooks::lent::refusal;
@@ -58,5 +58,50 @@ pub fn peek_at(
             };
             Peeked::InPool((buffer.0 * control.size) as u64)
         }
+    }
+}
+
+// The part itself: bytes of the pool or of the store, whichever has the page, and none where the call is refused.
+pub fn peek_part<'a>(
+    control: Control,
+    states: &[u32],
+    names: &[u32],
+    pool: &'a [u8],
+    free: &[i32],
+    heads: &[i32],
+    chain: &[i32],
+    rows: &[u32],
+    store: &'a [u8],
+    name: PageName,
+) -> &'a [u8]
+    ensures { λ r.
+        ⌜ now r
+        ≡ part
+        (peek
+        (memory control (now (states .entry)) (now (names .entry)) (now (pool .entry)) (now (free .entry)) (now (heads .entry))
+        (now (chain .entry)) (now (rows .entry)) (now (store .entry))) name) ⌝ }
+{
+    let place = peek_at(
+        control,
+        states,
+        names,
+        pool,
+        free,
+        heads,
+        chain,
+        rows,
+        store,
+        name,
+    );
+    match place {
+        Peeked::InPool(at) => {
+            let from = at as usize;
+            &pool[from..from + control.size]
+        }
+        Peeked::InStore(at) => {
+            let from = at as usize;
+            &store[from..from + control.size]
+        }
+        Peeked::Refused(_) => &pool[0..0],
     }
 }

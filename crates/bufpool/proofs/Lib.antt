@@ -1,2 +1,0 @@
-pub mod WordsLaws
-pub mod ExportLaws

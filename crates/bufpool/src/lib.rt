@@ -1,4 +1,8 @@
-// What the pool's calls for C are made of: the answer's words and the control record's.
+// The pool for programs in C: the twelve calls over lent memory, each handed on to the crate that has it.
 
-pub mod answer;
-pub mod control;
+pub mod back;
+pub mod buffer;
+pub mod file;
+pub mod log;
+pub mod page;
+pub mod set_up;

@@ -6,6 +6,7 @@ ghost use lib.ListN.{length};
 ghost use Rattle.buftag.specs.Name.{bucketOf};
 ghost use Rattle.buftag.specs.Chain.{enterHeads, enterChain, prev, pastHeads, pastChain, leaveChain};
 use crate::link::Link;
+use crate::link::NONE;
 use crate::link::leads_to;
 use crate::link::link_at;
 use crate::name::PageName;
@@ -83,7 +84,7 @@ fn leave(heads: &mut [i32], chain: &mut [i32], b: usize, i: usize)
     ensures { λ _. ⌜ now (chain .exit) ≡ leaveChain (now (heads .entry)) (now (chain .entry)) b i ⌝ }
 {
     lead_past(heads, chain, b, i);
-    chain[i] = -1;
+    chain[i] = NONE;
 }
 
 // A buffer leaves the bucket of its name.

@@ -46,16 +46,16 @@ pub fn count_used(words: &[u32]) -> usize
     n
 }
 
-// Whether buffer `i` is the first with its name in the chain that starts at `first`.
-pub fn is_first(chain: &[i32], names: &[u32], first: Link, i: usize) -> bool
-    requires { ⌜ (length (now names) ≡ nameWords * length (now chain)) × (i < length (now chain)) ⌝ }
-    ensures { λ r. ⌜ r ≡ isFirst (now (chain .entry)) (now (names .entry)) first i ⌝ }
+// Whether a buffer is the first with its name in the chain that starts at `first`.
+pub fn is_first(chain: &[i32], names: &[u32], first: Link, buffer: BufferNumber) -> bool
+    requires { ⌜ (length (now names) ≡ nameWords * length (now chain)) × (buffer .0 < length (now chain)) ⌝ }
+    ensures { λ r. ⌜ r ≡ isFirst (now (chain .entry)) (now (names .entry)) first (buffer .0) ⌝ }
 {
-    let name = stored(names, BufferNumber(i));
+    let name = stored(names, buffer);
     let Held::At(found) = find_from(chain, names, name, first) else {
         return false;
     };
-    found.0 == i
+    found.0 == buffer.0
 }
 
 // Whether a buffer in use is found under its name, or an empty one has chain link -1.
@@ -67,7 +67,7 @@ fn is_standing(words: &[u32], names: &[u32], heads: &[i32], chain: &[i32], i: us
         return is_end(link_at(chain, i));
     }
     let b = bucket(stored(names, BufferNumber(i)), heads.len());
-    is_first(chain, names, link_at(heads, b), i)
+    is_first(chain, names, link_at(heads, b), BufferNumber(i))
 }
 
 fn all_standing(words: &[u32], names: &[u32], heads: &[i32], chain: &[i32]) -> bool

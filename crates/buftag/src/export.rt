@@ -5,25 +5,9 @@ ghost use mathlib.Core.Bool.{cond};
 ghost use lib.Dec.{eqb};
 ghost use lib.ListN.{length};
 ghost use Rattle.buftag.specs.Name.{nameOf, nameBytes, hashOf};
-use crate::name::FileName;
-use crate::name::PageName;
 use crate::name::hash;
+use crate::name::page_name;
 use crate::name::put_bytes;
-use crate::number::BlockNumber;
-
-fn name_of(tablespace: u32, database: u32, relation: u32, fork: u32, block: u32) -> PageName
-    ensures { λ r. ⌜ r ≡ nameOf tablespace database relation fork block ⌝ }
-{
-    PageName {
-        file: FileName {
-            tablespace: tablespace,
-            database: database,
-            relation: relation,
-            fork: fork,
-        },
-        block: BlockNumber(block),
-    }
-}
 
 // The hash of a name.
 #[no_mangle]
@@ -36,7 +20,7 @@ pub extern "C" fn buftag_hash(
 ) -> u32
     ensures { λ r. ⌜ r ≡ hashOf (nameOf tablespace database relation fork block) ⌝ }
 {
-    hash(name_of(tablespace, database, relation, fork, block))
+    hash(page_name(tablespace, database, relation, fork, block))
 }
 
 // Fills `out` with a name's 20 bytes and answers 0; where `out` has another length, it stays as it is and the answer is 1.
@@ -57,6 +41,6 @@ pub extern "C" fn buftag_bytes(
     if out.len() != 20 {
         return 1;
     }
-    put_bytes(out, name_of(tablespace, database, relation, fork, block));
+    put_bytes(out, page_name(tablespace, database, relation, fork, block));
     0
 }

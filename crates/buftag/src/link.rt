@@ -5,13 +5,18 @@ ghost use Prim.Native.Nat.{_<_};
 ghost use lib.ListN.{length};
 ghost use Rattle.buftag.specs.Link.{linkOf, linkAt, isEnd, isTo};
 
+// The number that ends a list, and the link of a place in no list.
+pub const NONE: i32 = -1;
+
+pub const OFF: i32 = -2;
+
 // What a link says.
 pub enum Link {
     // The list goes on at this place.
     To(usize),
-    // -1: the list ends.
+    // NONE: the list ends.
     End,
-    // -2: this place is in no list.
+    // OFF: this place is in no list.
     Off,
     // Any other negative number, which no link is.
     Bad,
@@ -22,10 +27,10 @@ pub fn read_link(x: i32) -> Link
     ensures { λ r. ⌜ r ≡ linkOf x ⌝ }
 {
     if x < 0 {
-        if x == -1 {
+        if x == NONE {
             return Link::End;
         }
-        if x == -2 {
+        if x == OFF {
             return Link::Off;
         }
         return Link::Bad;

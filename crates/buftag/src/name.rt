@@ -5,7 +5,7 @@ ghost use Prim.Native.Nat.{_<_};
 ghost use lib.ListN.{length};
 ghost use Rattle.buftag.specs.Bytes.{wordBytes};
 ghost use Rattle.buftag.specs.Fnv.{fnv, fnvStart};
-ghost use Rattle.buftag.specs.Name.{fileBytes, nameBytes, hashOf, bucketOf, sameFile, sameName, isFork};
+ghost use Rattle.buftag.specs.Name.{fileOf, nameOf, fileBytes, nameBytes, hashOf, bucketOf, sameFile, sameName, isFork};
 use crate::bytes::put_word;
 use crate::fnv::mix_word;
 use crate::number::BlockNumber;
@@ -27,6 +27,33 @@ pub struct FileName {
 pub struct PageName {
     pub file: FileName,
     pub block: BlockNumber,
+}
+
+// The file of these numbers.
+pub fn file_name(tablespace: u32, database: u32, relation: u32, fork: u32) -> FileName
+    ensures { λ r. ⌜ r ≡ fileOf tablespace database relation fork ⌝ }
+{
+    FileName {
+        tablespace: tablespace,
+        database: database,
+        relation: relation,
+        fork: fork,
+    }
+}
+
+// The page of these.
+pub fn page_name(tablespace: u32, database: u32, relation: u32, fork: u32, block: u32) -> PageName
+    ensures { λ r. ⌜ r ≡ nameOf tablespace database relation fork block ⌝ }
+{
+    PageName {
+        file: FileName {
+            tablespace: tablespace,
+            database: database,
+            relation: relation,
+            fork: fork,
+        },
+        block: BlockNumber(block),
+    }
 }
 
 pub fn is_fork(fork: u32) -> bool

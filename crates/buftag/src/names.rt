@@ -4,7 +4,7 @@ ghost use mathlib.Core.Path.{_≡_};
 ghost use Prim.Native.Nat.{_+_, _*_, _≤_};
 ghost use lib.ListN.{length};
 ghost use Rattle.buftag.specs.Name.{sameName};
-ghost use Rattle.buftag.specs.Names.{nameWords, nameAt, setName};
+ghost use Rattle.buftag.specs.Names.{nameWords, nameAt, setName, noName};
 use crate::name::FileName;
 use crate::name::PageName;
 use crate::name::same;
@@ -12,6 +12,21 @@ use crate::number::BlockNumber;
 use crate::number::BufferNumber;
 
 pub const NAME_WORDS: usize = 5;
+
+// An empty buffer's name.
+pub fn no_name() -> PageName
+    ensures { λ r. ⌜ r ≡ noName ⌝ }
+{
+    PageName {
+        file: FileName {
+            tablespace: 0,
+            database: 0,
+            relation: 0,
+            fork: 0,
+        },
+        block: BlockNumber(0),
+    }
+}
 
 // A buffer's name.
 pub fn stored(names: &[u32], buffer: BufferNumber) -> PageName

@@ -38,7 +38,8 @@ counted-wrong false n e = refl
 -- the lent memory, where the buffers in use are counted
 abbrev lent : tie.After-counted → Memory
 lent c =
-    let a = c .before .before .before .before .before .before .before .before .before .before .before .before .before .before .args in
+    let flushed = c .before .before .before .before .before .before .before .before .before in
+    let a = flushed .before .before .before .before .before .before .before .before .args in
     memory (a .control) (now (a .states)) (now (a .names)) (now (a .pool)) (now (a .free)) (now (a .heads)) (now (a .chain)) (now (a .rows))
     []
 
@@ -77,6 +78,11 @@ hash-rows-requires c κs =
     let s = c .before .before .before .before .before .before .before .before .before in
     rows-say (s .args .rows .now) .holds (s .pre .rows) .few
 
+guess-rows-requires : tie.Need-guess-rows-requires
+guess-rows-requires c κs =
+    let s = c .before .before .before .before .before .before .before .before .before .before .before in
+    rows-say (s .args .rows .now) .holds (s .pre .rows) .few
+
 buffers-ok-requires : tie.Need-buffers-ok-requires
 buffers-ok-requires c κs = search needs
 
@@ -89,7 +95,7 @@ enum-told c = search needs
 returns-3 : tie.Need-returns-3
 returns-3 c =
     let b = c .before .before in
-    let l = b .before .before .before .before in
+    let l = b .before .before .before .before .before .before .before in
     let d = l .before .before in
     let s = d .before .before .before .before .before .before in
     books-buffers _ (s .pre) (d .if1 .left) (l .if2 .left)
@@ -113,7 +119,7 @@ returns-4 : tie.Need-returns-4
 returns-4 c =
     let w = c .before in
     let d = w .before .before .before .before .before in
-    let l = d .before .before .before .before .before .before in
+    let l = d .before .before .before .before .before .before .before .before .before in
     let h = l .before .before in
     let s = h .before .before .before .before .before .before in
     books-free _ (s .pre) (h .if1 .left) (l .if2 .left) (passed d .0) (sym (free-told w) ∙ not-true _ (c .if3 .taken))
@@ -129,7 +135,7 @@ returns-5 c =
     let e = c .before .before in
     let w = e .before in
     let d = w .before .before .before .before .before in
-    let l = d .before .before .before .before .before .before in
+    let l = d .before .before .before .before .before .before .before .before .before in
     let h = l .before .before in
     let s = h .before .before .before .before .before .before in
     chains-walked (lent d) (c .is-spent2 .ensures) (c .before .lists-walk .ensures) (passed d .1)
@@ -142,6 +148,7 @@ books-ok-spec =
     returns
     returns-2
     hash-rows-requires
+    guess-rows-requires
     buffers-ok-requires
     enum-known-counted
     enum-told

@@ -2,9 +2,8 @@ use borrow.Author.Needs.{needs}
 use borrow.Author.Tests.{not-true, not-false}
 use native.Mathlib.Omega.{arith}
 use Rattle.bufbooks.specs.Buffers.{bufferTest}
-use Rattle.bufleaf.specs.Rows.{foundRow}
 use Rattle.bufbooks.proofs.BuffersLaws.{buffer-empty, buffer-unfit, buffer-held, pass-wrong, pass-done}
-use Rattle.bufmodel.specs.Books.{isFound, emptyAt}
+use Rattle.bufmodel.specs.Books.{emptyAt}
 use Rattle.bufmodel.specs.Memory.{Memory, memory, buffers, size}
 use Rattle.bufmodel.specs.Word.{empty}
 use Rattle.buftag.specs.Lookup.{used}
@@ -24,12 +23,12 @@ use Rattle.bufbooks.proofs.buffers.buffers_ok.Statement.{statement}
 use Rattle.bufbooks.proofs.buffers.buffers_ok.Tie as tie
 
 abbrev Inv-loop : tie.InvT-loop
-Inv-loop control states names pool free heads chain rows hashes used₀ near₀ i₀ n near i =
+Inv-loop control states names pool free heads chain rows hashes guesses used₀ i₀ n i =
     (i ≤ length states) × (all i (bufferTest (memory control states names pool free heads chain rows [])) ≡ true)
     × (n ≡ count i (used states))
 
 abbrev μ-loop : tie.MeasureT-loop
-μ-loop control states names pool free heads chain rows hashes used₀ near₀ i₀ n near i = length states - i
+μ-loop control states names pool free heads chain rows hashes guesses used₀ i₀ n i = length states - i
 
 -- the memory lent, and the buffer looked at
 abbrev lent : tie.Start Inv-loop μ-loop → Memory
@@ -97,35 +96,27 @@ returns-2 c =
     pass-wrong m i (inside d)
     (buffer-unfit m i (blank d ∙ c .before .before .if1 .left) (sym (c .before .used-ok .ensures) ∙ not-true _ (c .if3 .taken)))
 
-row-held-requires : tie.Need-row-held-requires Inv-loop μ-loop
-row-held-requires c κs =
+held-ok-requires : tie.Need-held-ok-requires Inv-loop μ-loop
+held-ok-requires c κs =
     let d = c .before .before .before in
     let s = entry d in
     let fit = s .pre .0 in
     (fit .buckets, omega (arith, fit .names, fit .chain), omega (arith, inside d, fit .chain), fit .rows, s .pre .1)
 
-enum-known-row : tie.Need-enum-known-row Inv-loop μ-loop
-enum-known-row c = search needs
-
-enum-told : tie.Need-enum-told Inv-loop μ-loop
-enum-told c = search needs
-
 returns-3 : tie.Need-returns-3 Inv-loop μ-loop
-unfolding foundRow
 returns-3 c =
-    let h = c .before .before in
+    let h = c .before in
     let u = h .before .before in
     let d = u .before .before in
     let m = lent (entry d) in
     let i = place d in
     pass-wrong m i (inside d)
     (buffer-held m i (blank d ∙ u .before .if1 .left) (sym (u .used-ok .ensures) ∙ not-false _ (h .before .if3 .left))
-    (h .row-held .result) (h .row-held .ensures)
-    ∙ ap (λ r. isFound (foundRow r)) (c .enum-told .given .1))
+    (sym (h .held-ok .ensures) ∙ not-true _ (c .if4 .taken)))
 
 add-used : tie.Need-add-used Inv-loop μ-loop
 add-used c =
-    let d = c .before .before .before .before .before .before .before in
+    let d = c .before .before .before .before .before in
     omega (arith, inside d, d .before .before .before .loop .inv .2, count-le (used (lent (entry d) .states)) (place d))
 
 add-i : tie.Need-add-i Inv-loop μ-loop
@@ -135,7 +126,6 @@ loop-less : tie.Need-loop-less Inv-loop μ-loop
 loop-less c = search needs
 
 loop-again : tie.Need-loop-again Inv-loop μ-loop
-unfolding foundRow
 loop-again c =
     let d = c .before in
     let m = lent (entry d) in
@@ -151,9 +141,9 @@ loop-again c =
     (λ w. (
       omega (arith, inside d),
       all-more (bufferTest m) i (inv .1)
-          (buffer-held m i (blank d ∙ w .0 .left) (sym (w .1 .ensures) ∙ not-false _ (w .2 .left)) (w .3 .result) (w .3 .ensures)
-          ∙ ap (λ r. isFound (foundRow r)) (w .5 .given .1)),
-      omega (arith, w .7, inv .2, count-hit (used (m .states)) i (counted d ∙ ap not (w .0 .left))),
+          (buffer-held m i (blank d ∙ w .0 .left) (sym (w .1 .ensures) ∙ not-false _ (w .2 .left))
+          (sym (w .3 .ensures) ∙ not-false _ (w .4 .left))),
+      omega (arith, w .5, inv .2, count-hit (used (m .states)) i (counted d ∙ ap not (w .0 .left))),
     ))
     (c .if1 .came)
 
@@ -177,9 +167,7 @@ buffers-ok-spec =
     returns
     used-ok-requires
     returns-2
-    row-held-requires
-    enum-known-row
-    enum-told
+    held-ok-requires
     returns-3
     add-used
     add-i

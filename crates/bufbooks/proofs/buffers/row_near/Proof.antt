@@ -1,5 +1,5 @@
 use borrow.Author.Needs.{needs}
-use Rattle.bufleaf.specs.Rows.{foundRow}
+use Rattle.bufrows.specs.Rows.{foundRow}
 use Rattle.bufmodel.proofs.RowsLaws.{row-is}
 use Rattle.bufmodel.proofs.SizesLaws.{rows-say}
 use Rattle.bufmodel.specs.Rows.{files, fileAt, rowOf}
@@ -19,8 +19,8 @@ returns c =
     let s = c .before .before .before .before in
     let a = s .args in
     let rows = now (a .rows) in
-    let same = says-same-file (fileAt rows (a .near)) (a .file) .holds (sym (c .before .is-file .ensures) ∙ c .if2 .taken) in
-    sym (row-is rows (rows-say rows .holds (s .pre)) (a .near) (c .before .before .if1 .taken)) ∙ ap (rowOf rows) same
+    let same = says-same-file (fileAt rows (a .guess)) (a .file) .holds (sym (c .before .is-file .ensures) ∙ c .if2 .taken) in
+    sym (row-is rows (rows-say rows .holds (s .pre)) (a .guess) (c .before .before .if1 .taken)) ∙ ap (rowOf rows) same
 
 find-row-requires : tie.Need-find-row-requires
 find-row-requires c κs = search needs

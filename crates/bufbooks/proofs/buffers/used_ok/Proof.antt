@@ -1,7 +1,7 @@
 use borrow.Author.Needs.{needs}
 use borrow.Author.Tests.{not-true, not-false}
 use Rattle.bufbooks.specs.Buffers.{usedTest}
-use Rattle.bufleaf.proofs.PositionLaws.{position-block}
+use Rattle.bufword.proofs.PositionLaws.{position-block}
 use Rattle.bufmodel.specs.Books.{isOff}
 use Rattle.bufmodel.specs.Word.{soundWord}
 use Rattle.buftag.specs.Link.{linkAt}

@@ -5,7 +5,8 @@ use mathlib.Core.Path.{ap, _∙_}
 use Prim.Native.Nat.{ℕ}
 use Rattle.laws.specs.Sum.{ind}
 use Rattle.bufmodel.specs.Memory.{Memory, memory}
-use Rattle.bufcalls.proofs.CallLaws.{Held, buffer-held, held-backed, flush-refused, flush-done}
+use Rattle.bufmoves.proofs.WholeLaws.{good-backed}
+use Rattle.bufcalls.proofs.CallLaws.{Held, buffer-held, flush-refused, flush-done}
 use Rattle.bufcalls.proofs.buffer.flush_buffer.Statement.{statement}
 use Rattle.bufcalls.proofs.buffer.flush_buffer.Tie as tie
 
@@ -51,7 +52,8 @@ one-if-requires c κs = search needs
 write-back-requires : tie.Need-write-back-requires
 write-back-requires c κs =
     let e = c .before .before .before .before .before in
-    (held-backed (lent (e .before)) (at (e .before)) (held e), held e .within)
+    let h = held e in
+    (good-backed (lent (e .before)) (h .good) (at (e .before)) (h .within), h .within)
 
 same-length-3 : tie.Need-same-length-3
 same-length-3 c = search needs

@@ -7,7 +7,7 @@ use Rattle.bufmodel.specs.Memory.{Memory, memory, buffers}
 use Rattle.bufmodel.specs.Calls.{checkpoint}
 use Rattle.bufmodel.proofs.OutcomeLaws.{refusal-none}
 use Rattle.bufmodel.proofs.GoodLaws.{passed-good}
-use Rattle.bufcalls.proofs.EndLaws.{end-first, end-done, written-refused, written-done}
+use Rattle.bufmodel.proofs.AnswerLaws.{end-first, end-done, written-refused, written-done}
 use Rattle.bufcalls.proofs.CheckpointLaws.{good-stored, linked, up-linked}
 use Rattle.bufcalls.proofs.checkpoint.checkpoint_pool.Statement.{statement}
 use Rattle.bufcalls.proofs.checkpoint.checkpoint_pool.Tie as tie
@@ -56,7 +56,7 @@ returns-2 c =
     let n = w .before .before .before in
     let e = n .before .before in
     let m = lent (entry (e .before)) in
-    let end = written-done (end-done m [] [] _ (e .before .refusal .ensures) (e .if1 .left) refusal-none) in
+    let end = written-done (end-done m [] [] _ (passed-good m (e .before .refusal .ensures) (e .if1 .left)) refusal-none) in
     (ap Pages (n .count-dirty .ensures) ∙ end .0, ap (linked m) (w .write-all .ensures) ∙ sym (up-linked m (buffers m)) ∙ end .1)
 
 pub checkpoint-pool-spec : {M : Type 1} → statement M

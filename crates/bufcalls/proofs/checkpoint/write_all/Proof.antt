@@ -1,16 +1,24 @@
 use borrow.Author.Needs.{needs}
 use denote.Ref.{now}
 use lib.ListN.{length}
-use mathlib.Core.List.{[]}
+use mathlib.Core.List.{List, []}
+use mathlib.Core.Logic.{⊎-elim}
 use mathlib.Core.Path.{_≡_, sym, _∙_, ap, subst}
 use native.Mathlib.Omega.{arith}
 use Prim.Native.Nat.{ℕ, _≤_, _<_, _-_}
+use Rattle.bufmodel.specs.declared.control.Control.{Control}
 use Rattle.bufmodel.specs.Memory.{Memory, memory, buffers}
 use Rattle.bufmodel.specs.Moves.{writeBack, writeUpTo}
+use Rattle.bufmoves.proofs.BackLaws.{back-clean}
 use Rattle.bufcalls.specs.Checkpoint.{Stored}
 use Rattle.bufcalls.proofs.CheckpointLaws.{UpTo, up-none, up-more, up-to, stored-backed}
 use Rattle.bufcalls.proofs.checkpoint.write_all.Statement.{statement}
 use Rattle.bufcalls.proofs.checkpoint.write_all.Tie as tie
+
+-- a memory with parts that are equal to those of another
+same : (d : Memory) {c : Control} {states store : List ℕ} → c ≡ d .control → states ≡ d .states → store ≡ d .store
+    → memory c states (d .names) (d .pool) (d .free) (d .heads) (d .chain) (d .rows) store ≡ d
+same d a b c = rw (a, b, c)
 
 abbrev Inv-loop : tie.InvT-loop
 Inv-loop states₀ names pool rows store₀ n after₀ i₀ states store after i =
@@ -47,11 +55,23 @@ many c = ap (λ (x : Memory). buffers x) (c .loop .inv .1) ∙ kept c .states
 loop-holds : tie.Need-loop-holds Inv-loop μ-loop
 loop-holds c = (search needs, up-none _)
 
+inside : (c : tie.In-loop Inv-loop μ-loop) → c .before .loop .i < buffers (head (c .before))
+inside c = omega (arith, many (c .before), c .loop-test .taken)
+
+mul-is-dirty : tie.Need-mul-is-dirty Inv-loop μ-loop
+mul-is-dirty c = search needs
+
+slice-read-is-dirty : tie.Need-slice-read-is-dirty Inv-loop μ-loop
+slice-read-is-dirty c = inside (c .before)
+
+is-dirty-requires : tie.Need-is-dirty-requires Inv-loop μ-loop
+is-dirty-requires c κs = search needs
+
 write-back-requires : tie.Need-write-back-requires Inv-loop μ-loop
 write-back-requires c κs =
-    let p = c .before .before .before in
-    let h : p .loop .i < buffers (head p) = omega (arith, many p, c .before .before .loop-test .taken) in
-    (stored-backed (head p) (stored p) (p .loop .i) h, h)
+    let t = c .before .before .before .before .before in
+    let p = t .before in
+    (stored-backed (head p) (stored p) (p .loop .i) (inside t), inside t)
 
 add-i : tie.Need-add-i Inv-loop μ-loop
 add-i c = search needs
@@ -61,10 +81,23 @@ loop-less c = search needs
 
 loop-again : tie.Need-loop-again Inv-loop μ-loop
 loop-again c =
-    let w = c .before .before .before .before in
-    let p = w .before .before .before .before in (
+    let d = c .before in
+    let p = d .before .before .before in
+    let i = p .loop .i in
+    let h = head p in
+    let more = ap (λ (x : Memory). writeBack x i) (p .loop .inv .1) ∙ up-more (entry p) i in (
       search needs,
-      w .write-back .ensures ∙ ap (λ (x : Memory). writeBack x (p .loop .i)) (p .loop .inv .1) ∙ up-more (entry p) (p .loop .i),
+      ⊎-elim
+          (λ w.
+          let r = w .3 in
+          let o : Memory = memory (r .result) (r .last .1 .0) (h .names) (h .pool) [] [] [] (h .rows)
+          (r .last .1 .1 .1 .1 .1 .0) in
+          same o (w .10) (w .8) (w .9) ∙ r .ensures ∙ more)
+          (λ w.
+          same h (w .3) (w .1) (w .2)
+          ∙ back-clean (h .control) (h .states) (h .names) (h .pool) (h .rows) (h .store) i (sym (d .is-dirty .ensures) ∙ w .0 .left)
+          ∙ more)
+          (c .if1 .came),
     )
 
 same-length : tie.Need-same-length Inv-loop μ-loop
@@ -88,6 +121,9 @@ write-all-spec =
     Inv-loop
     μ-loop
     loop-holds
+    mul-is-dirty
+    slice-read-is-dirty
+    is-dirty-requires
     write-back-requires
     add-i
     loop-less

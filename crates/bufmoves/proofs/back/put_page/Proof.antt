@@ -7,14 +7,14 @@ use Rattle.bufmodel.specs.Rows.{placeOf}
 use Rattle.bufmodel.specs.Moves.{putAt}
 use Rattle.bufmodel.proofs.RowsLaws.{place-in}
 use Rattle.bufmodel.proofs.SizesLaws.{rows-say}
-use Rattle.bufleaf.specs.Place.{foundPlace}
+use Rattle.bufrows.specs.Place.{foundPlace}
 use Rattle.bufmoves.proofs.back.put_page.Statement.{statement}
 use Rattle.bufmoves.proofs.back.put_page.Tie as tie
 
 -- what the search for the page's place answered
 place : (c : tie.After-place-of)
     → let a = c .before .before .before .before .before .before .args in
-    foundPlace (c .place-of .result) ≡ placeOf (now (a .rows)) (nameAt (now (a .names)) (a .i))
+    foundPlace (c .place-of .result) ≡ placeOf (now (a .rows)) (nameAt (now (a .names)) (a .buffer .0))
 place c = c .place-of .ensures ∙ ap (placeOf _) (c .before .stored .ensures)
 
 stored-requires : tie.Need-stored-requires

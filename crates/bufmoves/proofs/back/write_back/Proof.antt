@@ -3,7 +3,7 @@ use denote.Ref.{now}
 use borrow.Author.Tests.{not-true, not-false}
 use mathlib.Core.Path.{sym, _∙_}
 use Rattle.bufmoves.proofs.BackLaws.{back-clean, back-dirty}
-use Rattle.bufleaf.proofs.PositionLaws.{position-block}
+use Rattle.bufword.proofs.PositionLaws.{position-block}
 use Rattle.bufmoves.proofs.back.write_back.Statement.{statement}
 use Rattle.bufmoves.proofs.back.write_back.Tie as tie
 
@@ -20,7 +20,7 @@ returns : tie.Need-returns
 returns c =
     let d = c .before in
     let a = d .before .before .before .before .before .before .before .args in
-    back-clean (a .control) (now (a .states)) (now (a .names)) (now (a .pool)) (now (a .rows)) (now (a .store)) (a .i)
+    back-clean (a .control) (now (a .states)) (now (a .names)) (now (a .pool)) (now (a .rows)) (now (a .store)) (a .buffer .0)
     (sym (d .is-dirty .ensures) ∙ not-true _ (c .if1 .taken))
 
 mul-position-at : tie.Need-mul-position-at
@@ -57,9 +57,9 @@ returns-2 c =
     let e = f .before .before .before in
     let s = e .before .before .before .before .before .before .before .before in
     let a = s .args in
-    back-dirty (a .control) (now (a .states)) (now (a .names)) (now (a .pool)) (now (a .rows)) (now (a .store)) (a .i)
+    back-dirty (a .control) (now (a .states)) (now (a .names)) (now (a .pool)) (now (a .rows)) (now (a .store)) (a .buffer .0)
     (sym (e .before .is-dirty .ensures) ∙ not-false _ (e .if1 .left))
-    (f .before .position-at .ensures ∙ position-block (a .control .size) (a .i) (now (a .pool)) (s .pre .0 .page))
+    (f .before .position-at .ensures ∙ position-block (a .control .size) (a .buffer .0) (now (a .pool)) (s .pre .0 .page))
     (f .flushed-to .ensures)
     (p .put-page .ensures)
     (c .make-clean .ensures)

@@ -17,26 +17,26 @@ add-a-end c = search needs
 add-b-end : tie.Need-add-b-end
 add-b-end c = search needs
 
-sub-copy-bytes : tie.Need-sub-copy-bytes
-sub-copy-bytes c = search needs
+sub-copy-page : tie.Need-sub-copy-page
+sub-copy-page c = search needs
 
-part-copy-bytes-start : tie.Need-part-copy-bytes-start
-part-copy-bytes-start c = search needs
+part-copy-page-start : tie.Need-part-copy-page-start
+part-copy-page-start c = search needs
 
-part-copy-bytes-end : tie.Need-part-copy-bytes-end
-part-copy-bytes-end c = search needs
+part-copy-page-end : tie.Need-part-copy-page-end
+part-copy-page-end c = search needs
 
-sub-copy-bytes-2 : tie.Need-sub-copy-bytes-2
-sub-copy-bytes-2 c = search needs
+sub-copy-page-2 : tie.Need-sub-copy-page-2
+sub-copy-page-2 c = search needs
 
-part-copy-bytes-start-2 : tie.Need-part-copy-bytes-start-2
-part-copy-bytes-start-2 c = search needs
+part-copy-page-start-2 : tie.Need-part-copy-page-start-2
+part-copy-page-start-2 c = search needs
 
-part-copy-bytes-end-2 : tie.Need-part-copy-bytes-end-2
-part-copy-bytes-end-2 c = search needs
+part-copy-page-end-2 : tie.Need-part-copy-page-end-2
+part-copy-page-end-2 c = search needs
 
-copy-bytes-requires : tie.Need-copy-bytes-requires
-copy-bytes-requires c κs = search needs
+copy-page-requires : tie.Need-copy-page-requires
+copy-page-requires c κs = search needs
 
 same-length : tie.Need-same-length
 same-length c = search needs
@@ -46,7 +46,7 @@ unfolding putBlock block
 returns c =
     let b = c .before .before in
     let a = b .before .before .before .before .before .args in
-    rw (b .copy-bytes .ensures, add-sub-cancel-left (a .t * a .size) (a .size), add-sub-cancel-left (a .f * a .size) (a .size))
+    rw (b .copy-page .ensures, add-sub-cancel-left (a .t * a .size) (a .size), add-sub-cancel-left (a .f * a .size) (a .size))
 
 pub copy-block-spec : {M : Type 1} → statement M
 copy-block-spec =
@@ -56,12 +56,12 @@ copy-block-spec =
     mul-b
     add-a-end
     add-b-end
-    sub-copy-bytes
-    part-copy-bytes-start
-    part-copy-bytes-end
-    sub-copy-bytes-2
-    part-copy-bytes-start-2
-    part-copy-bytes-end-2
-    copy-bytes-requires
+    sub-copy-page
+    part-copy-page-start
+    part-copy-page-end
+    sub-copy-page-2
+    part-copy-page-start-2
+    part-copy-page-end-2
+    copy-page-requires
     same-length
     returns)

@@ -60,8 +60,8 @@ returns c =
     let n = p .before .before in
     let a = n .before .before .before .before .before .args in
     loaded-in (a .control) (now (a .states)) (now (a .names)) (now (a .pool)) (now (a .free)) (now (a .heads)) (now (a .chain))
-    (now (a .store)) (a .i) (a .name) (a .g)
-    (element-back (now (a .free)) (a .i) (n .next .given))
+    (now (a .store)) (a .buffer .0) (a .name) (a .g)
+    (element-back (now (a .free)) (a .buffer .0) (n .next .given))
     (c .loaded-word .ensures)
     (p .put-name .ensures)
     (c .before .before .before .copy-block .ensures)

@@ -66,13 +66,14 @@ returns c =
     let h = now (a .heads) in
     let l = now (a .chain) in
     let leaves =
-    leave-is (now (a .states)) (now (a .names)) h l (a .i) (omega (arith, w .one, w .chain)) (w .buckets) (s .pre .sound) (s .pre .used) in
-    released (a .control) (now (a .states)) (now (a .names)) [] (now (a .free)) (now (a .heads)) (now (a .chain)) [] (a .i)
-    (index-back (a .i) (omega (arith, w .one, w .few)))
+    leave-is (now (a .states)) (now (a .names)) h l (a .buffer .0) (omega (arith, w .one, w .chain)) (w .buckets)
+    (s .pre .sound) (s .pre .used) in
+    released (a .control) (now (a .states)) (now (a .names)) [] (now (a .free)) (now (a .heads)) (now (a .chain)) [] (a .buffer .0)
+    (index-back (a .buffer .0) (omega (arith, w .one, w .few)))
     (bits-back (a .control .top) (record { sfits = c .struct-told .given .1 .1 .0 .1 }))
-    (p .put-name .ensures ∙ ap (setName (now (a .names)) (a .i)) (p .before .no-name .ensures))
-    (r .remove .ensures .0 ∙ ap (λ x. pastHeads h l (bucketOf x (length h)) (a .i)) (n .stored .ensures) ∙ leaves .0)
-    (r .remove .ensures .1 ∙ ap (λ x. leaveChain h l (bucketOf x (length h)) (a .i)) (n .stored .ensures) ∙ leaves .1)
+    (p .put-name .ensures ∙ ap (setName (now (a .names)) (a .buffer .0)) (p .before .no-name .ensures))
+    (r .remove .ensures .0 ∙ ap (λ x. pastHeads h l (bucketOf x (length h)) (a .buffer .0)) (n .stored .ensures) ∙ leaves .0)
+    (r .remove .ensures .1 ∙ ap (λ x. leaveChain h l (bucketOf x (length h)) (a .buffer .0)) (n .stored .ensures) ∙ leaves .1)
 
 pub release-buffer-spec : {M : Type 1} → statement M
 release-buffer-spec =

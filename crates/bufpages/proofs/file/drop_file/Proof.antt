@@ -10,9 +10,10 @@ use Rattle.bufmodel.specs.Memory.{Memory, memory}
 use Rattle.bufmodel.specs.Rows.{rowOf}
 use Rattle.bufmodel.proofs.GoodLaws.{Good, good-sized, good-sound}
 use Rattle.bufmodel.proofs.SizesLaws.{rows-say}
-use Rattle.bufleaf.proofs.RowsLaws.{row-at, row-none, row-fits}
+use Rattle.bufrows.proofs.RowsLaws.{row-at, row-none, row-fits}
 use Rattle.bufmodel.proofs.GoodLaws.{passed-good}
-use Rattle.bufpages.proofs.FileLaws.{refused-accepted, drop-early, drop-missing, drop-pinned, dropped}
+use Rattle.bufmodel.proofs.AnswerLaws.{accepted-refused}
+use Rattle.bufpages.proofs.FileLaws.{drop-early, drop-missing, drop-pinned, dropped}
 use Rattle.bufpages.proofs.file.drop_file.Statement.{statement}
 use Rattle.bufpages.proofs.file.drop_file.Tie as tie
 
@@ -51,6 +52,9 @@ rowed c = c .before .before .before .before
 refusal-requires : tie.Need-refusal-requires
 refusal-requires c κs = search needs
 
+refused-requires : tie.Need-refused-requires
+refused-requires c κs = search needs
+
 same-length : tie.Need-same-length
 same-length c = search needs
 
@@ -71,9 +75,10 @@ same-length-6 c = search needs
 
 returns : tie.Need-returns
 returns c =
-    let m = lent (c .before .before .before .before .before .before .before .before .before .before .before .before .before) in
-    let f = c .before .before .before .before .before .before .before .before .before .before .before .before .before .args .file in
-    refused-accepted m (c .if1 .taken) (drop-early m f (c .before .refusal .ensures) (c .if1 .taken))
+    let i = c .before in
+    let s = i .before .before .before .before .before .before .before .before .before .before .before .before .before in
+    rw (c .refused .ensures)
+    (accepted-refused (i .if1 .taken) (drop-early (lent s) (s .args .file) (i .before .refusal .ensures) (i .if1 .taken)))
 
 find-row-requires : tie.Need-find-row-requires
 find-row-requires c κs = search needs
@@ -83,6 +88,9 @@ enum-known-row c = search needs
 
 enum-told : tie.Need-enum-told
 enum-told c = search needs
+
+refused-requires-2 : tie.Need-refused-requires-2
+refused-requires-2 c κs = search needs
 
 same-length-7 : tie.Need-same-length-7
 same-length-7 c = search needs
@@ -104,14 +112,19 @@ same-length-12 c = search needs
 
 returns-2 : tie.Need-returns-2
 returns-2 c =
-    let e = c .before .before .before .before in
+    let t = c .before in
+    let e = t .before .before .before .before in
     let m = lent (start e) in
     let f = start e .args .file in
-    refused-accepted m (λ z. absurd (omega arith))
-    (drop-missing m f (good e) (row-none (m .rows) f (c .before .before .find-row .ensures) (c .enum-told .given .1)))
+    rw (c .refused2 .ensures)
+    (accepted-refused (λ z. absurd (omega arith))
+    (drop-missing m f (good e) (row-none (m .rows) f (t .before .before .find-row .ensures) (t .enum-told .given .1))))
 
 any-pinned-requires : tie.Need-any-pinned-requires
 any-pinned-requires c κs = good (c .before .before .before .before .before .before .before) .sizes .names
+
+refused-requires-3 : tie.Need-refused-requires-3
+refused-requires-3 c κs = search needs
 
 same-length-13 : tie.Need-same-length-13
 same-length-13 c = search needs
@@ -133,10 +146,12 @@ same-length-18 c = search needs
 
 returns-3 : tie.Need-returns-3
 returns-3 c =
-    let k = c .before .before .before .before in
+    let i = c .before in
+    let k = i .before .before .before .before in
     let m = lent (start (passed k)) in
-    refused-accepted m (λ z. absurd (omega arith))
-    (drop-pinned m (file k) (good (passed k)) (row-is k) (sym (c .before .any-pinned .ensures) ∙ c .if2 .taken))
+    rw (c .refused3 .ensures)
+    (accepted-refused (λ z. absurd (omega arith))
+    (drop-pinned m (file k) (good (passed k)) (row-is k) (sym (i .before .any-pinned .ensures) ∙ i .if2 .taken)))
 
 release-file-requires : tie.Need-release-file-requires
 release-file-requires c κs =
@@ -182,6 +197,7 @@ drop-file-spec =
     tie.close
     (tie.spec
     refusal-requires
+    refused-requires
     same-length
     same-length-2
     same-length-3
@@ -192,6 +208,7 @@ drop-file-spec =
     find-row-requires
     enum-known-row
     enum-told
+    refused-requires-2
     same-length-7
     same-length-8
     same-length-9
@@ -200,6 +217,7 @@ drop-file-spec =
     same-length-12
     returns-2
     any-pinned-requires
+    refused-requires-3
     same-length-13
     same-length-14
     same-length-15

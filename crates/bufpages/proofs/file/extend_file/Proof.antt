@@ -15,9 +15,10 @@ use Rattle.bufmodel.specs.Rows.{rowWords, blocksAt, capacityAt, rowOf, startOf,
 use Rattle.bufmodel.specs.Sizes.{maxFiles, maxBlocks}
 use Rattle.bufmodel.proofs.GoodLaws.{Good}
 use Rattle.bufmodel.proofs.SizesLaws.{rows-say}
-use Rattle.bufleaf.proofs.RowsLaws.{row-at, row-none, row-fits}
+use Rattle.bufrows.proofs.RowsLaws.{row-at, row-none, row-fits}
 use Rattle.bufmodel.proofs.GoodLaws.{passed-good}
-use Rattle.bufpages.proofs.FileLaws.{refused-extended, extend-early, extend-missing, extend-full}
+use Rattle.bufmodel.proofs.AnswerLaws.{extended-refused}
+use Rattle.bufpages.proofs.FileLaws.{extend-early, extend-missing, extend-full}
 use Rattle.bufpages.proofs.FileLaws.{next-less, next-in, extended-more}
 use Rattle.bufpages.proofs.file.extend_file.Statement.{statement}
 use Rattle.bufpages.proofs.file.extend_file.Tie as tie
@@ -73,7 +74,7 @@ same-length-2 c = search needs
 returns : tie.Need-returns
 returns c =
     let s = c .before .before .before .before .before .before .before .before .before in
-    refused-extended (lent s) (c .if1 .taken) (extend-early (lent s) (s .args .file) (c .before .refusal .ensures) (c .if1 .taken))
+    extended-refused (c .if1 .taken) (extend-early (lent s) (s .args .file) (c .before .refusal .ensures) (c .if1 .taken))
 
 find-row-requires : tie.Need-find-row-requires
 find-row-requires c κs = search needs
@@ -95,7 +96,7 @@ returns-2 c =
     let e = c .before .before .before .before in
     let m = lent (start e) in
     let f = start e .args .file in
-    refused-extended m (λ z. absurd (omega arith))
+    extended-refused (λ z. absurd (omega arith))
     (extend-missing m f (good e) (row-none (m .rows) f (c .before .before .find-row .ensures) (c .enum-told .given .1)))
 
 blocks-at-requires : tie.Need-blocks-at-requires
@@ -114,7 +115,7 @@ returns-3 : tie.Need-returns-3
 returns-3 c =
     let k = c .before .before .before .before .before in
     let m = lent (start (passed k)) in
-    refused-extended m (λ z. absurd (omega arith))
+    extended-refused (λ z. absurd (omega arith))
     (extend-full m (file k) (good (passed k)) (row-is k)
     (sym (c .before .before .before .blocks-at .ensures) ∙ c .if2 .taken ∙ c .before .capacity-at .ensures))
 

@@ -10,7 +10,7 @@ use Rattle.bufmodel.specs.Memory.{Memory, memory}
 use Rattle.bufmodel.specs.Moves.{releaseUpTo}
 use Rattle.bufmodel.proofs.GoodLaws.{Good, good-of}
 use Rattle.bufpages.proofs.FileLaws.{Way, way-up-to, file-chained, memory-same}
-use Rattle.bufpages.proofs.WholeLaws.{release-whole}
+use Rattle.bufmoves.proofs.WholeLaws.{release-whole}
 use Rattle.bufpages.proofs.FileLaws.{released-none, released-hit, released-miss}
 use Rattle.bufpages.proofs.file.release_file.Statement.{statement}
 use Rattle.bufpages.proofs.file.release_file.Tie as tie

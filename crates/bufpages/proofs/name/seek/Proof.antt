@@ -6,7 +6,7 @@ use mathlib.Core.Path.{_≡_, ap}
 use borrow.Author.Tests.{lt-ltb, le-ltb}
 use Rattle.laws.specs.First.{found}
 use Rattle.bufmodel.specs.Rows.{blocksAt, rowOf}
-use Rattle.bufleaf.proofs.RowsLaws.{row-at, row-none, row-fits}
+use Rattle.bufrows.proofs.RowsLaws.{row-at, row-none, row-fits}
 use Rattle.bufpages.specs.declared.name.Sought.the-variants.{At}
 use Rattle.bufpages.specs.Name.{soughtIn, sought}
 use Rattle.bufpages.proofs.name.seek.Statement.{statement}

@@ -22,23 +22,23 @@ enum-told c = search needs
 -- what the look-up from the chain's start on answered
 answer : (f : tie.After-find-from)
     → let a = f .before .before .before .args in
-    isAt (a .i) (f .find-from .result) ≡ isFirst (now (a .chain)) (now (a .names)) (a .first) (a .i)
+    isAt (a .buffer .0) (f .find-from .result) ≡ isFirst (now (a .chain)) (now (a .names)) (a .first) (a .buffer .0)
 unfolding isFirst
 answer f =
     let a = f .before .before .before .args in
-    ap (isAt (a .i))
+    ap (isAt (a .buffer .0))
     (f .find-from .ensures
     ∙ ap (λ n. walk (now (a .chain)) (now (a .names)) n (length (now (a .chain))) (a .first)) (f .before .stored .ensures))
 
 returns : tie.Need-returns
 returns c =
     let f = c .before .before in
-    ap (isAt (f .before .before .before .args .i)) (sym (c .enum-told .given .1)) ∙ answer f
+    ap (isAt (f .before .before .before .args .buffer .0)) (sym (c .enum-told .given .1)) ∙ answer f
 
 returns-2 : tie.Need-returns-2
 returns-2 c =
-    let f = c .before .before .before .before in
-    ap (isAt (f .before .before .before .args .i)) (sym (c .before .before .found .given .1)) ∙ answer f
+    let f = c .before .before .before .before .before in
+    ap (isAt (f .before .before .before .args .buffer .0)) (sym (c .before .before .before .found .given .1)) ∙ answer f
 
 pub is-first-spec : {M : Type 1} → statement M
 is-first-spec =

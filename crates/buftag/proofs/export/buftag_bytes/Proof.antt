@@ -10,8 +10,8 @@ use Rattle.buftag.proofs.export.buftag_bytes.Tie as tie
 returns : tie.Need-returns
 returns c = rw (ne-eqb (length (now (c .before .before .args .out))) 20 (c .if1 .taken)) (refl, refl)
 
-name-of-requires : tie.Need-name-of-requires
-name-of-requires c κs = search needs
+page-name-requires : tie.Need-page-name-requires
+page-name-requires c κs = search needs
 
 put-bytes-requires : tie.Need-put-bytes-requires
 put-bytes-requires c κs = search needs
@@ -23,8 +23,8 @@ returns-2 : tie.Need-returns-2
 returns-2 c =
     let s = c .before .before .before .before .before .before .before in
     rw (eq-eqb (length (now (s .args .out))) 20 (c .before .before .before .before .before .if1 .left))
-    (refl, c .before .before .put-bytes .ensures ∙ ap nameBytes (c .before .before .before .name-of .ensures))
+    (refl, c .before .before .put-bytes .ensures ∙ ap nameBytes (c .before .before .before .page-name .ensures))
 
 pub buftag-bytes-spec : {M : Type 1} → statement M
 buftag-bytes-spec =
-    tie.close (tie.spec returns name-of-requires put-bytes-requires same-length returns-2)
+    tie.close (tie.spec returns page-name-requires put-bytes-requires same-length returns-2)

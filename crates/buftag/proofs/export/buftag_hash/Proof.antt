@@ -4,14 +4,14 @@ use borrow.Author.Needs.{needs}
 use Rattle.buftag.proofs.export.buftag_hash.Statement.{statement}
 use Rattle.buftag.proofs.export.buftag_hash.Tie as tie
 
-name-of-requires : tie.Need-name-of-requires
-name-of-requires c κs = search needs
+page-name-requires : tie.Need-page-name-requires
+page-name-requires c κs = search needs
 
 hash-requires : tie.Need-hash-requires
 hash-requires c κs = search needs
 
 returns : tie.Need-returns
-returns c = c .hash .ensures ∙ ap hashOf (c .before .name-of .ensures)
+returns c = c .hash .ensures ∙ ap hashOf (c .before .page-name .ensures)
 
 pub buftag-hash-spec : {M : Type 1} → statement M
-buftag-hash-spec = tie.close (tie.spec name-of-requires hash-requires returns)
+buftag-hash-spec = tie.close (tie.spec page-name-requires hash-requires returns)

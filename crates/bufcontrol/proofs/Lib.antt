@@ -1,0 +1,4 @@
+pub mod LendLaws
+pub mod SizeLaws
+pub mod StoredLaws
+pub mod WalkLaws

@@ -1,0 +1,105 @@
+// Write-back: flush and checkpoint.
+
+ghost use mathlib.Core.Path.{_≡_};
+ghost use Rattle.bufmodel.specs.Memory.{memory};
+ghost use Rattle.bufmodel.specs.Answer.{writtenAt};
+ghost use Rattle.bufmodel.specs.Calls.{flush, checkpoint};
+use bufcalls::buffer::flush_buffer;
+use bufcalls::checkpoint::checkpoint_pool;
+use bufmodel::answer::Written;
+use bufmodel::control::Control;
+use buftag::number::BufferNumber;
+
+// Writes a pinned page back if it is dirty.
+pub fn flush(
+    control: &mut Control,
+    states: &mut [u32],
+    names: &[u32],
+    pool: &[u8],
+    free: &[i32],
+    heads: &[i32],
+    chain: &[i32],
+    rows: &[u32],
+    store: &mut [u8],
+    buffer: BufferNumber,
+) -> Written
+    ensures { λ r.
+        ⌜ r
+        ≡ writtenAt
+        (flush
+        (memory (now (control .entry)) (now (states .entry)) (now (names .entry)) (now (pool .entry)) (now (free .entry))
+        (now (heads .entry)) (now (chain .entry)) (now (rows .entry)) (now (store .entry))) (buffer .0) .refusal)
+        (flush
+        (memory (now (control .entry)) (now (states .entry)) (now (names .entry)) (now (pool .entry)) (now (free .entry))
+        (now (heads .entry)) (now (chain .entry)) (now (rows .entry)) (now (store .entry))) (buffer .0) .answer) ⌝ }
+    ensures { λ _.
+        ⌜ memory (now (control .exit)) (now (states .exit)) (now (names .entry)) (now (pool .entry)) (now (free .entry))
+        (now (heads .entry)) (now (chain .entry)) (now (rows .entry)) (now (store .exit))
+        ≡ flush
+        (memory (now (control .entry)) (now (states .entry)) (now (names .entry)) (now (pool .entry)) (now (free .entry))
+        (now (heads .entry)) (now (chain .entry)) (now (rows .entry)) (now (store .entry))) (buffer .0) .after ⌝ }
+{
+    let end = flush_buffer(
+        *control,
+        states,
+        names,
+        pool,
+        free,
+        heads,
+        chain,
+        rows,
+        store,
+        buffer,
+    );
+    control.hand = end.control.hand;
+    control.top = end.control.top;
+    control.inserted = end.control.inserted;
+    control.flushed = end.control.flushed;
+    end.answer
+}
+
+// Writes every dirty page back, rising.
+pub fn checkpoint(
+    control: &mut Control,
+    states: &mut [u32],
+    names: &[u32],
+    pool: &[u8],
+    free: &[i32],
+    heads: &[i32],
+    chain: &[i32],
+    rows: &[u32],
+    store: &mut [u8],
+) -> Written
+    ensures { λ r.
+        ⌜ r
+        ≡ writtenAt
+        (checkpoint
+        (memory (now (control .entry)) (now (states .entry)) (now (names .entry)) (now (pool .entry)) (now (free .entry))
+        (now (heads .entry)) (now (chain .entry)) (now (rows .entry)) (now (store .entry))) .refusal)
+        (checkpoint
+        (memory (now (control .entry)) (now (states .entry)) (now (names .entry)) (now (pool .entry)) (now (free .entry))
+        (now (heads .entry)) (now (chain .entry)) (now (rows .entry)) (now (store .entry))) .answer) ⌝ }
+    ensures { λ _.
+        ⌜ memory (now (control .exit)) (now (states .exit)) (now (names .entry)) (now (pool .entry)) (now (free .entry))
+        (now (heads .entry)) (now (chain .entry)) (now (rows .entry)) (now (store .exit))
+        ≡ checkpoint
+        (memory (now (control .entry)) (now (states .entry)) (now (names .entry)) (now (pool .entry)) (now (free .entry))
+        (now (heads .entry)) (now (chain .entry)) (now (rows .entry)) (now (store .entry))) .after ⌝ }
+{
+    let end = checkpoint_pool(
+        *control,
+        states,
+        names,
+        pool,
+        free,
+        heads,
+        chain,
+        rows,
+        store,
+    );
+    control.hand = end.control.hand;
+    control.top = end.control.top;
+    control.inserted = end.control.inserted;
+    control.flushed = end.control.flushed;
+    end.answer
+}

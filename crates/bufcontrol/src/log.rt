@@ -1,0 +1,173 @@
+// The log's positions.
+
+ghost use mathlib.Core.Path.{_≡_};
+ghost use mathlib.Core.List.{[]};
+ghost use Rattle.bufmodel.specs.Memory.{memory};
+ghost use Rattle.bufmodel.specs.Answer.{acceptedAt};
+ghost use Rattle.bufmodel.specs.Calls.{logInserted, logFlushed};
+use bufmodel::answer::Accepted;
+use bufmodel::control::Control;
+use bufstart::log::log_flushed;
+use bufstart::log::log_inserted;
+
+// The log is inserted up to a position.
+pub fn log_inserted_to(
+    control: &mut Control,
+    states: &[u32],
+    names: &[u32],
+    pool: &[u8],
+    free: &[i32],
+    heads: &[i32],
+    chain: &[i32],
+    rows: &[u32],
+    store: &[u8],
+    position: u64,
+) -> Accepted
+    ensures { λ r.
+        ⌜ r
+        ≡ acceptedAt
+        (logInserted
+        (memory (now (control .entry)) (now (states .entry)) (now (names .entry)) (now (pool .entry)) (now (free .entry))
+        (now (heads .entry)) (now (chain .entry)) (now (rows .entry)) (now (store .entry))) position .refusal) [] ⌝ }
+    ensures { λ _.
+        ⌜ memory (now (control .exit)) (now (states .entry)) (now (names .entry)) (now (pool .entry)) (now (free .entry))
+        (now (heads .entry)) (now (chain .entry)) (now (rows .entry)) (now (store .entry))
+        ≡ logInserted
+        (memory (now (control .entry)) (now (states .entry)) (now (names .entry)) (now (pool .entry)) (now (free .entry))
+        (now (heads .entry)) (now (chain .entry)) (now (rows .entry)) (now (store .entry))) position .after ⌝ }
+{
+    let end = log_inserted(
+        *control,
+        states,
+        names,
+        pool,
+        free,
+        heads,
+        chain,
+        rows,
+        store,
+        position,
+    );
+    control.hand = end.control.hand;
+    control.top = end.control.top;
+    control.inserted = end.control.inserted;
+    control.flushed = end.control.flushed;
+    end.answer
+}
+
+// The log is flushed up to a position, or further.
+pub fn log_flushed_to(
+    control: &mut Control,
+    states: &[u32],
+    names: &[u32],
+    pool: &[u8],
+    free: &[i32],
+    heads: &[i32],
+    chain: &[i32],
+    rows: &[u32],
+    store: &[u8],
+    position: u64,
+) -> Accepted
+    ensures { λ r.
+        ⌜ r
+        ≡ acceptedAt
+        (logFlushed
+        (memory (now (control .entry)) (now (states .entry)) (now (names .entry)) (now (pool .entry)) (now (free .entry))
+        (now (heads .entry)) (now (chain .entry)) (now (rows .entry)) (now (store .entry))) position .refusal) [] ⌝ }
+    ensures { λ _.
+        ⌜ memory (now (control .exit)) (now (states .entry)) (now (names .entry)) (now (pool .entry)) (now (free .entry))
+        (now (heads .entry)) (now (chain .entry)) (now (rows .entry)) (now (store .entry))
+        ≡ logFlushed
+        (memory (now (control .entry)) (now (states .entry)) (now (names .entry)) (now (pool .entry)) (now (free .entry))
+        (now (heads .entry)) (now (chain .entry)) (now (rows .entry)) (now (store .entry))) position .after ⌝ }
+{
+    let end = log_flushed(
+        *control,
+        states,
+        names,
+        pool,
+        free,
+        heads,
+        chain,
+        rows,
+        store,
+        position,
+    );
+    control.hand = end.control.hand;
+    control.top = end.control.top;
+    control.inserted = end.control.inserted;
+    control.flushed = end.control.flushed;
+    end.answer
+}
+
+// What both calls leave: the control record, and each answer.
+pub struct LogEnd {
+    pub control: Control,
+    pub inserted: Accepted,
+    pub flushed: Accepted,
+}
+
+// The log is inserted and then flushed up to a position: one control record is lent to both calls. Whoever has the record by value
+// calls this.
+pub fn log_through(
+    control: Control,
+    states: &[u32],
+    names: &[u32],
+    pool: &[u8],
+    free: &[i32],
+    heads: &[i32],
+    chain: &[i32],
+    rows: &[u32],
+    store: &[u8],
+    position: u64,
+) -> LogEnd
+    ensures { λ r.
+        ⌜ (r .inserted
+        ≡ acceptedAt
+        (logInserted
+        (memory control (now (states .entry)) (now (names .entry)) (now (pool .entry)) (now (free .entry)) (now (heads .entry))
+        (now (chain .entry)) (now (rows .entry)) (now (store .entry))) position .refusal) [])
+        × ((r .flushed
+        ≡ acceptedAt
+        (logFlushed
+        (logInserted
+        (memory control (now (states .entry)) (now (names .entry)) (now (pool .entry)) (now (free .entry)) (now (heads .entry))
+        (now (chain .entry)) (now (rows .entry)) (now (store .entry))) position .after) position .refusal) [])
+        × (memory (r .control) (now (states .entry)) (now (names .entry)) (now (pool .entry)) (now (free .entry))
+        (now (heads .entry)) (now (chain .entry)) (now (rows .entry)) (now (store .entry))
+        ≡ logFlushed
+        (logInserted
+        (memory control (now (states .entry)) (now (names .entry)) (now (pool .entry)) (now (free .entry)) (now (heads .entry))
+        (now (chain .entry)) (now (rows .entry)) (now (store .entry))) position .after) position .after)) ⌝ }
+{
+    let mut lent = control;
+    let inserted = log_inserted_to(
+        &mut lent,
+        states,
+        names,
+        pool,
+        free,
+        heads,
+        chain,
+        rows,
+        store,
+        position,
+    );
+    let flushed = log_flushed_to(
+        &mut lent,
+        states,
+        names,
+        pool,
+        free,
+        heads,
+        chain,
+        rows,
+        store,
+        position,
+    );
+    LogEnd {
+        control: lent,
+        inserted: inserted,
+        flushed: flushed,
+    }
+}

@@ -1,3 +1,0 @@
-pub mod PackLaws
-pub mod PositionLaws
-pub mod RowsLaws

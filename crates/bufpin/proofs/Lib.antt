@@ -1,0 +1,6 @@
+pub mod BackLaws
+pub mod SweptLaws
+pub mod TakenLaws
+pub mod VictimLaws
+pub mod NewLaws
+pub mod PinLaws

@@ -1,0 +1,3 @@
+// Pin, by value. It checks first, in the table's order, and changes nothing where it refuses.
+
+pub mod pin;

@@ -1,0 +1,98 @@
+// Calls on a file, for C: extend and drop.
+
+ghost use mathlib.Core.Path.{_≡_};
+ghost use mathlib.Core.List.{[]};
+ghost use Rattle.buftag.specs.Name.{fileOf};
+ghost use Rattle.bufmodel.specs.Lent.{called};
+ghost use Rattle.lentwords.specs.Lent.{lent, ends};
+ghost use Rattle.bufmodel.specs.Calls.{extend, dropFile};
+use lentfile::file::lent_drop;
+use lentfile::file::lent_extend;
+
+// Gives a file its next block, of zeros: answers its number.
+#[no_mangle]
+pub extern "C" fn bufpool_extend(
+    control: &[u64],
+    states: &[u32],
+    names: &[u32],
+    pool: &[u8],
+    free: &[i32],
+    heads: &[i32],
+    chain: &[i32],
+    rows: &mut [u32],
+    store: &mut [u8],
+    tablespace: u32,
+    database: u32,
+    relation: u32,
+    fork: u32,
+    answer: &mut [u64],
+) -> u32
+    ensures { λ r.
+        ⌜ ends r (now (answer .exit)) []
+        (lent (now (control .entry)) (now (states .entry)) (now (names .entry)) (now (pool .entry)) (now (free .entry))
+        (now (heads .entry)) (now (chain .entry)) (now (rows .exit)) (now (store .exit)))
+        ≡ called (λ m. extend m (fileOf tablespace database relation fork))
+        (lent (now (control .entry)) (now (states .entry)) (now (names .entry)) (now (pool .entry)) (now (free .entry))
+        (now (heads .entry)) (now (chain .entry)) (now (rows .entry)) (now (store .entry))) [] (now (answer .entry)) ⌝ }
+{
+    lent_extend(
+        control,
+        states,
+        names,
+        pool,
+        free,
+        heads,
+        chain,
+        rows,
+        store,
+        tablespace,
+        database,
+        relation,
+        fork,
+        answer,
+    )
+}
+
+// Empties a file's buffers and takes its blocks.
+#[no_mangle]
+pub extern "C" fn bufpool_drop(
+    control: &mut [u64],
+    states: &mut [u32],
+    names: &mut [u32],
+    pool: &[u8],
+    free: &mut [i32],
+    heads: &mut [i32],
+    chain: &mut [i32],
+    rows: &mut [u32],
+    store: &[u8],
+    tablespace: u32,
+    database: u32,
+    relation: u32,
+    fork: u32,
+    answer: &mut [u64],
+) -> u32
+    ensures { λ r.
+        ⌜ ends r (now (answer .exit)) []
+        (lent (now (control .exit)) (now (states .exit)) (now (names .exit)) (now (pool .entry)) (now (free .exit))
+        (now (heads .exit)) (now (chain .exit)) (now (rows .exit)) (now (store .entry)))
+        ≡ called (λ m. dropFile m (fileOf tablespace database relation fork))
+        (lent (now (control .entry)) (now (states .entry)) (now (names .entry)) (now (pool .entry)) (now (free .entry))
+        (now (heads .entry)) (now (chain .entry)) (now (rows .entry)) (now (store .entry))) [] (now (answer .entry)) ⌝ }
+{
+    lent_drop(
+        control,
+        states,
+        names,
+        pool,
+        free,
+        heads,
+        chain,
+        rows,
+        store,
+        tablespace,
+        database,
+        relation,
+        fork,
+        answer,
+    )
+}

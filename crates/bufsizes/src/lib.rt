@@ -1,0 +1,3 @@
+// Whether lent memory fits: its lengths, its block size, its rows.
+
+pub mod sizes;

@@ -1,0 +1,107 @@
+// Flush and checkpoint.
+
+ghost use mathlib.Core.Path.{_≡_};
+ghost use mathlib.Core.List.{[]};
+ghost use Rattle.bufmodel.specs.Lent.{called};
+ghost use Rattle.lentwords.specs.Lent.{lent, ends};
+ghost use Rattle.bufmodel.specs.Calls.{flush, checkpoint};
+use bufbooks::lent::ANSWER_WORDS;
+use bufbooks::lent::CONTROL_WORDS;
+use bufbooks::lent::read_control;
+use bufcalls::buffer::flush_buffer;
+use bufcalls::checkpoint::checkpoint_pool;
+use bufmodel::refusal::SIZES;
+use buftag::number::BufferNumber;
+use lentwords::answer::put_written;
+use lentwords::answer::refuse;
+use lentwords::control::keep_control;
+
+// Writes a pinned page back if it is dirty: answers how many were written.
+pub fn lent_flush(
+    control: &mut [u64],
+    states: &mut [u32],
+    names: &[u32],
+    pool: &[u8],
+    free: &[i32],
+    heads: &[i32],
+    chain: &[i32],
+    rows: &[u32],
+    store: &mut [u8],
+    buffer: u64,
+    answer: &mut [u64],
+) -> u32
+    ensures { λ r.
+        ⌜ ends r (now (answer .exit)) []
+        (lent (now (control .exit)) (now (states .exit)) (now (names .entry)) (now (pool .entry)) (now (free .entry))
+        (now (heads .entry)) (now (chain .entry)) (now (rows .entry)) (now (store .exit)))
+        ≡ called (λ m. flush m buffer)
+        (lent (now (control .entry)) (now (states .entry)) (now (names .entry)) (now (pool .entry)) (now (free .entry))
+        (now (heads .entry)) (now (chain .entry)) (now (rows .entry)) (now (store .entry))) [] (now (answer .entry)) ⌝ }
+{
+    if answer.len() != ANSWER_WORDS {
+        return SIZES;
+    }
+    if control.len() != CONTROL_WORDS {
+        return refuse(answer);
+    }
+    let end = flush_buffer(
+        read_control(control),
+        states,
+        names,
+        pool,
+        free,
+        heads,
+        chain,
+        rows,
+        store,
+        BufferNumber(buffer as usize),
+    );
+    let answered = end.answer;
+    let r = put_written(answer, answered);
+    keep_control(control, end.control, r);
+    r
+}
+
+// Writes every dirty page back: answers how many were written.
+pub fn lent_checkpoint(
+    control: &mut [u64],
+    states: &mut [u32],
+    names: &[u32],
+    pool: &[u8],
+    free: &[i32],
+    heads: &[i32],
+    chain: &[i32],
+    rows: &[u32],
+    store: &mut [u8],
+    answer: &mut [u64],
+) -> u32
+    ensures { λ r.
+        ⌜ ends r (now (answer .exit)) []
+        (lent (now (control .exit)) (now (states .exit)) (now (names .entry)) (now (pool .entry)) (now (free .entry))
+        (now (heads .entry)) (now (chain .entry)) (now (rows .entry)) (now (store .exit)))
+        ≡ called (λ m. checkpoint m)
+        (lent (now (control .entry)) (now (states .entry)) (now (names .entry)) (now (pool .entry)) (now (free .entry))
+        (now (heads .entry)) (now (chain .entry)) (now (rows .entry)) (now (store .entry))) [] (now (answer .entry)) ⌝ }
+{
+    if answer.len() != ANSWER_WORDS {
+        return SIZES;
+    }
+    if control.len() != CONTROL_WORDS {
+        return refuse(answer);
+    }
+    let end = checkpoint_pool(
+        read_control(control),
+        states,
+        names,
+        pool,
+        free,
+        heads,
+        chain,
+        rows,
+        store,
+    );
+    let answered = end.answer;
+    let r = put_written(answer, answered);
+    keep_control(control, end.control, r);
+    r
+}

@@ -1,0 +1,3 @@
+// Write-back over lent memory.
+
+pub mod back;

@@ -1,0 +1,156 @@
+// Unpin, read and write.
+
+ghost use mathlib.Core.Path.{_≡_};
+ghost use mathlib.Core.List.{[]};
+ghost use Rattle.bufmodel.specs.Lent.{called};
+ghost use Rattle.lentwords.specs.Lent.{lent, ends};
+ghost use Rattle.bufmodel.specs.Calls.{unpin, read, write};
+use bufbooks::lent::ANSWER_WORDS;
+use bufbooks::lent::CONTROL_WORDS;
+use bufbooks::lent::read_control;
+use bufcalls::buffer::read_buffer;
+use bufcalls::buffer::unpin_buffer;
+use bufcalls::buffer::write_buffer;
+use bufmodel::refusal::SIZES;
+use buftag::number::BufferNumber;
+use lentwords::answer::put_accepted;
+use lentwords::answer::refuse;
+
+// Gives back one pin.
+pub fn lent_unpin(
+    control: &[u64],
+    states: &mut [u32],
+    names: &[u32],
+    pool: &[u8],
+    free: &[i32],
+    heads: &[i32],
+    chain: &[i32],
+    rows: &[u32],
+    store: &[u8],
+    buffer: u64,
+    answer: &mut [u64],
+) -> u32
+    ensures { λ r.
+        ⌜ ends r (now (answer .exit)) []
+        (lent (now (control .entry)) (now (states .exit)) (now (names .entry)) (now (pool .entry)) (now (free .entry))
+        (now (heads .entry)) (now (chain .entry)) (now (rows .entry)) (now (store .entry)))
+        ≡ called (λ m. unpin m buffer)
+        (lent (now (control .entry)) (now (states .entry)) (now (names .entry)) (now (pool .entry)) (now (free .entry))
+        (now (heads .entry)) (now (chain .entry)) (now (rows .entry)) (now (store .entry))) [] (now (answer .entry)) ⌝ }
+{
+    if answer.len() != ANSWER_WORDS {
+        return SIZES;
+    }
+    if control.len() != CONTROL_WORDS {
+        return refuse(answer);
+    }
+    let answered = unpin_buffer(
+        read_control(control),
+        states,
+        names,
+        pool,
+        free,
+        heads,
+        chain,
+        rows,
+        store,
+        BufferNumber(buffer as usize),
+    );
+    put_accepted(answer, answered)
+}
+
+// Fills `out` from a pinned page.
+pub fn lent_read(
+    control: &[u64],
+    states: &[u32],
+    names: &[u32],
+    pool: &[u8],
+    free: &[i32],
+    heads: &[i32],
+    chain: &[i32],
+    rows: &[u32],
+    store: &[u8],
+    buffer: u64,
+    from: u64,
+    out: &mut [u8],
+    answer: &mut [u64],
+) -> u32
+    ensures { λ r.
+        ⌜ ends r (now (answer .exit)) (now (out .exit))
+        (lent (now (control .entry)) (now (states .entry)) (now (names .entry)) (now (pool .entry)) (now (free .entry))
+        (now (heads .entry)) (now (chain .entry)) (now (rows .entry)) (now (store .entry)))
+        ≡ called (λ m. read m buffer from (now (out .entry)))
+        (lent (now (control .entry)) (now (states .entry)) (now (names .entry)) (now (pool .entry)) (now (free .entry))
+        (now (heads .entry)) (now (chain .entry)) (now (rows .entry)) (now (store .entry))) (now (out .entry)) (now (answer .entry)) ⌝ }
+{
+    if answer.len() != ANSWER_WORDS {
+        return SIZES;
+    }
+    if control.len() != CONTROL_WORDS {
+        return refuse(answer);
+    }
+    let answered = read_buffer(
+        read_control(control),
+        states,
+        names,
+        pool,
+        free,
+        heads,
+        chain,
+        rows,
+        store,
+        BufferNumber(buffer as usize),
+        from as usize,
+        out,
+    );
+    put_accepted(answer, answered)
+}
+
+// Writes bytes into a pinned page, with their log position.
+pub fn lent_write(
+    control: &[u64],
+    states: &mut [u32],
+    names: &[u32],
+    pool: &mut [u8],
+    free: &[i32],
+    heads: &[i32],
+    chain: &[i32],
+    rows: &[u32],
+    store: &[u8],
+    buffer: u64,
+    from: u64,
+    bytes: &[u8],
+    position: u64,
+    answer: &mut [u64],
+) -> u32
+    ensures { λ r.
+        ⌜ ends r (now (answer .exit)) (now (bytes .entry))
+        (lent (now (control .entry)) (now (states .exit)) (now (names .entry)) (now (pool .exit)) (now (free .entry))
+        (now (heads .entry)) (now (chain .entry)) (now (rows .entry)) (now (store .entry)))
+        ≡ called (λ m. write m buffer from (now (bytes .entry)) position)
+        (lent (now (control .entry)) (now (states .entry)) (now (names .entry)) (now (pool .entry)) (now (free .entry))
+        (now (heads .entry)) (now (chain .entry)) (now (rows .entry)) (now (store .entry))) (now (bytes .entry)) (now (answer .entry)) ⌝ }
+{
+    if answer.len() != ANSWER_WORDS {
+        return SIZES;
+    }
+    if control.len() != CONTROL_WORDS {
+        return refuse(answer);
+    }
+    let answered = write_buffer(
+        read_control(control),
+        states,
+        names,
+        pool,
+        free,
+        heads,
+        chain,
+        rows,
+        store,
+        BufferNumber(buffer as usize),
+        from as usize,
+        bytes,
+        position,
+    );
+    put_accepted(answer, answered)
+}

@@ -1,0 +1,3 @@
+// Calls on a pinned buffer, over lent memory.
+
+pub mod buffer;

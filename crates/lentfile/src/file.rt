@@ -1,0 +1,116 @@
+// Extend and drop.
+
+ghost use mathlib.Core.Path.{_≡_};
+ghost use mathlib.Core.List.{[]};
+ghost use Rattle.buftag.specs.Name.{fileOf};
+ghost use Rattle.bufmodel.specs.Lent.{called};
+ghost use Rattle.lentwords.specs.Lent.{lent, ends};
+ghost use Rattle.bufmodel.specs.Calls.{extend, dropFile};
+use bufbooks::lent::ANSWER_WORDS;
+use bufbooks::lent::CONTROL_WORDS;
+use bufbooks::lent::read_control;
+use bufmodel::refusal::SIZES;
+use bufpages::file::drop_file;
+use bufpages::file::extend_file;
+use buftag::name::file_name;
+use lentwords::answer::put_accepted;
+use lentwords::answer::put_extended;
+use lentwords::answer::refuse;
+use lentwords::control::keep_control;
+
+// Gives a file its next block, of zeros: answers its number.
+pub fn lent_extend(
+    control: &[u64],
+    states: &[u32],
+    names: &[u32],
+    pool: &[u8],
+    free: &[i32],
+    heads: &[i32],
+    chain: &[i32],
+    rows: &mut [u32],
+    store: &mut [u8],
+    tablespace: u32,
+    database: u32,
+    relation: u32,
+    fork: u32,
+    answer: &mut [u64],
+) -> u32
+    ensures { λ r.
+        ⌜ ends r (now (answer .exit)) []
+        (lent (now (control .entry)) (now (states .entry)) (now (names .entry)) (now (pool .entry)) (now (free .entry))
+        (now (heads .entry)) (now (chain .entry)) (now (rows .exit)) (now (store .exit)))
+        ≡ called (λ m. extend m (fileOf tablespace database relation fork))
+        (lent (now (control .entry)) (now (states .entry)) (now (names .entry)) (now (pool .entry)) (now (free .entry))
+        (now (heads .entry)) (now (chain .entry)) (now (rows .entry)) (now (store .entry))) [] (now (answer .entry)) ⌝ }
+{
+    if answer.len() != ANSWER_WORDS {
+        return SIZES;
+    }
+    if control.len() != CONTROL_WORDS {
+        return refuse(answer);
+    }
+    let file = file_name(tablespace, database, relation, fork);
+    let answered = extend_file(
+        read_control(control),
+        states,
+        names,
+        pool,
+        free,
+        heads,
+        chain,
+        rows,
+        store,
+        file,
+    );
+    put_extended(answer, answered)
+}
+
+// Empties a file's buffers and takes its blocks.
+pub fn lent_drop(
+    control: &mut [u64],
+    states: &mut [u32],
+    names: &mut [u32],
+    pool: &[u8],
+    free: &mut [i32],
+    heads: &mut [i32],
+    chain: &mut [i32],
+    rows: &mut [u32],
+    store: &[u8],
+    tablespace: u32,
+    database: u32,
+    relation: u32,
+    fork: u32,
+    answer: &mut [u64],
+) -> u32
+    ensures { λ r.
+        ⌜ ends r (now (answer .exit)) []
+        (lent (now (control .exit)) (now (states .exit)) (now (names .exit)) (now (pool .entry)) (now (free .exit))
+        (now (heads .exit)) (now (chain .exit)) (now (rows .exit)) (now (store .entry)))
+        ≡ called (λ m. dropFile m (fileOf tablespace database relation fork))
+        (lent (now (control .entry)) (now (states .entry)) (now (names .entry)) (now (pool .entry)) (now (free .entry))
+        (now (heads .entry)) (now (chain .entry)) (now (rows .entry)) (now (store .entry))) [] (now (answer .entry)) ⌝ }
+{
+    if answer.len() != ANSWER_WORDS {
+        return SIZES;
+    }
+    if control.len() != CONTROL_WORDS {
+        return refuse(answer);
+    }
+    let file = file_name(tablespace, database, relation, fork);
+    let end = drop_file(
+        read_control(control),
+        states,
+        names,
+        pool,
+        free,
+        heads,
+        chain,
+        rows,
+        store,
+        file,
+    );
+    let answered = end.answer;
+    let r = put_accepted(answer, answered);
+    keep_control(control, end.control, r);
+    r
+}

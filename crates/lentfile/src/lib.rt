@@ -1,0 +1,3 @@
+// Calls on a file, over lent memory.
+
+pub mod file;

@@ -1,0 +1,3 @@
+// Calls on a page, over lent memory.
+
+pub mod page;

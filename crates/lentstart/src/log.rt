@@ -1,0 +1,108 @@
+// The log positions.
+
+ghost use mathlib.Core.Path.{_≡_};
+ghost use mathlib.Core.List.{[]};
+ghost use Rattle.bufmodel.specs.Lent.{called};
+ghost use Rattle.lentwords.specs.Lent.{lent, ends};
+ghost use Rattle.bufmodel.specs.Calls.{logInserted, logFlushed};
+use bufbooks::lent::ANSWER_WORDS;
+use bufbooks::lent::CONTROL_WORDS;
+use bufbooks::lent::read_control;
+use bufmodel::refusal::SIZES;
+use bufstart::log::log_flushed;
+use bufstart::log::log_inserted;
+use lentwords::answer::put_accepted;
+use lentwords::answer::refuse;
+use lentwords::control::keep_control;
+
+// The log is inserted up to a position.
+pub fn lent_log_inserted(
+    control: &mut [u64],
+    states: &[u32],
+    names: &[u32],
+    pool: &[u8],
+    free: &[i32],
+    heads: &[i32],
+    chain: &[i32],
+    rows: &[u32],
+    store: &[u8],
+    position: u64,
+    answer: &mut [u64],
+) -> u32
+    ensures { λ r.
+        ⌜ ends r (now (answer .exit)) []
+        (lent (now (control .exit)) (now (states .entry)) (now (names .entry)) (now (pool .entry)) (now (free .entry))
+        (now (heads .entry)) (now (chain .entry)) (now (rows .entry)) (now (store .entry)))
+        ≡ called (λ m. logInserted m position)
+        (lent (now (control .entry)) (now (states .entry)) (now (names .entry)) (now (pool .entry)) (now (free .entry))
+        (now (heads .entry)) (now (chain .entry)) (now (rows .entry)) (now (store .entry))) [] (now (answer .entry)) ⌝ }
+{
+    if answer.len() != ANSWER_WORDS {
+        return SIZES;
+    }
+    if control.len() != CONTROL_WORDS {
+        return refuse(answer);
+    }
+    let end = log_inserted(
+        read_control(control),
+        states,
+        names,
+        pool,
+        free,
+        heads,
+        chain,
+        rows,
+        store,
+        position,
+    );
+    let answered = end.answer;
+    let r = put_accepted(answer, answered);
+    keep_control(control, end.control, r);
+    r
+}
+
+// The log is flushed up to a position.
+pub fn lent_log_flushed(
+    control: &mut [u64],
+    states: &[u32],
+    names: &[u32],
+    pool: &[u8],
+    free: &[i32],
+    heads: &[i32],
+    chain: &[i32],
+    rows: &[u32],
+    store: &[u8],
+    position: u64,
+    answer: &mut [u64],
+) -> u32
+    ensures { λ r.
+        ⌜ ends r (now (answer .exit)) []
+        (lent (now (control .exit)) (now (states .entry)) (now (names .entry)) (now (pool .entry)) (now (free .entry))
+        (now (heads .entry)) (now (chain .entry)) (now (rows .entry)) (now (store .entry)))
+        ≡ called (λ m. logFlushed m position)
+        (lent (now (control .entry)) (now (states .entry)) (now (names .entry)) (now (pool .entry)) (now (free .entry))
+        (now (heads .entry)) (now (chain .entry)) (now (rows .entry)) (now (store .entry))) [] (now (answer .entry)) ⌝ }
+{
+    if answer.len() != ANSWER_WORDS {
+        return SIZES;
+    }
+    if control.len() != CONTROL_WORDS {
+        return refuse(answer);
+    }
+    let end = log_flushed(
+        read_control(control),
+        states,
+        names,
+        pool,
+        free,
+        heads,
+        chain,
+        rows,
+        store,
+        position,
+    );
+    let answered = end.answer;
+    let r = put_accepted(answer, answered);
+    keep_control(control, end.control, r);
+    r
+}
