@@ -1,0 +1,142 @@
+/* A program in C or C++ that includes the header first, and twice, makes every call and uses every helper. Status 0 if all answer right. */
+#include "bufpool.h"
+#include "bufpool.h"
+#include <stdio.h>
+#include <string.h>
+
+enum { BUFFERS = 3, BUCKETS = 3, FILES = 1, PAGE = 1024, CAPACITY = 5 };
+
+static uint64_t control[BUFPOOL_CONTROL_WORDS];
+static uint32_t states[BUFFERS], names[BUFPOOL_NAME_WORDS * BUFFERS];
+static int32_t free_links[BUFFERS], heads[BUCKETS], chain[BUFFERS];
+static uint32_t rows[BUFPOOL_ROW_WORDS * FILES] = {1663, 5, 16384, 0, 4, CAPACITY};
+static uint8_t pool[BUFFERS * PAGE], store[CAPACITY * PAGE];
+static const struct bufpool_file table = {1663, 5, 16384, 0}, other = {1663, 5, 16384, 1};
+
+#define SEE(test)                                                   \
+    do {                                                            \
+        if (!(test)) {                                              \
+            fprintf(stderr, "line %d does not hold\n", __LINE__);   \
+            return 1;                                               \
+        }                                                           \
+    } while (0)
+
+static struct bufpool lend(void)
+{
+    struct bufpool m;
+    memset(&m, 0, sizeof m);
+    m.control = control;
+    m.states = states;
+    m.names = names;
+    m.pool = pool;
+    m.free = free_links;
+    m.heads = heads;
+    m.chain = chain;
+    m.rows = rows;
+    m.store = store;
+    bufpool_fit(&m, BUFFERS, BUCKETS, FILES, PAGE);
+    return m;
+}
+
+/* parts of state words, a page's log position, a refusal in words */
+static int helpers(void)
+{
+    static const uint8_t page[BUFPOOL_POSITION_BYTES] = {1, 0, 0, 0, 0xD0, 0x74, 0xB3, 0x16};
+    static const uint8_t far_page[BUFPOOL_POSITION_BYTES] = {4, 3, 2, 0xF1, 8, 7, 6, 0xF5};
+    const char *unknown = bufpool_refusal_words(BUFPOOL_FLUSHED_BEYOND + 1);
+    uint32_t k, word = 0x83000000u | 5u << 18 | BUFPOOL_MAX_PINS;
+    SEE(bufpool_state_empty(0) && !bufpool_state_dirty(0) && bufpool_state_pins(0) == 0 && bufpool_state_usage(0) == 0);
+    SEE(!bufpool_state_empty(0x83000000u) && bufpool_state_pins(0x83140006u) == 6 && bufpool_state_usage(0x83140006u) == 5);
+    SEE(bufpool_state_pins(word) == BUFPOOL_MAX_PINS && bufpool_state_usage(word) == 5 && !bufpool_state_dirty(word));
+    SEE(bufpool_state_dirty(0x93840001u) == 1 && bufpool_state_pins(0x93840001u) == 1 && bufpool_state_usage(0x93840001u) == 1);
+    SEE(bufpool_page_position(page) == 0x116B374D0u && bufpool_page_position(far_page) == 0xF1020304F5060708u);
+    SEE(strcmp(bufpool_refusal_words(BUFPOOL_ALL_PINNED), "every buffer is pinned") == 0);
+    for (k = BUFPOOL_DONE; k <= BUFPOOL_FLUSHED_BEYOND; k++) SEE(strcmp(bufpool_refusal_words(k), unknown) != 0);
+    return 0;
+}
+
+/* set up, pin and unpin, with the refusals of pages and buffers */
+static int pins(struct bufpool *m)
+{
+    struct bufpool_pinned p;
+    struct bufpool_buffer beyond = {BUFFERS};
+    uint32_t k;
+    SEE(bufpool_set_up_pool(m, 1000, 100) == BUFPOOL_SIZES);
+    SEE(bufpool_set_up_pool(m, PAGE, 100) == BUFPOOL_DONE);
+    SEE(control[BUFPOOL_PAGE_SIZE] == PAGE && control[BUFPOOL_HAND] == 0 && control[BUFPOOL_FREE_TOP] == 0);
+    for (k = 0; k < BUFFERS; k++) {
+        SEE(bufpool_pin_page(m, bufpool_name_of(table, k), &p) == BUFPOOL_DONE);
+        SEE(p.buffer.number == k && !p.hit && !p.wrote && p.probes == 0 && states[k] == 0x83040001u);
+    }
+    SEE(control[BUFPOOL_FREE_TOP] == BUFPOOL_FREE_NONE);
+    SEE(bufpool_pin_page(m, bufpool_name_of(table, 3), &p) == BUFPOOL_ALL_PINNED && control[BUFPOOL_HAND] == 0);
+    SEE(bufpool_pin_page(m, bufpool_name_of(table, 4), &p) == BUFPOOL_NO_BLOCK);
+    SEE(bufpool_pin_page(m, bufpool_name_of(other, 0), &p) == BUFPOOL_NO_FILE);
+    SEE(bufpool_pin_page(m, bufpool_name_of(table, 2), &p) == BUFPOOL_DONE && p.hit && p.buffer.number == 2);
+    SEE(bufpool_unpin_buffer(m, p.buffer) == BUFPOOL_DONE && bufpool_unpin_buffer(m, p.buffer) == BUFPOOL_DONE);
+    SEE(bufpool_unpin_buffer(m, p.buffer) == BUFPOOL_NOT_PINNED && bufpool_unpin_buffer(m, beyond) == BUFPOOL_NO_BUFFER);
+    states[0] |= BUFPOOL_MAX_PINS;
+    SEE(bufpool_pin_page(m, bufpool_name_of(table, 0), &p) == BUFPOOL_PIN_COUNT);
+    states[0] = 0x83040001u;
+    return 0;
+}
+
+/* read, write, flush, checkpoint and the log's positions: buffers 0 and 1 are pinned */
+static int bytes(struct bufpool *m)
+{
+    static const uint8_t word[4] = {1, 2, 3, 4};
+    struct bufpool_buffer first = {0};
+    uint64_t written;
+    uint8_t out[4];
+    SEE(bufpool_write_buffer(m, first, 7, word, 4, 100) == BUFPOOL_RANGE);
+    SEE(bufpool_write_buffer(m, first, BUFPOOL_POSITION_BYTES, word, 0, 100) == BUFPOOL_NO_BYTES);
+    SEE(bufpool_write_buffer(m, first, 1020, word, 4, 101) == BUFPOOL_NOT_INSERTED);
+    SEE(bufpool_write_buffer(m, first, 1020, word, 4, 100) == BUFPOOL_DONE && states[0] == 0x93840001u);
+    SEE(bufpool_page_position(pool) == 100 && bufpool_state_dirty(states[0]) && !bufpool_state_dirty(states[1]));
+    SEE(bufpool_write_buffer(m, first, 1020, word, 4, 99) == BUFPOOL_EARLIER);
+    SEE(bufpool_read_buffer(m, first, 1020, out, 4) == BUFPOOL_DONE && memcmp(out, word, 4) == 0);
+    SEE(bufpool_flush_buffer(m, first, &written) == BUFPOOL_DONE && written == 1 && memcmp(store + 1020, word, 4) == 0);
+    SEE(bufpool_log_inserted_to(m, 99) == BUFPOOL_LOG_SHORTER && bufpool_log_inserted_to(m, 200) == BUFPOOL_DONE);
+    SEE(bufpool_log_flushed_to(m, 201) == BUFPOOL_FLUSHED_BEYOND && bufpool_log_flushed_to(m, 150) == BUFPOOL_DONE);
+    SEE(bufpool_write_buffer(m, first, 8, word, 4, 200) == BUFPOOL_DONE);
+    SEE(bufpool_checkpoint_pool(m, &written) == BUFPOOL_DONE && written == 1);
+    SEE(control[BUFPOOL_INSERTED] == 200 && control[BUFPOOL_FLUSHED] == 200 && memcmp(store + 8, word, 4) == 0);
+    return 0;
+}
+
+/* peek, extend and drop */
+static int files(struct bufpool *m)
+{
+    struct bufpool_part part;
+    struct bufpool_buffer at = {0};
+    uint32_t block;
+    SEE(bufpool_peek_page(m, bufpool_name_of(table, 1), &part) == BUFPOOL_DONE);
+    SEE(part.bytes == pool + PAGE && part.length == PAGE && part.in_pool == 1);
+    SEE(bufpool_peek_page(m, bufpool_name_of(table, 3), &part) == BUFPOOL_DONE);
+    SEE(part.bytes == store + 3 * PAGE && part.length == PAGE && part.in_pool == 0);
+    SEE(bufpool_peek_page(m, bufpool_name_of(table, 4), &part) == BUFPOOL_NO_BLOCK);
+    SEE(part.bytes == NULL && part.length == 0 && part.in_pool == 0);
+    SEE(bufpool_extend_file(m, table, &block) == BUFPOOL_DONE && block == 4 && rows[BUFPOOL_BLOCKS] == rows[BUFPOOL_CAPACITY]);
+    SEE(bufpool_extend_file(m, table, &block) == BUFPOOL_FILE_FULL && block == 0);
+    SEE(bufpool_drop_file(m, table) == BUFPOOL_FILE_PINNED);
+    for (; at.number < 2; at.number++) SEE(bufpool_unpin_buffer(m, at) == BUFPOOL_DONE);
+    SEE(bufpool_drop_file(m, table) == BUFPOOL_DONE && rows[BUFPOOL_BLOCKS] == 0 && control[BUFPOOL_FREE_TOP] == 2);
+    SEE(bufpool_state_empty(states[0]) && bufpool_state_empty(states[1]) && bufpool_state_empty(states[2]));
+    return 0;
+}
+
+/* unsound books, and an answer that is too short */
+static int refusals(struct bufpool *m)
+{
+    uint64_t answer[BUFPOOL_ANSWER_WORDS] = {9, 9, 9, 9};
+    SEE(bufpool_checkpoint(BUFPOOL_LENT(m), answer, BUFPOOL_ANSWER_WORDS - 1) == BUFPOOL_SIZES && answer[0] == 9);
+    control[BUFPOOL_HAND] = BUFFERS;
+    SEE(bufpool_checkpoint(BUFPOOL_LENT(m), answer, BUFPOOL_ANSWER_WORDS) == BUFPOOL_BOOKS && answer[0] == 0 && answer[3] == 0);
+    return 0;
+}
+
+int main(void)
+{
+    struct bufpool m = lend();
+    return helpers() || pins(&m) || bytes(&m) || files(&m) || refusals(&m);
+}

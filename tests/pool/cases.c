@@ -1,0 +1,293 @@
+/* Document 01's pages on the bench, through the library's calls: N = 3, B = 3, P = 1024, log 100; one file (1663, 5, 16384, 0) with
+   4 blocks of zeros, capacity 5. Every expected number is the document's. Prints a line for each case, then the counts. */
+#include "buftag.h"
+#include "named.h"
+#include <inttypes.h>
+#include <stdio.h>
+#include <string.h>
+
+static uint64_t control[5], answer[4];
+static uint32_t states[3], names[15], rows[6];
+static int32_t free_links[3], heads[3], chain[3];
+static uint8_t pool[3 * 1024], store[5 * 1024];
+static struct bufpool m = {control,    5, states, 3, names, 15, pool, sizeof pool, free_links,
+                           3,          heads, 3, chain, 3, rows, 6, store, sizeof store};
+
+static const char *current;
+static unsigned wrong, passed, failed;
+
+static void expect(const char *what, uint64_t got, uint64_t wanted)
+{
+    if (got == wanted) return;
+    printf("%s: %s is %" PRIu64 " (0x%" PRIX64 "), not %" PRIu64 " (0x%" PRIX64 ")\n", current, what, got, got, wanted, wanted);
+    wrong++;
+}
+
+static void expect_answer(uint64_t a, uint64_t b, uint64_t c, uint64_t d)
+{
+    expect("answer 0", answer[0], a);
+    expect("answer 1", answer[1], b);
+    expect("answer 2", answer[2], c);
+    expect("answer 3", answer[3], d);
+}
+
+static void begin(const char *name)
+{
+    current = name;
+    wrong = 0;
+}
+
+static void end(void)
+{
+    printf("%s: %s\n", wrong == 0 ? "passed" : "FAILED", current);
+    if (wrong == 0) passed++;
+    else failed++;
+}
+
+/* Set up on memory with other contents. */
+static void set_up(uint64_t log)
+{
+    const uint32_t file[6] = {1663, 5, 16384, 0, 4, 5};
+    memcpy(rows, file, sizeof file);
+    memset(states, 0x5A, sizeof states);
+    memset(names, 0x5A, sizeof names);
+    memset(free_links, 0x5A, sizeof free_links);
+    memset(heads, 0x5A, sizeof heads);
+    memset(chain, 0x5A, sizeof chain);
+    memset(pool, 0x5A, sizeof pool);
+    memset(store, 0, sizeof store);
+    memset(control, 0x5A, sizeof control);
+    memset(answer, 0x5A, sizeof answer);
+    expect("set up", DO(set_up)(BUFPOOL_LENT(&m), 1024, log, answer, 4), 0);
+    expect_answer(0, 0, 0, 0);
+}
+
+static uint32_t pin(uint32_t block)
+{
+    memset(answer, 0x5A, sizeof answer);
+    return DO(pin)(BUFPOOL_LENT(&m), 1663, 5, 16384, 0, block, answer, 4);
+}
+
+static uint32_t unpin(uint64_t buffer)
+{
+    memset(answer, 0x5A, sizeof answer);
+    return DO(unpin)(BUFPOOL_LENT(&m), buffer, answer, 4);
+}
+
+static uint32_t write_bytes(uint64_t buffer, uint64_t from, size_t length, uint64_t position)
+{
+    static const uint8_t bytes[8] = {1, 2, 3, 4, 5, 6, 7, 8};
+    memset(answer, 0x5A, sizeof answer);
+    return DO(write)(BUFPOOL_LENT(&m), buffer, from, bytes, length, position, answer, 4);
+}
+
+static uint32_t read_bytes(uint64_t buffer, uint64_t from, uint8_t *out, size_t length)
+{
+    memset(answer, 0x5A, sizeof answer);
+    return DO(read)(BUFPOOL_LENT(&m), buffer, from, out, length, answer, 4);
+}
+
+static uint32_t extend(void)
+{
+    memset(answer, 0x5A, sizeof answer);
+    return DO(extend)(BUFPOOL_LENT(&m), 1663, 5, 16384, 0, answer, 4);
+}
+
+/* What case C does, and what it and other cases go on from. */
+static void pin_three(void)
+{
+    set_up(100);
+    for (uint32_t block = 0; block < 3; block++) {
+        expect("pin", pin(block), 0);
+        expect_answer(block, 0, 0, 0);
+    }
+}
+
+static void unpin_three(void)
+{
+    for (uint64_t i = 0; i < 3; i++) expect("unpin", unpin(i), 0);
+}
+
+static void case_set_up(void)
+{
+    begin("set up: free list 0, 1, 2, hand 0, both positions 100, chains and buffers empty");
+    set_up(100);
+    const uint64_t record[5] = {1024, 0, 0, 100, 100};
+    for (int k = 0; k < 5; k++) expect("control word", control[k], record[k]);
+    for (int k = 0; k < 3; k++) {
+        expect("state word", states[k], 0);
+        expect("free link", (uint64_t)free_links[k], k == 2 ? UINT64_MAX : (uint64_t)k + 1);
+        expect("head", (uint64_t)heads[k], UINT64_MAX);
+        expect("chain link", (uint64_t)chain[k], UINT64_MAX);
+    }
+    for (int k = 0; k < 15; k++) expect("name", names[k], 0);
+    expect("pool byte", pool[0], 0x5A);
+    end();
+}
+
+static void case_a(void)
+{
+    const uint8_t bytes[20] = {0xB5, 0x41, 0, 0, 0, 0x40, 0, 0, 0x59, 0x93, 0, 0, 0, 0, 0, 0, 7, 0, 0, 0};
+    uint8_t out[20];
+    begin("A: the bytes of name {16821, 16384, 37721, 0, 7}");
+    memset(out, 0x5A, sizeof out);
+    expect("buftag_bytes", buftag_bytes(16821, 16384, 37721, 0, 7, out, sizeof out), 0);
+    for (int k = 0; k < 20; k++) expect("byte", out[k], bytes[k]);
+    end();
+}
+
+static void case_b(void)
+{
+    const uint8_t bytes[8] = {0x01, 0, 0, 0, 0xD0, 0x74, 0xB3, 0x16};
+    begin("B: position 0x116B374D0 in a page");
+    set_up(0x116B374D0);
+    expect("pin", pin(0), 0);
+    expect("write", write_bytes(0, 8, 1, 0x116B374D0), 0);
+    for (int k = 0; k < 8; k++) expect("byte", pool[k], bytes[k]);
+    expect("byte 8", pool[8], 1);
+    end();
+}
+
+static void case_c(void)
+{
+    begin("C: blocks 0, 1, 2 in buffers 0, 1, 2, probes 0, word 0x83040001");
+    pin_three();
+    for (int i = 0; i < 3; i++) expect("word", states[i], 0x83040001);
+    expect("top of the free list", control[2], UINT64_MAX);
+    for (int k = 0; k < 3 * 1024; k++) expect("pool byte", pool[k], 0);
+    end();
+}
+
+static void case_d(void)
+{
+    begin("D: then block 3 gives 6, hand 0");
+    pin_three();
+    expect("pin", pin(3), 6);
+    expect_answer(0, 0, 0, 0);
+    expect("hand", control[1], 0);
+    for (int i = 0; i < 3; i++) expect("word", states[i], 0x83040001);
+    end();
+}
+
+static void case_e(void)
+{
+    begin("E: C, all unpinned: block 3 in buffer 0, probes 4, hand 1; block 0 in buffer 1, probes 1, hand 2");
+    pin_three();
+    unpin_three();
+    expect("pin 3", pin(3), 0);
+    expect_answer(0, 0, 0, 4);
+    expect("hand", control[1], 1);
+    expect("pin 0", pin(0), 0);
+    expect_answer(1, 0, 0, 1);
+    expect("hand", control[1], 2);
+    end();
+}
+
+static void case_f(void)
+{
+    begin("F: one page pinned six times: 0x83140006");
+    set_up(100);
+    for (int k = 0; k < 6; k++) {
+        expect("pin", pin(0), 0);
+        expect_answer(0, k > 0, 0, 0);
+    }
+    expect("word", states[0], 0x83140006);
+    end();
+}
+
+static void case_g(void)
+{
+    begin("G: C, then a write to buffer 0: 0x93840001");
+    pin_three();
+    expect("write", write_bytes(0, 8, 4, 100), 0);
+    expect_answer(0, 0, 0, 0);
+    expect("word", states[0], 0x93840001);
+    end();
+}
+
+static void case_h(void)
+{
+    begin("H: buffers 0, 1 pinned, 2 unpinned with usage 5, hand 0: probes 18");
+    pin_three();
+    for (int k = 0; k < 4; k++) expect("pin", pin(2), 0);
+    for (int k = 0; k < 5; k++) expect("unpin", unpin(2), 0);
+    expect("word before", states[2], 0x83140000);
+    expect("hand before", control[1], 0);
+    expect("pin", pin(3), 0);
+    expect_answer(2, 0, 0, 18);
+    expect("hand", control[1], 0);
+    expect("word", states[2], 0x83040001);
+    end();
+}
+
+static void case_i(void)
+{
+    begin("I: inserted 100: position 101 gives 11, 100 passes; page at 100, position 99: 12");
+    pin_three();
+    expect("position 101", write_bytes(0, 8, 1, 101), 11);
+    expect("word", states[0], 0x83040001);
+    expect("position 100", write_bytes(0, 8, 1, 100), 0);
+    expect("position 99", write_bytes(0, 8, 1, 99), 12);
+    end();
+}
+
+static void case_j(void)
+{
+    begin("J: C, all unpinned, drop: free list 2, 1, 0");
+    pin_three();
+    unpin_three();
+    memset(answer, 0x5A, sizeof answer);
+    expect("drop", DO(drop)(BUFPOOL_LENT(&m), 1663, 5, 16384, 0, answer, 4), 0);
+    expect_answer(0, 0, 0, 0);
+    expect("top of the free list", control[2], 2);
+    expect("link of 2", (uint64_t)free_links[2], 1);
+    expect("link of 1", (uint64_t)free_links[1], 0);
+    expect("link of 0", (uint64_t)free_links[0], UINT64_MAX);
+    expect("blocks", rows[4], 0);
+    for (int i = 0; i < 3; i++) expect("word", states[i], 0);
+    for (int k = 0; k < 15; k++) expect("name", names[k], 0);
+    for (int k = 0; k < 3; k++) expect("head", (uint64_t)heads[k], UINT64_MAX);
+    end();
+}
+
+static void case_ranges(void)
+{
+    uint8_t out[4] = {0};
+    begin("write from 7: 9; 8 passes; 1020 with 4 bytes passes, 5: 9; 1024 with none: 10. Read 1024 with none passes, 1025: 9");
+    pin_three();
+    expect("write from 7", write_bytes(0, 7, 1, 100), 9);
+    expect("write from 8", write_bytes(0, 8, 1, 100), 0);
+    expect("write from 1020, 4 bytes", write_bytes(0, 1020, 4, 100), 0);
+    expect("write from 1020, 5 bytes", write_bytes(0, 1020, 5, 100), 9);
+    expect("write from 1024, none", write_bytes(0, 1024, 0, 100), 10);
+    expect("read from 1024, none", read_bytes(0, 1024, out, 0), 0);
+    expect("read from 1025, none", read_bytes(0, 1025, out, 0), 9);
+    expect("read from 1020, 4 bytes", read_bytes(0, 1020, out, 4), 0);
+    for (int k = 0; k < 4; k++) expect("byte read", out[k], (uint64_t)k + 1);
+    end();
+}
+
+static void case_extend(void)
+{
+    begin("pin block 4: 4. Extend: block number 4; again: 13");
+    set_up(100);
+    memset(store + 4 * 1024, 0xEE, 1024);
+    expect("pin", pin(4), 4);
+    expect("extend", extend(), 0);
+    expect_answer(4, 0, 0, 0);
+    expect("blocks", rows[4], 5);
+    for (int k = 0; k < 1024; k++) expect("byte of the new block", store[4 * 1024 + k], 0);
+    expect("extend again", extend(), 13);
+    expect_answer(0, 0, 0, 0);
+    expect("pin of the new block", pin(4), 0);
+    end();
+}
+
+int main(void)
+{
+    void (*const cases[])(void) = {case_set_up, case_a, case_b, case_c, case_d, case_e,      case_f,
+                                   case_g,      case_h, case_i, case_j, case_ranges, case_extend};
+    for (size_t k = 0; k < sizeof cases / sizeof *cases; k++) cases[k]();
+    printf("%u %u\n", passed, failed);
+    return failed != 0;
+}

@@ -1,0 +1,21 @@
+/* One of the twelve calls with its own arguments, as the library, the model and the shelf are asked it. */
+#ifndef REQUEST_H
+#define REQUEST_H
+
+#include <stddef.h>
+#include <stdint.h>
+
+enum call { SET_UP, PIN, UNPIN, READ, WRITE, FLUSH, CHECKPOINT, PEEK, EXTEND, DROP, LOG_INSERTED, LOG_FLUSHED, CALLS };
+
+struct request {
+    enum call call;
+    uint32_t name[5];    /* pin, peek; of an extend and a drop the first four */
+    uint64_t page_size;  /* set up */
+    uint64_t buffer;     /* unpin, read, write, flush */
+    uint64_t from;       /* read, write */
+    uint64_t position;   /* set up, write, log inserted, log flushed */
+    uint8_t *own;        /* a read's out, a write's bytes */
+    size_t own_len;
+};
+
+#endif

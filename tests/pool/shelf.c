@@ -1,0 +1,282 @@
+#include "shelf.h"
+#include <stdbool.h>
+#include <stdlib.h>
+#include <string.h>
+
+#ifndef SHELF_SLIP
+#define SHELF_SLIP 0
+#endif
+
+#define MOST_PLACES (MOST_SHELF / 1024)
+#define MOST_NUMBERS 1024
+#define NONE SIZE_MAX
+
+/* the shelf: a page is the index of its block in the store, files in row order, each with its full capacity */
+static size_t n, files, block_size, places;
+static uint64_t inserted;
+static uint32_t rows[64 * 6];
+static uint8_t blocks[MOST_SHELF];
+static uint32_t counts[MOST_PLACES];
+static size_t holding[MOST_NUMBERS];
+
+/* beside it: the dirty pages, the pages put into the store, the page that a pin last got at each number, flushed, and the store after
+   the call before */
+static bool dirty[MOST_PLACES], was_put[MOST_PLACES];
+static size_t last[MOST_NUMBERS];
+static uint64_t flushed;
+static uint8_t store[MOST_SHELF];
+
+void shelf_begin(const struct memory *m, uint64_t page_size, uint64_t position)
+{
+    n = m->states_len;
+    files = m->rows_len / 6;
+    block_size = page_size;
+    places = m->store_len / page_size;
+    inserted = flushed = position;
+    if (m->rows_len > 0) memcpy(rows, m->rows, m->rows_len * sizeof *rows);
+    memcpy(blocks, m->store, m->store_len);
+    memcpy(store, m->store, m->store_len);
+    memset(counts, 0, sizeof counts);
+    memset(dirty, 0, sizeof dirty);
+    memset(was_put, 0, sizeof was_put);
+    for (size_t k = 0; k < MOST_NUMBERS; k++) holding[k] = last[k] = NONE;
+}
+
+static size_t row_of(const uint32_t *name)
+{
+    for (size_t r = 0; r < files; r++)
+        if (memcmp(rows + 6 * r, name, 4 * sizeof *rows) == 0) return r;
+    return NONE;
+}
+
+static size_t place_of(size_t row, uint32_t block)
+{
+    size_t start = 0;
+    for (size_t r = 0; r < row; r++) start += rows[6 * r + 5];
+    return start + block;
+}
+
+static bool in_file(size_t place, size_t row)
+{
+    return place >= place_of(row, 0) && place < place_of(row, 0) + rows[6 * row + 5];
+}
+
+static uint8_t *bytes_of(size_t place)
+{
+    return blocks + place * block_size;
+}
+
+static uint64_t position_of(const uint8_t *page)
+{
+    uint64_t high = 0, low = 0;
+    for (int k = 3; k >= 0; k--) {
+        high = high << 8 | page[k];
+        low = low << 8 | page[4 + k];
+    }
+    return high << 32 | low;
+}
+
+static size_t pages_with_pins(void)
+{
+    size_t many = 0;
+    for (size_t k = 0; k < places; k++) many += counts[k] != 0;
+    return many;
+}
+
+static uint32_t pin_refusal(const struct request *q)
+{
+    size_t r = row_of(q->name), place;
+    if (r == NONE) return 3;
+    if (q->name[4] >= rows[6 * r + 4]) return 4;
+    if (q->call == PEEK) return 0;
+    place = place_of(r, q->name[4]);
+    if (counts[place] == 262143) return 5;
+    return counts[place] == 0 && pages_with_pins() == n - (SHELF_SLIP == 1 && n > 1) ? 6 : 0;
+}
+
+static uint32_t write_refusal(const struct request *q, size_t place)
+{
+    if (q->from < 8) return 9;
+    if (q->own_len == 0) return 10;
+    if (q->position > inserted) return 11;
+    return q->position < position_of(bytes_of(place)) ? 12 : 0;
+}
+
+static uint32_t number_refusal(const struct request *q)
+{
+    if (q->buffer >= n) return 7;
+    if (holding[q->buffer] == NONE) return 8;
+    if (q->call == UNPIN || q->call == FLUSH) return 0;
+    if (q->own_len > block_size || q->from > block_size - q->own_len) return 9;
+    return q->call == READ ? 0 : write_refusal(q, holding[q->buffer]);
+}
+
+static uint32_t drop_refusal(size_t r)
+{
+    for (size_t k = 0; k < places; k++)
+        if (in_file(k, r) && counts[k] != 0) return 14;
+    return 0;
+}
+
+static uint32_t file_refusal(const struct request *q)
+{
+    size_t r = row_of(q->name);
+    if (r == NONE) return 3;
+    if (q->call == EXTEND) return rows[6 * r + 4] == rows[6 * r + 5] ? 13 : 0;
+    return drop_refusal(r);
+}
+
+static uint32_t refusal_of(const struct request *q)
+{
+    switch (q->call) {
+    case PIN:
+    case PEEK: return pin_refusal(q);
+    case EXTEND:
+    case DROP: return file_refusal(q);
+    case LOG_INSERTED: return q->position < inserted ? 15 : 0;
+    case LOG_FLUSHED: return q->position > inserted ? 16 : 0;
+    case CHECKPOINT: return 0;
+    default: return number_refusal(q);
+    }
+}
+
+/* A block is put into the store. Gives whether its bytes are the shelf's. */
+static bool put(size_t place, const uint8_t *now)
+{
+    memcpy(store + place * block_size, now + place * block_size, block_size);
+    was_put[place] = true;
+    return memcmp(now + place * block_size, bytes_of(place), block_size) == 0;
+}
+
+/* A page is written back: the position counted is the page's at that call. */
+static bool written_back(size_t place, const uint8_t *now)
+{
+    uint64_t position = position_of(bytes_of(place));
+    if (position > flushed && SHELF_SLIP != 2) flushed = position;
+    dirty[place] = false;
+    return put(place, now);
+}
+
+static const char *pinned(const struct request *q, const uint64_t *answer, const uint8_t *now)
+{
+    size_t place = place_of(row_of(q->name), q->name[4]), i = answer[0];
+    if (i >= n) return "a pin's buffer number is below N";
+    if (counts[place] > 0 && holding[i] != place) return "a pin of a page with pins answers the number already holding it";
+    if (counts[place] == 0 && holding[i] != NONE) return "a pin of a page without pins answers a number that holds none";
+    if (answer[3] > 6 * n) return "at most six probes per buffer";
+    if (answer[1] == 1 && (answer[2] != 0 || answer[3] != 0)) return "a hit makes no probes and writes nothing";
+    if (answer[2] == 1 && (last[i] == NONE || !dirty[last[i]])) return "a pin that answers wrote had a dirty page at the number";
+    if (answer[2] == 1 && !written_back(last[i], now)) return "the page written back at a pin is the shelf's";
+    counts[place]++;
+    holding[i] = last[i] = place;
+    return NULL;
+}
+
+static void unpinned(size_t i)
+{
+    if (--counts[holding[i]] == 0) holding[i] = NONE;
+}
+
+static const char *written(const struct request *q)
+{
+    uint8_t *page = bytes_of(holding[q->buffer]);
+    memcpy(page + q->from, q->own, q->own_len);
+    for (int k = 0; k < 4; k++) {
+        page[k] = (uint8_t)(q->position >> 32 >> 8 * k);
+        page[4 + k] = (uint8_t)(q->position >> 8 * k);
+    }
+    dirty[holding[q->buffer]] = true;
+    return NULL;
+}
+
+static const char *flushed_page(size_t place, const uint64_t *answer, const uint8_t *now)
+{
+    if (answer[0] != dirty[place]) return "a flush writes a dirty page";
+    return dirty[place] && !written_back(place, now) ? "the page flushed is the shelf's" : NULL;
+}
+
+/* every byte of each block below its file's block count */
+static const char *checkpointed(const uint64_t *answer, const uint8_t *now)
+{
+    uint64_t many = 0;
+    for (size_t k = 0; k < places; k++) {
+        if (!dirty[k]) continue;
+        many++;
+        written_back(k, now);
+    }
+    for (size_t r = 0; r < files; r++) {
+        size_t start = place_of(r, 0) * block_size;
+        if (memcmp(now + start, blocks + start, rows[6 * r + 4] * block_size) != 0) return "after a checkpoint the store is the shelf";
+    }
+    return answer[0] == many ? NULL : "a checkpoint answers how many pages were dirty";
+}
+
+static const char *extended(const struct request *q, const uint64_t *answer, const uint8_t *now)
+{
+    uint32_t *row = rows + 6 * row_of(q->name);
+    size_t place = place_of(row_of(q->name), row[4]);
+    if (answer[0] != row[4]) return "an extend answers the shelf's block number";
+    memset(bytes_of(place), 0, block_size);
+    if (!put(place, now)) return "an extend's new block is zeros";
+    row[4]++;
+    return NULL;
+}
+
+static const char *dropped(size_t r)
+{
+    rows[6 * r + 4] = 0;
+    for (size_t k = 0; k < places; k++)
+        if (in_file(k, r)) dirty[k] = SHELF_SLIP == 3 && dirty[k];
+    return NULL;
+}
+
+static const char *peeked(const struct request *q, const struct memory *after)
+{
+    const uint64_t *answer = after->answer;
+    size_t length = answer[0] == 1 ? after->pool_len : after->store_len;
+    const uint8_t *slice = answer[0] == 1 ? after->pool : after->store;
+    if (answer[1] > length || length - answer[1] < block_size) return "a peek hands back a part of pool or store";
+    const uint8_t *page = bytes_of(place_of(row_of(q->name), q->name[4]));
+    return memcmp(slice + answer[1], page, block_size) == 0 ? NULL : "a peek hands back the shelf's bytes";
+}
+
+static const char *accepted(const struct request *q, const uint8_t *own, const struct memory *after)
+{
+    switch (q->call) {
+    case PIN: return pinned(q, after->answer, after->store);
+    case PEEK: return peeked(q, after);
+    case UNPIN: return unpinned(q->buffer), NULL;
+    case READ: return memcmp(own, bytes_of(holding[q->buffer]) + q->from, q->own_len) == 0 ? NULL : "a read fills in the shelf's bytes";
+    case WRITE: return written(q);
+    case FLUSH: return flushed_page(holding[q->buffer], after->answer, after->store);
+    case CHECKPOINT: return checkpointed(after->answer, after->store);
+    case EXTEND: return extended(q, after->answer, after->store);
+    case DROP: return dropped(row_of(q->name));
+    case LOG_INSERTED: return inserted = q->position, NULL;
+    default: return flushed = q->position > flushed ? q->position : flushed, NULL;
+    }
+}
+
+/* whether every block put into the store by now is at or below flushed */
+static bool in_log_order(uint64_t flushed_now)
+{
+    for (size_t k = 0; k < places; k++)
+        if (was_put[k] && position_of(store + k * block_size) > flushed_now) return false;
+    return true;
+}
+
+const char *shelf_follow(const struct request *q, const uint8_t *own, uint32_t result, const struct memory *after)
+{
+    static const uint64_t zeros[4];
+    const char *wrong = NULL;
+    if (result != refusal_of(q)) return "the refusal number is the shelf's";
+    if (result != 0 && memcmp(after->answer, zeros, sizeof zeros) != 0) return "a refusal has zeros for an answer";
+    if (result == 0) wrong = accepted(q, own, after);
+    if (wrong != NULL) return wrong;
+    if (memcmp(rows, after->rows, 24 * files) != 0) return "all rows are the shelf's";
+    if (inserted != after->control[3]) return "inserted is the shelf's";
+    if (flushed != after->control[4]) return "flushed is the largest position of set up, log flushed and the pages written back";
+    if (memcmp(store, after->store, places * block_size) != 0) return "no other block of the store has changed";
+    if (!in_log_order(after->control[4])) return "every block put into the store is at or below flushed";
+    return NULL;
+}

@@ -1,0 +1,195 @@
+#include "generate.h"
+#include <string.h>
+
+uint64_t random64(void)
+{
+    uint64_t high = random_below(UINT32_MAX);
+    return high << 32 | random_below(UINT32_MAX);
+}
+
+void random_fill(void *at, size_t bytes)
+{
+    uint64_t x = random64() | 1;
+    uint8_t *to = at;
+    for (size_t k = 0; k < bytes; k += 8) {
+        x ^= x << 13;
+        x ^= x >> 7;
+        x ^= x << 17;
+        memcpy(to + k, &x, bytes - k < 8 ? bytes - k : 8);
+    }
+}
+
+uint64_t below(uint64_t position, uint64_t by)
+{
+    return position > by ? position - by : 0;
+}
+
+uint64_t above(uint64_t position, uint64_t by)
+{
+    return position < UINT64_MAX - by ? position + by : UINT64_MAX;
+}
+
+uint64_t some_log(void)
+{
+    static const uint64_t logs[] = {0, 100, 100, UINT32_MAX - 5u, 1ull << 32, 0x116B374D0, 1ull << 63, UINT64_MAX - 40, UINT64_MAX};
+    return logs[random_below(sizeof logs / sizeof *logs)];
+}
+
+struct sizes some_sizes(void)
+{
+    bool middling = random_below(64) == 0;
+    struct sizes s = {.n = 1 + random_below(random_below(3) == 0 ? 3 : 8), .page_size = 1024, .files = 1 + random_below(4)};
+    if (middling) s.n = 60 + random_below(5);
+    if (random_below(8) == 0) s.page_size = random_below(4) == 0 ? 1024u << random_below(6) : 2048;
+    if (random_below(20) == 0) s.files = 0;
+    s.buckets = s.n + random_below(9);
+    for (size_t r = 0; r < s.files; r++) {
+        s.capacity[r] = random_below(middling ? 40 : 10);
+        s.blocks[r] = random_below(3) != 0 ? (uint32_t)below(s.capacity[r], random_below(3)) : random_below(s.capacity[r] + 1);
+    }
+    return s;
+}
+
+struct sizes great_sizes(unsigned kind)
+{
+    struct sizes s = {.n = 1024, .buckets = 4096, .page_size = 1024, .files = 64};
+    if (kind == 1) s = (struct sizes){.n = 1023, .buckets = 4095, .page_size = 1024, .files = 63};
+    if (kind == 2) s.n = 1025;
+    if (kind == 3) s.buckets = 4097;
+    if (kind == 4) s.files = 65;
+    for (size_t r = 0; r < s.files; r++) s.blocks[r] = s.capacity[r] = s.files == 65 ? 1000 : 1024;
+    if (kind == 5) s.capacity[63]++;
+    return s;
+}
+
+static void put_position(uint8_t *page, uint64_t position)
+{
+    uint64_t words = position >> 32 | position << 32;
+    for (int k = 0; k < 8; k++) page[k] = (uint8_t)(words >> 8 * k);
+}
+
+/* four numbers, with few values, so that files differ in one number only, and zeros and great ones occur */
+static void some_file(uint32_t *row)
+{
+    static const uint32_t spaces[] = {1663, 1664, 0, UINT32_MAX}, relations[] = {16384, 16385, 0, 1u << 31};
+    row[0] = spaces[random_below(4)];
+    row[1] = random_below(3) * 5;
+    row[2] = relations[random_below(4)];
+    row[3] = random_below(3);
+}
+
+static bool file_is_new(const uint32_t *rows, size_t r)
+{
+    for (size_t k = 0; k < r; k++)
+        if (memcmp(rows + 6 * k, rows + 6 * r, 4 * sizeof *rows) == 0) return false;
+    return true;
+}
+
+static void fill_rows(const struct sizes *s)
+{
+    for (size_t r = 0; r < s->files; r++) {
+        uint32_t *row = twin.rows + 6 * r, many[4] = {1663, 5, 16384 + (uint32_t)r / 3, (uint32_t)r % 3};
+        do {
+            if (s->files > 8) memcpy(row, many, sizeof many);
+            else some_file(row);
+        } while (!file_is_new(twin.rows, r));
+        row[4] = s->blocks[r];
+        row[5] = s->capacity[r];
+    }
+}
+
+/* the store's pages have positions up to the log's end, few beyond it */
+static void fill_store(const struct sizes *s, uint64_t log)
+{
+    size_t blocks = 0;
+    for (size_t r = 0; r < s->files; r++) blocks += s->capacity[r];
+    twin.store_len = blocks * s->page_size;
+    random_fill(twin.store, twin.store_len);
+    for (size_t k = 0; k < blocks; k++)
+        if (random_below(32) != 0) put_position(twin.store + k * s->page_size, below(log, random_below(50)));
+}
+
+void fill_unset(const struct sizes *s, uint64_t log)
+{
+    twin.control_len = 5;
+    twin.answer_len = 4;
+    twin.states_len = twin.free_len = twin.chain_len = s->n;
+    twin.names_len = 5 * s->n;
+    twin.pool_len = s->n * s->page_size;
+    twin.heads_len = s->buckets;
+    twin.rows_len = 6 * s->files;
+    fill_rows(s);
+    fill_store(s, log);
+    for (int k = 0; k < OWN; k++)
+        if (k != ROWS && k != STORE) random_fill((void *)twin_part((enum part)k), part_length((enum part)k, NULL) * part_sizes[k]);
+}
+
+/* the numbers below n in any order */
+static void shuffled(uint32_t *numbers, size_t n)
+{
+    for (size_t k = 0; k < n; k++) {
+        size_t j = random_below((uint32_t)k + 1);
+        numbers[k] = numbers[j];
+        numbers[j] = (uint32_t)k;
+    }
+}
+
+/* the kth of all the pages below their files' block counts */
+static void name_page(const struct sizes *s, uint32_t k, uint32_t *name)
+{
+    size_t r = 0;
+    for (; k >= s->blocks[r]; r++) k -= s->blocks[r];
+    memcpy(name, twin.rows + 6 * r, 4 * sizeof *name);
+    name[4] = k;
+}
+
+/* pins: few, on every buffer, or any; the greatest count and the one below it too */
+static uint32_t some_pins(unsigned style)
+{
+    static const uint32_t counts[] = {0, 1, 2, 3, 262142, 262143, 0, 262143};
+    if (style == 0) return random_below(4) == 0;
+    return counts[style == 1 ? 1 + random_below(5) : random_below(8)];
+}
+
+static void fill_buffer(const struct sizes *s, size_t i, uint32_t page, unsigned style)
+{
+    uint32_t *name = twin.names + 5 * i, dirty = random_below(2), flags = 1u << 31 | 1u << 25 | 1u << 24;
+    uint64_t inserted = twin.control[3];
+    name_page(s, page, name);
+    int32_t *head = &twin.heads[name_hash(name) % s->buckets];
+    twin.chain[i] = *head;
+    *head = (int32_t)i;
+    twin.free[i] = -2;
+    twin.states[i] = flags | dirty << 28 | dirty << 23 | random_below(6) << 18 | some_pins(style);
+    if (dirty || random_below(8) != 0) put_position(twin.pool + i * s->page_size, below(inserted, random_below(60)));
+}
+
+static void fill_lists(const struct sizes *s)
+{
+    static uint32_t order[1032], pages[65600];
+    uint32_t total = 0, used, style = random_below(3);
+    for (size_t r = 0; r < s->files; r++) total += s->blocks[r];
+    used = total < s->n ? total : (uint32_t)s->n;
+    if (random_below(2) == 0) used = random_below(used + 1);
+    shuffled(order, s->n);
+    shuffled(pages, total);
+    for (uint32_t k = 0; k < used; k++) fill_buffer(s, order[k], pages[k], style);
+    for (size_t k = used; k < s->n; k++) {
+        size_t i = order[k];
+        twin.states[i] = 0;
+        memset(twin.names + 5 * i, 0, 5 * sizeof *twin.names);
+        twin.free[i] = twin.control[2] == UINT64_MAX ? -1 : (int32_t)twin.control[2];
+        twin.control[2] = i;
+    }
+}
+
+void fill_sound(const struct sizes *s)
+{
+    uint64_t inserted = above(some_log(), random_below(100)), flushed = below(inserted, random_below(60));
+    fill_unset(s, inserted);
+    uint64_t control[5] = {s->page_size, random_below((uint32_t)s->n), UINT64_MAX, inserted, random_below(8) == 0 ? inserted : flushed};
+    memcpy(twin.control, control, sizeof control);
+    memset(twin.heads, 255, s->buckets * sizeof *twin.heads);
+    memset(twin.chain, 255, s->n * sizeof *twin.chain);
+    fill_lists(s);
+}
