@@ -2,32 +2,13 @@
    Status 1 if the check takes more than 1.1 times the time of the plain C, for a shape of pool. */
 #include "bufbooks.h"
 #include "memory.h"
+#include "timing.h"
 #include <stdio.h>
 #include <stdlib.h>
-#include <time.h>
 
 enum { ROUNDS = 401, WORK = 200000 };
 
 check_fn plain_check;
-
-static double now(void)
-{
-    struct timespec t;
-    clock_gettime(CLOCK_MONOTONIC, &t);
-    return (double)t.tv_sec * 1e9 + (double)t.tv_nsec;
-}
-
-static int rising(const void *a, const void *b)
-{
-    double x = *(const double *)a, y = *(const double *)b;
-    return (x > y) - (x < y);
-}
-
-static double median(double *times)
-{
-    qsort(times, ROUNDS, sizeof *times, rising);
-    return times[ROUNDS / 2];
-}
 
 /* nanoseconds for one of so many calls; every answer has to be 0 */
 static double time_of(check_fn *check, const struct memory *m, size_t calls)
@@ -56,8 +37,9 @@ static double bench(const struct shape *s)
         ratio[k] = proved[k] / plain[k];
     }
     printf("N = %4zu, B = %4zu, F = %2zu, P = %zu, %3u%% in use, %s: %6.0f ns, plain C %6.0f ns, ratio %.2f\n", s->buffers, s->buckets,
-           s->files, s->page, s->used, s->runs ? "runs of blocks   " : "from file to file", median(proved), median(plain), median(ratio));
-    return median(ratio);
+           s->files, s->page, s->used, s->runs ? "runs of blocks   " : "from file to file", median(proved, ROUNDS),
+           median(plain, ROUNDS), median(ratio, ROUNDS));
+    return median(ratio, ROUNDS);
 }
 
 int main(void)

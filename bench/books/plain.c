@@ -21,6 +21,21 @@ static bool same_file(const uint32_t *row, const uint32_t *file)
     return row[2] == file[2] && row[0] == file[0] && row[1] == file[1] && row[3] == file[3];
 }
 
+/* where the guess for a file's row stands */
+static size_t slot_of(const uint32_t *file)
+{
+    return (file[2] + 21 * file[3]) % 64;
+}
+
+/* the row of a file, or the number of rows if it has none */
+static size_t find_row(const uint32_t *rows, size_t files, size_t guess, const uint32_t *file)
+{
+    size_t r = 0;
+    if (guess < files && same_file(rows + 6 * guess, file)) return guess;
+    while (r < files && !same_file(rows + 6 * r, file)) r++;
+    return r;
+}
+
 static bool same_name(const uint32_t *a, const uint32_t *b)
 {
     return a[0] == b[0] && a[1] == b[1] && a[2] == b[2] && a[3] == b[3] && a[4] == b[4];
@@ -81,9 +96,9 @@ uint32_t plain_check(const uint64_t *control, size_t control_len, const uint32_t
                      const int32_t *heads, size_t buckets, const int32_t *chain, size_t chain_len, const uint32_t *rows,
                      size_t rows_len, const uint8_t *store, size_t store_len, const uint64_t *answer, size_t answer_len)
 {
-    uint32_t hashes[64];
+    uint32_t hashes[64], guesses[64] = {0};
     uint64_t blocks;
-    size_t files = rows_len / 6, used = 0, near = 0, left;
+    size_t files = rows_len / 6, used = 0, left;
     (void)store;
     (void)answer;
 
@@ -96,6 +111,7 @@ uint32_t plain_check(const uint64_t *control, size_t control_len, const uint32_t
     for (size_t r = 0; r < files; r++) {
         const uint32_t *row = rows + 6 * r;
         hashes[r] = mix(mix(mix(mix(2166136261u, row[0]), row[1]), row[2]), row[3]);
+        guesses[slot_of(row)] = (uint32_t)r;
     }
     for (size_t i = 0; i < n; i++) {
         uint32_t w = states[i];
@@ -109,13 +125,9 @@ uint32_t plain_check(const uint64_t *control, size_t control_len, const uint32_t
             const uint8_t *page = pool + i * control[0];
             if (((uint64_t)word(page) << 32 | word(page + 4)) > control[3]) return 2;
         }
-        if (near >= files || !same_file(rows + 6 * near, name)) {
-            for (near = 0; near < files; near++)
-                if (same_file(rows + 6 * near, name)) break;
-            if (near == files) return 2;
-        }
-        if (name[4] >= rows[6 * near + 4]) return 2;
-        if (!is_found(chain, names, n, heads[mix(hashes[near], name[4]) % buckets], i)) return 2;
+        size_t r = find_row(rows, files, guesses[slot_of(name)], name);
+        if (r == files || name[4] >= rows[6 * r + 4]) return 2;
+        if (!is_found(chain, names, n, heads[mix(hashes[r], name[4]) % buckets], i)) return 2;
         used++;
     }
     left = n - used;
