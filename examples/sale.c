@@ -1,0 +1,136 @@
+#include "sale.h"
+
+#include <string.h>
+
+#include "trail.h"
+
+static void say_pinned(const struct till *till, uint32_t block, const struct bufpool_pinned *pinned)
+{
+    printf("till %u              page %u: ", till->number, block);
+    if (pinned->hit) {
+        printf("in buffer %llu already\n", (unsigned long long)pinned->buffer.number);
+        return;
+    }
+    printf("loaded into buffer %llu", (unsigned long long)pinned->buffer.number);
+    if (pinned->probes > 0) printf(" after %llu probes", (unsigned long long)pinned->probes);
+    printf("%s\n", pinned->wrote ? "; the page that was there is written back" : "");
+}
+
+/* The buffer of a page, pinned for this till's open receipt. */
+static uint32_t hold(struct shop *shop, struct till *till, uint32_t block, struct bufpool_buffer *buffer)
+{
+    struct bufpool_pinned pinned;
+    char who[16];
+    uint32_t refusal, k;
+    for (k = 0; k < till->held_pages; k++) {
+        if (till->held[k].block == block) {
+            *buffer = till->held[k].buffer;
+            return BUFPOOL_DONE;
+        }
+    }
+    if (k == HELD_PAGES) stop("till %u: a receipt on more than %d pages", till->number, HELD_PAGES);
+    snprintf(who, sizeof who, "till %u", till->number);
+    refusal = shop_pin(shop, who, bufpool_name_of(receipts_file, block), &pinned);
+    if (refusal == BUFPOOL_ALL_PINNED) return refusal;
+    must("pin", refusal);
+    say_pinned(till, block, &pinned);
+    *buffer = pinned.buffer;
+    till->held[till->held_pages].block = block;
+    till->held[till->held_pages++].buffer = pinned.buffer;
+    return BUFPOOL_DONE;
+}
+
+/* The log first: it is a line longer, and the page that changes gets the position of its new end. */
+static void log_and_write(struct shop *shop, struct bufpool_buffer buffer, uint64_t from, const struct line *line)
+{
+    uint64_t position = shop->pool.control[BUFPOOL_INSERTED] + 1;
+    must("log inserted", bufpool_log_inserted_to(&shop->pool, position));
+    must("write", bufpool_write_buffer(&shop->pool, buffer, from, (const uint8_t *)line, sizeof *line, position));
+}
+
+static struct line line_of(uint32_t till, uint32_t receipt, const struct product *product)
+{
+    struct line line;
+    memset(&line, 0, sizeof line);
+    line.kind = LINE_SOLD;
+    line.till = till;
+    line.receipt = receipt;
+    line.rate = product->rate;
+    line.pence = product->pence;
+    snprintf(line.item, sizeof line.item, "%s", product->name);
+    return line;
+}
+
+static void new_page(struct shop *shop)
+{
+    uint32_t block;
+    must("extend", bufpool_extend_file(&shop->pool, receipts_file, &block));
+    trail_note(shop, "the receipts get page %u", block);
+    shop->last_lines = 0;
+}
+
+uint32_t sale_press(struct shop *shop, struct till *till, const struct product *product)
+{
+    struct bufpool_buffer buffer;
+    uint32_t refusal;
+    if (shop->last_lines == shop->page_lines) new_page(shop);
+    refusal = hold(shop, till, receipts_blocks(shop) - 1, &buffer);
+    if (refusal != BUFPOOL_DONE) return refusal;
+    if (till->receipt == 0) {
+        till->receipt = ++shop->receipts;
+        till->pence = 0;
+    }
+    till->last = line_of(till->number, till->receipt, product);
+    till->last_from = (uint64_t)LINE_BYTES * ++shop->last_lines;
+    till->pence += product->pence;
+    log_and_write(shop, buffer, till->last_from, &till->last);
+    trail_note(shop, "till %u writes a line on page %u", till->number, receipts_blocks(shop) - 1);
+    return BUFPOOL_DONE;
+}
+
+void sale_void(struct shop *shop, struct till *till)
+{
+    const struct held *held;
+    if (till->held_pages == 0 || till->last.kind != LINE_SOLD) stop("till %u: there is no line to void", till->number);
+    held = &till->held[till->held_pages - 1]; /* the line is on the page that the till pinned last */
+    till->last.kind = LINE_VOID;
+    till->pence -= till->last.pence;
+    log_and_write(shop, held->buffer, till->last_from, &till->last);
+    trail_note(shop, "till %u voids a line on page %u", till->number, held->block);
+}
+
+void sale_pay(struct shop *shop, struct till *till, int by_card)
+{
+    uint64_t written;
+    uint32_t k;
+    if (by_card) shop_force_log(shop);
+    for (k = 0; k < till->held_pages; k++) {
+        const struct held *held = &till->held[k];
+        if (by_card) {
+            must("flush", bufpool_flush_buffer(&shop->pool, held->buffer, &written));
+            trail_note(shop, "till %u flushes page %u", till->number, held->block);
+        }
+        must("unpin", bufpool_unpin_buffer(&shop->pool, held->buffer));
+        trail_note(shop, "till %u gives page %u back", till->number, held->block);
+    }
+    if (by_card) card_settle(shop);
+    till->held_pages = 0;
+    till->receipt = 0;
+}
+
+void sale_practice(struct shop *shop, const struct product *product)
+{
+    struct bufpool_pinned pinned;
+    struct line line = line_of(1, 0, product);
+    uint32_t block;
+    must("extend", bufpool_extend_file(&shop->pool, practice_file, &block));
+    trail_note(shop, "practice gets page %u", block);
+    must("pin", shop_pin(shop, "practice", bufpool_name_of(practice_file, block), &pinned));
+    log_and_write(shop, pinned.buffer, LINE_BYTES, &line);
+    trail_note(shop, "practice writes a line on page %u", block);
+    must("unpin", bufpool_unpin_buffer(&shop->pool, pinned.buffer));
+    trail_note(shop, "practice gives page %u back", block);
+    must("drop", bufpool_drop_file(&shop->pool, practice_file));
+    trail_note(shop, "practice is dropped");
+    printf("practice: a receipt for the class, dropped\n");
+}

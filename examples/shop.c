@@ -1,0 +1,188 @@
+#define _DEFAULT_SOURCE
+#include "shop.h"
+
+#include <errno.h>
+#include <fcntl.h>
+#include <stdarg.h>
+#include <stdlib.h>
+#include <string.h>
+#include <sys/mman.h>
+#include <sys/stat.h>
+#include <unistd.h>
+
+#include "sale.h"
+#include "trail.h"
+
+static const char card_mark[8] = "tillcard";
+
+const struct bufpool_file receipts_file = {1663, 5, 16384, 0}, practice_file = {1663, 5, 16385, 0};
+
+void stop(const char *format, ...)
+{
+    va_list rest;
+    fflush(stdout);
+    fputs("till: ", stderr);
+    va_start(rest, format);
+    vfprintf(stderr, format, rest);
+    va_end(rest);
+    fputc('\n', stderr);
+    exit(1);
+}
+
+void must(const char *call, uint32_t refusal)
+{
+    if (refusal != BUFPOOL_DONE) stop("%s: refused, %u: %s", call, refusal, bufpool_refusal_words(refusal));
+}
+
+uint32_t receipts_blocks(const struct shop *shop)
+{
+    return shop->card->rows[BUFPOOL_BLOCKS];
+}
+
+static void fill_row(uint32_t *row, struct bufpool_file file, uint32_t blocks, uint32_t capacity)
+{
+    row[BUFPOOL_TABLESPACE] = file.tablespace;
+    row[BUFPOOL_DATABASE] = file.database;
+    row[BUFPOOL_RELATION] = file.relation;
+    row[BUFPOOL_FORK] = file.fork;
+    row[BUFPOOL_BLOCKS] = blocks;
+    row[BUFPOOL_CAPACITY] = capacity;
+}
+
+int card_new(const char *path, const struct sizes *sizes)
+{
+    struct card card;
+    FILE *temporary;
+    off_t length = (off_t)sizes->page * (1 + (off_t)sizes->blocks);
+    int fd = -1;
+    if (sizes->page < 1024 || sizes->blocks < 2) stop("a card has at least 2 blocks, of at least 1024 bytes");
+    if (path != NULL) {
+        fd = open(path, O_RDWR | O_CREAT | O_EXCL, 0600);
+    } else if ((temporary = tmpfile()) != NULL) {
+        fd = fileno(temporary); /* never closed: the file goes when the program ends */
+    }
+    if (fd < 0) stop("no new card at %s: %s", path != NULL ? path : "a temporary place", strerror(errno));
+    memset(&card, 0, sizeof card);
+    memcpy(card.mark, card_mark, sizeof card_mark);
+    card.page_size = sizes->page;
+    card.day_block = sizes->used;
+    /* one block is kept for the class; the file stays full of holes until its blocks are written */
+    fill_row(card.rows, receipts_file, sizes->used, sizes->blocks - 1);
+    fill_row(card.rows + BUFPOOL_ROW_WORDS, practice_file, 0, 1);
+    if (ftruncate(fd, length) != 0 || pwrite(fd, &card, sizeof card, 0) != (ssize_t)sizeof card) {
+        stop("the card cannot be written: %s", strerror(errno));
+    }
+    return fd;
+}
+
+int card_open(const char *path)
+{
+    int fd = open(path, O_RDWR);
+    if (fd < 0) stop("%s: %s", path, strerror(errno));
+    return fd;
+}
+
+static void map_card(struct shop *shop, int fd)
+{
+    struct stat file;
+    void *all;
+    if (fstat(fd, &file) != 0 || (size_t)file.st_size < sizeof *shop->card) stop("this file is not a card");
+    shop->card_len = (size_t)file.st_size;
+    all = mmap(NULL, shop->card_len, PROT_READ | PROT_WRITE, MAP_SHARED, fd, 0);
+    if (all == MAP_FAILED) stop("the card cannot be mapped: %s", strerror(errno));
+    madvise(all, shop->card_len, MADV_RANDOM); /* a block is asked for by itself: reading ahead only fills memory */
+    shop->card = all;
+    if (memcmp(shop->card->mark, card_mark, sizeof card_mark) != 0) stop("this file is not a card");
+}
+
+/* Memory as it may come, not cleared: set up needs none that is. */
+static void *fresh(size_t count, size_t size)
+{
+    void *memory = malloc(count * size + 1);
+    if (memory == NULL) stop("no memory");
+    return memset(memory, 0xA5, count * size + 1);
+}
+
+void shop_start(struct shop *shop, int fd, uint32_t buffers)
+{
+    struct bufpool *m = &shop->pool;
+    map_card(shop, fd);
+    m->rows = shop->card->rows;
+    bufpool_fit(m, buffers, buffers, FILES, shop->card->page_size);
+    if (shop->card_len != shop->card->page_size + m->store_len) stop("the card is not as long as its file rows say");
+    if (shop->card->day_block > receipts_blocks(shop)) stop("the card's day begins behind its last block");
+    shop->page_lines = shop->last_lines = shop->card->page_size / LINE_BYTES - 1;
+    shop->receipts = 0;
+    m->store = (uint8_t *)shop->card + shop->card->page_size;
+    m->control = fresh(m->control_len, sizeof *m->control);
+    m->states = fresh(m->states_len, sizeof *m->states);
+    m->names = fresh(m->names_len, sizeof *m->names);
+    m->pool = fresh(m->pool_len, 1);
+    m->free = fresh(m->free_len, sizeof *m->free);
+    m->heads = fresh(m->heads_len, sizeof *m->heads);
+    m->chain = fresh(m->chain_len, sizeof *m->chain);
+    must("set up", bufpool_set_up_pool(m, shop->card->page_size, shop->card->position));
+    trail_note(shop, "set up at log position %llu", (unsigned long long)shop->card->position);
+}
+
+static void settle(struct card *card, size_t bytes)
+{
+    if (msync(card, bytes, MS_SYNC) != 0) stop("the card cannot be written: %s", strerror(errno));
+}
+
+void card_settle(const struct shop *shop)
+{
+    settle(shop->card, shop->card_len);
+}
+
+void card_let_go(const struct shop *shop)
+{
+    if (madvise(shop->card, shop->card_len, MADV_DONTNEED) != 0) stop("the card cannot be let go: %s", strerror(errno));
+}
+
+/* Of a log this example keeps only the end, among the notes: a line more, a position more. A till with a real log writes its records
+   out here. */
+void shop_force_log(struct shop *shop)
+{
+    uint64_t inserted = shop->pool.control[BUFPOOL_INSERTED];
+    if (shop->pool.control[BUFPOOL_FLUSHED] == inserted) return;
+    shop->card->position = inserted;
+    settle(shop->card, sizeof *shop->card);
+    must("log flushed", bufpool_log_flushed_to(&shop->pool, inserted));
+    trail_note(shop, "the log is on the card up to %llu", (unsigned long long)inserted);
+}
+
+uint32_t shop_pin(struct shop *shop, const char *who, struct bufpool_name name, struct bufpool_pinned *pinned)
+{
+    uint32_t refusal;
+    if (shop->pool.control[BUFPOOL_FREE_TOP] == BUFPOOL_FREE_NONE) shop_force_log(shop);
+    refusal = bufpool_pin_page(&shop->pool, name, pinned);
+    trail_pin(shop, who, name, refusal, pinned);
+    return refusal;
+}
+
+void shop_checkpoint(struct shop *shop)
+{
+    uint64_t written;
+    shop_force_log(shop);
+    must("checkpoint", bufpool_checkpoint_pool(&shop->pool, &written));
+    card_settle(shop);
+    card_let_go(shop);
+    trail_note(shop, "checkpoint: %llu pages written", (unsigned long long)written);
+    printf("checkpoint: log flushed to %llu, pages written: %llu\n", (unsigned long long)shop->pool.control[BUFPOOL_FLUSHED],
+           (unsigned long long)written);
+}
+
+void shop_end(struct shop *shop)
+{
+    struct bufpool *m = &shop->pool;
+    munmap(shop->card, shop->card_len);
+    shop->card = NULL;
+    free(m->control);
+    free(m->states);
+    free(m->names);
+    free(m->pool);
+    free(m->free);
+    free(m->heads);
+    free(m->chain);
+}

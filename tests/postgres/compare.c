@@ -1,0 +1,173 @@
+/* Compares what the library makes with PostgreSQL's own layouts: compare tags|forks|constants|words|pins|positions.
+   Status 0 if they agree; else 1, and a line about the first difference. */
+#include "buftag.h"
+#include "published.h"
+#include "small.h"
+#include <stdio.h>
+#include <string.h>
+
+enum { NAMES = 100000, CALLS = 200000, POSITIONS = 20000, BUFFERS = MOST_BUFFERS };
+
+static void see_tag(const uint32_t name[5], uint64_t which)
+{
+    uint8_t ours[BUFTAG_NAME_BYTES], theirs[64];
+    size_t size = published_tag(name, theirs);
+    need(size == sizeof ours, "a BufferTag's bytes are not 20 but", size);
+    need(buftag_bytes(name[0], name[1], name[2], name[3], name[4], ours, sizeof ours) == 0, "buftag_bytes refuses name", which);
+    need(memcmp(ours, theirs, sizeof ours) == 0, "the bytes differ of name", which);
+}
+
+/* Case A, with the document's bytes, and random names: all numbers but the fork have any 32 bits. */
+static void tags(void)
+{
+    static const uint32_t case_a[5] = {16821, 16384, 37721, 0, 7};
+    static const uint8_t bytes[20] = {0xB5, 0x41, 0, 0, 0, 0x40, 0, 0, 0x59, 0x93, 0, 0, 0, 0, 0, 0, 7, 0, 0, 0};
+    uint8_t theirs[64];
+    published_tag(case_a, theirs);
+    need(memcmp(theirs, bytes, sizeof bytes) == 0, "case A's bytes are not a BufferTag's, block", case_a[4]);
+    see_tag(case_a, 0);
+    for (uint64_t k = 1; k <= NAMES; k++) {
+        uint32_t name[5];
+        for (int w = 0; w < 5; w++) name[w] = (uint32_t)random64() >> (8 * random_below(4));
+        name[3] = random_below(3);
+        see_tag(name, k);
+    }
+}
+
+/* 0 table, 1 free space map, 2 visibility map */
+static void forks(void)
+{
+    for (int fork = 0; fork < 3; fork++) need(published_fork(fork) == (uint32_t)fork, "another number has fork", (uint64_t)fork);
+}
+
+/* Document 01's numbers: flags, greatest usage count and greatest pin count. */
+static void constants(void)
+{
+    static const int bits[FLAGS] = {23, 24, 25, 28, 31};
+    for (int f = 0; f < FLAGS; f++) need(published_flag((enum flag)f) == (uint32_t)1 << bits[f], "another flag is bit", (uint64_t)bits[f]);
+    need(published_most_usage() == 5, "the greatest usage count", published_most_usage());
+    need(published_most_pins() == BUFPOOL_MAX_PINS, "the greatest pin count", published_most_pins());
+}
+
+/* What a buffer's word has to say, kept beside the pool. */
+struct expected {
+    uint32_t pins, usage;
+    int dirty, used;
+};
+
+static void see_flags(uint32_t word, const struct expected *e)
+{
+    uint32_t dirty = published_flag(FLAG_DIRTY) | published_flag(FLAG_JUST_DIRTIED);
+    uint32_t always = published_flag(FLAG_VALID) | published_flag(FLAG_TAG_VALID) | published_flag(FLAG_PERMANENT);
+    need((word & always) == always, "valid, tag valid and permanent are not all in word", word);
+    need((word & dirty) == (e->dirty ? dirty : 0), "dirty and just dirtied are wrong in word", word);
+}
+
+static void see_word(const struct bufpool *m, uint32_t block, const struct expected *e)
+{
+    const uint32_t word = m->states[block], name[5] = {1663, 5, 16384, 0, block};
+    uint8_t tag[64];
+    published_tag(name, tag);
+    need(word == published_word(e->pins, e->usage, e->dirty), "PostgreSQL's constants make another word than", word);
+    need(published_pins(word) == e->pins, "the pin count is wrong in word", word);
+    need(published_usage(word) == e->usage, "the usage count is wrong in word", word);
+    need(memcmp(m->names + BUFPOOL_NAME_WORDS * block, tag, 20) == 0, "the pool's name is no BufferTag, of block", block);
+    see_flags(word, e);
+}
+
+static void see_pin(struct bufpool *m, uint32_t block, struct expected *e)
+{
+    struct bufpool_pinned p;
+    need(bufpool_pin_page(m, small_name(block), &p) == BUFPOOL_DONE, "pin is refused, of block", block);
+    need(p.buffer.number == block && p.hit == e->used, "pin answers another buffer for block", block);
+    if (!e->used || e->usage < published_most_usage()) e->usage++;
+    e->used = 1;
+    e->pins++;
+}
+
+/* A call on a buffer with pins. */
+static void see_call(struct bufpool *m, uint32_t block, struct expected *e)
+{
+    static const uint8_t byte[1] = {1};
+    struct bufpool_buffer buffer = {block};
+    uint64_t written;
+    switch (random_below(4)) {
+    case 0:
+        need(bufpool_write_buffer(m, buffer, 8, byte, 1, 100) == BUFPOOL_DONE, "write is refused, to buffer", block);
+        e->dirty = 1;
+        break;
+    case 1:
+        need(bufpool_flush_buffer(m, buffer, &written) == BUFPOOL_DONE, "flush is refused, of buffer", block);
+        need(written == (uint64_t)e->dirty, "flush answers another count written", written);
+        e->dirty = 0;
+        break;
+    default:
+        need(bufpool_unpin_buffer(m, buffer) == BUFPOOL_DONE, "unpin is refused, of buffer", block);
+        e->pins--;
+    }
+}
+
+/* Random pins, writes, flushes and unpins: block k is in buffer k, taken from the free list. */
+static void words(void)
+{
+    struct bufpool *m = small_pool(BUFFERS, BUFFERS, 100);
+    struct expected e[BUFFERS] = {{0, 0, 0, 0}};
+    for (uint32_t k = 0; k < BUFFERS; k++) see_pin(m, k, &e[k]);
+    for (uint32_t k = 0; k < CALLS; k++) {
+        uint32_t block = random_below(BUFFERS);
+        if (e[block].pins == 0 || random_below(5) < 2) see_pin(m, block, &e[block]);
+        else see_call(m, block, &e[block]);
+        see_word(m, block, &e[block]);
+    }
+}
+
+/* The greatest pin count, and the pin that is one too many. */
+static void pins(void)
+{
+    struct bufpool *m = small_pool(1, 1, 100);
+    struct expected e = {0, 0, 0, 0};
+    struct bufpool_pinned p;
+    for (uint32_t k = 0; k < published_most_pins(); k++) see_pin(m, 0, &e);
+    see_word(m, 0, &e);
+    need(bufpool_pin_page(m, small_name(0), &p) == BUFPOOL_PIN_COUNT, "one more pin is not refused with 5 after", e.pins);
+    see_word(m, 0, &e);
+}
+
+/* A page is written at a position; pool and store have it in PostgreSQL's form. */
+static void see_position(uint64_t position)
+{
+    static const uint8_t byte[1] = {1};
+    struct bufpool *m = small_pool(1, 1, position);
+    struct bufpool_pinned p;
+    uint64_t written;
+    memset(m->store, 0, PAGE);
+    need(bufpool_pin_page(m, small_name(0), &p) == BUFPOOL_DONE, "pin is refused at position", position);
+    need(bufpool_write_buffer(m, p.buffer, 8, byte, 1, position) == BUFPOOL_DONE, "write is refused at position", position);
+    need(published_position(m->pool) == position, "PageGetLSN gives another number than", position);
+    need(published_pointer(m->pool) == position, "PageXLogRecPtrGet gives another number than", position);
+    need(bufpool_flush_buffer(m, p.buffer, &written) == BUFPOOL_DONE && written == 1, "flush does not write at position", position);
+    need(published_position(m->store) == position, "PageGetLSN gives another number in the store than", position);
+}
+
+/* Case B, edges, and random positions of any width. */
+static void positions(void)
+{
+    static const uint64_t edges[] = {0x116B374D0, 0, 1, 100, UINT32_MAX, (uint64_t)UINT32_MAX + 1, UINT64_MAX - 1, UINT64_MAX};
+    for (size_t k = 0; k < sizeof edges / sizeof *edges; k++) see_position(edges[k]);
+    for (int k = 0; k < POSITIONS; k++) see_position(random64() >> random_below(64));
+}
+
+int main(int argc, char **argv)
+{
+    static const struct {
+        const char *name;
+        void (*see)(void);
+    } parts[] = {{"tags", tags}, {"forks", forks}, {"constants", constants}, {"words", words}, {"pins", pins}, {"positions", positions}};
+    for (size_t k = 0; argc == 2 && k < sizeof parts / sizeof *parts; k++) {
+        if (strcmp(argv[1], parts[k].name) != 0) continue;
+        parts[k].see();
+        return 0;
+    }
+    fprintf(stderr, "usage: compare PART\n");
+    return 2;
+}

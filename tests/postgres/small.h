@@ -1,0 +1,23 @@
+/* A small pool with pages of PostgreSQL's size, over one file, and random numbers. */
+#ifndef SMALL_H
+#define SMALL_H
+
+#include "bufpool.h"
+
+enum { PAGE = 8192, MOST_BUFFERS = 8, MOST_BLOCKS = 256 };
+
+extern const struct bufpool_file small_file;
+extern uint8_t small_store[MOST_BLOCKS * PAGE];
+
+/* Empty, of so many buffers over so many blocks; the store is as it was. Ends the program if the set up is refused. */
+struct bufpool *small_pool(size_t buffers, uint32_t blocks, uint64_t position);
+
+struct bufpool_name small_name(uint32_t block);
+
+/* Ends the program, with a line that says what is not as expected and for which number, unless it holds. */
+void need(int holds, const char *what, uint64_t number);
+
+uint64_t random64(void);
+uint32_t random_below(uint32_t n);
+
+#endif
