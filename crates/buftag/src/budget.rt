@@ -4,6 +4,7 @@ ghost use mathlib.Core.Path.{_≡_};
 ghost use lib.ListN.{length};
 ghost use Rattle.buftag.specs.Budget.{spend, spendAll, spent};
 use crate::link::Link;
+use crate::link::ends_at;
 use crate::link::is_end;
 use crate::link::link_at;
 
@@ -42,9 +43,8 @@ pub fn lists_walk(heads: &[i32], links: &[i32], budget: usize) -> Walked
     let mut left = budget;
     let mut b = 0;
     while b < heads.len() {
-        let first = link_at(heads, b);
-        if !is_end(first) {
-            let Walked::Left(m) = list_walk(links, first, left) else {
+        if !ends_at(heads, b) {
+            let Walked::Left(m) = list_walk(links, link_at(heads, b), left) else {
                 return Walked::Wrong;
             };
             left = m;

@@ -3,7 +3,6 @@ use borrow.Author.Needs.{needs}
 use Rattle.buftag.proofs.BudgetLaws.{spend-ends, spendAll-none, spendAll-more, spendAll-wrong, spendAll-done}
 use Rattle.buftag.specs.Budget.{spend, spendAll}
 use Rattle.buftag.specs.declared.budget.Walked.the-variants.{Left}
-use Rattle.buftag.specs.Link.{isEnd}
 use borrow.Author.Tests.{not-false}
 use lib.ListN.{length}
 use Prim.Native.Nat.{_≤_, _-_, _+_}
@@ -21,11 +20,11 @@ abbrev μ-loop : tie.MeasureT-loop
 loop-holds : tie.Need-loop-holds Inv-loop μ-loop
 loop-holds c = (search needs, spendAll-none _ _ _)
 
+ends-at-requires : tie.Need-ends-at-requires Inv-loop μ-loop
+ends-at-requires c κs = search needs
+
 link-at-requires : tie.Need-link-at-requires Inv-loop μ-loop
 link-at-requires c κs = search needs
-
-is-end-requires : tie.Need-is-end-requires Inv-loop μ-loop
-is-end-requires c κs = search needs
 
 list-walk-requires : tie.Need-list-walk-requires Inv-loop μ-loop
 list-walk-requires c κs = search needs
@@ -39,12 +38,12 @@ enum-told c = search needs
 returns : tie.Need-returns Inv-loop μ-loop
 returns c =
     let d = c .before .before in
-    let e = d .before .before in
-    let l = e .before .before .before .loop in
+    let e = d .before in
+    let l = e .before .before .before .before .loop in
     sym
     (spendAll-wrong _ _ _ (l .b + 1) _ (search needs)
     (spendAll-more _ _ _ (l .b) (l .left) (l .inv .1)
-    (d .list-walk .ensures ∙ ap (spend _ (l .left)) (e .before .link-at .ensures))
+    (d .list-walk .ensures ∙ ap (spend _ (l .left)) (e .link-at .ensures))
     ∙ c .enum-told .given .1))
 
 add-b : tie.Need-add-b Inv-loop μ-loop
@@ -55,17 +54,16 @@ loop-less c = search needs
 
 loop-again : tie.Need-loop-again Inv-loop μ-loop
 loop-again c =
-    let l = c .before .before .before .before .loop in (
+    let l = c .before .before .before .loop in (
       search needs,
       ⊎-elim
           (λ w.
-          spendAll-more _ _ _ (l .b) (l .left) (l .inv .1) (w .1 .ensures ∙ ap (spend _ (l .left)) (c .before .before .link-at .ensures))
-          ∙ w .3 .given .1 ∙ ap Left (sym (w .5)))
+          spendAll-more _ _ _ (l .b) (l .left) (l .inv .1) (w .2 .ensures ∙ ap (spend _ (l .left)) (w .1 .ensures))
+          ∙ w .4 .given .1 ∙ ap Left (sym (w .6)))
           (λ w.
           spendAll-more _ _ _ (l .b) (l .left) (l .inv .1)
           (sym
-          (spend-ends _ (l .left) _
-          (ap isEnd (sym (c .before .before .link-at .ensures)) ∙ sym (c .before .is-end .ensures) ∙ not-false _ (w .0 .left))))
+          (spend-ends _ (l .left) _ (sym (c .before .ends-at .ensures) ∙ not-false _ (w .0 .left))))
           ∙ ap Left (sym (w .1)))
           (c .if1 .came),
     )
@@ -80,8 +78,8 @@ lists-walk-spec =
     Inv-loop
     μ-loop
     loop-holds
+    ends-at-requires
     link-at-requires
-    is-end-requires
     list-walk-requires
     enum-known-m
     enum-told
