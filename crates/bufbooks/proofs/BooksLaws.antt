@@ -20,8 +20,8 @@ use Rattle.buftag.specs.Names.{noName}
 use Rattle.buftag.specs.Link.{linkOf, linkAt, isEnd, Holds}
 use Rattle.buftag.specs.Lookup.{used}
 use Rattle.buftag.specs.Chain.{ChainsSound, Distinct}
-use Rattle.buftag.specs.Check.{findsItself, stands}
-use Rattle.buftag.specs.Budget.{spend, spendAll, spent}
+use Rattle.bufchains.specs.Check.{findsItself, stands}
+use Rattle.bufchains.specs.Budget.{spend, spendAll, spent}
 use Rattle.buftag.proofs.LinkLaws.{isEnd-true, holds-says}
 use Rattle.buftag.proofs.NameLaws.{says-same-name}
 use Rattle.buftag.proofs.TestLaws.{chains-say}
@@ -31,9 +31,10 @@ use Rattle.bufmodel.specs.Rows.{placeOf}
 use Rattle.bufmodel.specs.Memory.{Memory, buffers, wordOf, nameOf, pageOf}
 use Rattle.bufmodel.specs.Books.{emptyAt, sound, BooksSound}
 use Rattle.bufmodel.proofs.BooksLaws.{says-off, says-found, books-say}
-use Rattle.bufbooks.specs.Buffers.{emptyTest, usedTest, heldTest, bufferTest}
-use Rattle.bufbooks.specs.Books.{Fitting, booksTest}
-use Rattle.buftag.proofs.CheckLaws.{list-is, check-is}
+use Rattle.bufscan.specs.Buffers.{emptyTest, usedTest, heldTest, bufferTest}
+use Rattle.bufbooks.specs.Books.{booksTest}
+use Rattle.bufscan.specs.Buffers.{Fitting}
+use Rattle.bufchains.proofs.CheckLaws.{list-is, check-is}
 
 -- ---- an empty word is sound, and not dirty
 zero-clean : dirty 0 ≡ false

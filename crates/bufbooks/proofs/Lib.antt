@@ -1,4 +1,2 @@
-pub mod GuessesLaws
-pub mod BuffersLaws
 pub mod BooksLaws
 pub mod LentLaws

@@ -4,15 +4,15 @@ ghost use mathlib.Core.Path.{_≡_};
 ghost use mathlib.Core.List.{[]};
 ghost use Rattle.bufmodel.specs.Memory.{memory};
 ghost use Rattle.bufmodel.specs.Books.{sound};
-ghost use Rattle.bufbooks.specs.Books.{Fitting};
-use crate::buffers::Counted;
-use crate::buffers::buffers_ok;
-use crate::guesses::guess_rows;
-use crate::hashes::hash_rows;
+ghost use Rattle.bufscan.specs.Buffers.{Fitting};
+use bufchains::budget::is_spent;
+use bufchains::budget::list_walk;
+use bufchains::budget::lists_walk;
 use bufmodel::control::Control;
-use buftag::budget::is_spent;
-use buftag::budget::list_walk;
-use buftag::budget::lists_walk;
+use bufscan::buffers::Counted;
+use bufscan::buffers::buffers_ok;
+use buftables::guesses::guess_rows;
+use buftables::hashes::hash_rows;
 use buftag::link::read_link;
 
 // Whether the books are sound. The lists need no look at what stands in them: buffers in use have free link -2 and are found in their

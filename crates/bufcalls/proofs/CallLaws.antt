@@ -8,26 +8,22 @@ use native.Mathlib.Omega.{arith}
 use lib.Dec.{eqb, leb, ltb}
 use lib.ListN.{length, set, take, drop}
 use borrow.Author.Tests.{lt-leb, le-leb, lt-ltb, le-ltb, leb-false, ltb-false, not-false}
-use Rattle.laws.specs.Sum.{ind}
 use Rattle.laws.specs.Block.{putBlock}
 use Rattle.laws.proofs.Tests.{or-neither}
-use Rattle.bufmodel.specs.declared.control.Control.{Control}
 use Rattle.bufmodel.specs.declared.answer.Accepted as accepted
-use Rattle.bufmodel.specs.declared.answer.Written as wrote
-use Rattle.bufmodel.specs.Word.{pinned, dirty, pinLess, makeDirty}
+use Rattle.bufmodel.specs.Word.{pinned, pinLess, makeDirty}
 use Rattle.bufmodel.specs.Position.{position, written}
-use Rattle.bufmodel.specs.Memory.{Memory, memory, buffers, size, wordOf, pageOf, withStates, withPool}
+use Rattle.bufmodel.specs.Memory.{Memory, buffers, size, wordOf, pageOf, withStates, withPool}
 use Rattle.bufmodel.specs.Books.{sound}
 use Rattle.bufmodel.specs.Sizes.{sized}
-use Rattle.bufmodel.specs.Outcome.{Place, place, refusalOf, checked, done, zeros, one}
-use Rattle.bufmodel.specs.Answer.{acceptedAt, writtenAt}
-use Rattle.bufmodel.specs.Moves.{writeBack}
-use Rattle.bufmodel.specs.Calls.{bufferPlaces, unpin, read, writePlaces, writeTo, write, flush}
+use Rattle.bufmodel.specs.Outcome.{Place, place, refusalOf, checked, done, zeros}
+use Rattle.bufmodel.specs.Answer.{acceptedAt}
+use Rattle.bufmodel.specs.Calls.{bufferPlaces, unpin, read, writePlaces, writeTo, write}
 use Rattle.bufmodel.proofs.OutcomeLaws.{refusal-past, refusal-at, refusal-none, refusal-passed, refusal-first, outcome-done}
 use Rattle.bufmodel.proofs.SizesLaws.{sized-page}
 use Rattle.bufmodel.proofs.GoodLaws.{Good, checked-good, checked-passed}
-use Rattle.bufmodel.proofs.AnswerLaws.{end-at, accepted-refused, bytes-refused, accepted-done, written-refused, written-done}
-use Rattle.bufmoves.proofs.WholeLaws.{backPart, back-whole, page-in}
+use Rattle.bufmodel.proofs.AnswerLaws.{end-at, accepted-refused, bytes-refused, accepted-done}
+use Rattle.bufmoves.proofs.WholeLaws.{page-in}
 
 -- ---- the places
 -- a good memory and a pinned buffer of it: the places 1, 2, 7 and 8 passed
@@ -154,21 +150,3 @@ module _ (m : Memory) (i from : ℕ) (bytes : List ℕ) (at : ℕ) where
   write-done e z p q =
       let o = done zeros bytes (writeTo m i from bytes at) in
       rw (p, q) (accepted-done (outcome-done bytes m o (sym e ∙ z)))
-
--- ---- flush
-module _ (m : Memory) (i : ℕ) where
-  pub flush-refused : {k : ℕ} → k ≡ checked m (bufferPlaces m i []) → k ≢ 0
-      → (wrote.the-variants.Refused k ≡ writtenAt (flush m i .refusal) (flush m i .answer)) × (m ≡ flush m i .after)
-  unfolding flush
-  flush-refused e h = written-refused h (end-at [] m _ e h)
-
-  -- the parts that write-back is not lent are as they were
-  pub flush-done : Held m i → {n : ℕ} {c : Control} {states store : List ℕ} → n ≡ ind (dirty (wordOf m i))
-      → memory c states (m .names) (m .pool) [] [] [] (m .rows) store ≡ writeBack (backPart m) i
-      → (wrote.the-variants.Pages n ≡ writtenAt (flush m i .refusal) (flush m i .answer))
-      × (memory c states (m .names) (m .pool) (m .free) (m .heads) (m .chain) (m .rows) store ≡ flush m i .after)
-  unfolding flush
-  flush-done k {n} {c} {states} {store} e b =
-      let o = done (one (ind (dirty (wordOf m i)))) [] (writeBack m i) in
-      let end = written-done (outcome-done [] m o (buffer-later m i k [] ∙ refusal-none)) in
-      (ap wrote.the-variants.Pages e ∙ end .0, back-whole m i c states store b ∙ end .1)

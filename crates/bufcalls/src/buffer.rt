@@ -1,4 +1,4 @@
-// The calls on a pinned buffer: unpin, read, write, flush.
+// The calls on a pinned buffer: unpin, read, write.
 
 ghost use mathlib.Core.Path.{_≡_};
 ghost use mathlib.Core.List.{[]};
@@ -11,14 +11,12 @@ ghost use Rattle.laws.specs.Block.{block};
 ghost use Rattle.bufmodel.specs.Position.{position as pagePosition};
 ghost use Rattle.bufmodel.specs.Memory.{memory};
 ghost use Rattle.bufmodel.specs.Outcome.{place, refusalOf, checked};
-ghost use Rattle.bufmodel.specs.Answer.{acceptedAt, writtenAt};
-ghost use Rattle.bufmodel.specs.Calls.{bufferPlaces, unpin, read, write, flush};
-use crate::ends::Flushed;
+ghost use Rattle.bufmodel.specs.Answer.{acceptedAt};
+ghost use Rattle.bufmodel.specs.Calls.{bufferPlaces, unpin, read, write};
 use crate::page::read_page;
 use crate::page::write_page;
 use bufbooks::lent::refusal;
 use bufmodel::answer::Accepted;
-use bufmodel::answer::Written;
 use bufmodel::control::Control;
 use bufmodel::refusal::EARLIER;
 use bufmodel::refusal::NO_BUFFER;
@@ -26,17 +24,14 @@ use bufmodel::refusal::NO_BYTES;
 use bufmodel::refusal::NOT_INSERTED;
 use bufmodel::refusal::NOT_PINNED;
 use bufmodel::refusal::RANGE;
-use bufmoves::back::write_back;
+use bufposition::position::position_at;
 use buftag::number::BufferNumber;
-use bufword::flag::one_if;
-use bufword::position::position_at;
-use bufword::word::is_dirty;
 use bufword::word::is_pinned;
 use bufword::word::make_dirty;
 use bufword::word::pin_less;
 
 // The places 1, 2, 7 and 8: 0 if none refuses.
-fn buffer_refusal(
+pub fn buffer_refusal(
     control: Control,
     states: &[u32],
     names: &[u32],
@@ -275,60 +270,4 @@ pub fn write_buffer(
     write_page(pool, control.size, i, from, bytes, position);
     states[i] = make_dirty(states[i]);
     Accepted::Done
-}
-
-// Writes the page back if it is dirty.
-pub fn flush_buffer(
-    control: Control,
-    states: &mut [u32],
-    names: &[u32],
-    pool: &[u8],
-    free: &[i32],
-    heads: &[i32],
-    chain: &[i32],
-    rows: &[u32],
-    store: &mut [u8],
-    buffer: BufferNumber,
-) -> Flushed
-    ensures { λ r.
-        ⌜ r .answer
-        ≡ writtenAt
-        (flush
-        (memory control (now (states .entry)) (now (names .entry)) (now (pool .entry)) (now (free .entry)) (now (heads .entry))
-        (now (chain .entry)) (now (rows .entry)) (now (store .entry))) (buffer .0) .refusal)
-        (flush
-        (memory control (now (states .entry)) (now (names .entry)) (now (pool .entry)) (now (free .entry)) (now (heads .entry))
-        (now (chain .entry)) (now (rows .entry)) (now (store .entry))) (buffer .0) .answer) ⌝ }
-    ensures { λ r.
-        ⌜ memory (r .control) (now (states .exit)) (now (names .entry)) (now (pool .entry)) (now (free .entry))
-        (now (heads .entry)) (now (chain .entry)) (now (rows .entry)) (now (store .exit))
-        ≡ flush
-        (memory control (now (states .entry)) (now (names .entry)) (now (pool .entry)) (now (free .entry)) (now (heads .entry))
-        (now (chain .entry)) (now (rows .entry)) (now (store .entry))) (buffer .0) .after ⌝ }
-{
-    let k = buffer_refusal(
-        control,
-        states,
-        names,
-        pool,
-        free,
-        heads,
-        chain,
-        rows,
-        store,
-        buffer,
-    );
-    if k != 0 {
-        return Flushed {
-            control: control,
-            answer: Written::Refused(k),
-        };
-    }
-    let i = buffer.0;
-    let n = one_if(is_dirty(states[i]));
-    let after = write_back(control, states, names, pool, rows, store, buffer);
-    Flushed {
-        control: after,
-        answer: Written::Pages(n),
-    }
 }

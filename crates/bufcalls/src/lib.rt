@@ -2,6 +2,4 @@
 // refuses.
 
 pub mod buffer;
-pub mod checkpoint;
-pub mod ends;
 pub mod page;

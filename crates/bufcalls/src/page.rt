@@ -5,8 +5,8 @@ ghost use Prim.Native.Nat.{_+_, _*_, _≤_};
 ghost use lib.ListN.{length, take, drop};
 ghost use Rattle.laws.specs.Block.{block, putBlock};
 ghost use Rattle.bufmodel.specs.Position.{written};
-use bufmoves::block::copy_bytes;
-use bufword::position::put_position;
+use bufblock::block::copy_bytes;
+use bufposition::position::put_position;
 
 // Fills `out` from page `i`, from byte `from` on.
 pub fn read_page(pool: &[u8], size: usize, i: usize, from: usize, out: &mut [u8])

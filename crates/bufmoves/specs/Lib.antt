@@ -1,3 +1,1 @@
-pub mod Back
 pub mod Exchange
-pub mod Sweep

@@ -5,7 +5,7 @@ ghost use mathlib.Core.List.{[]};
 ghost use Rattle.bufmodel.specs.Memory.{memory};
 ghost use Rattle.bufmodel.specs.Moves.{release, loadAt};
 ghost use Rattle.bufmoves.specs.Exchange.{Chained, Lodged};
-use crate::block::copy_block;
+use bufblock::block::copy_block;
 use bufmodel::control::Control;
 use buftag::chain::insert;
 use buftag::chain::remove;

@@ -1,3 +1,2 @@
 pub mod NameLaws
-pub mod FileLaws
 pub mod PeekLaws

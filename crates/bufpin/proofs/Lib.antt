@@ -1,6 +1,2 @@
-pub mod BackLaws
-pub mod SweptLaws
-pub mod TakenLaws
-pub mod VictimLaws
 pub mod NewLaws
 pub mod PinLaws

@@ -31,7 +31,7 @@ use Rattle.bufpages.specs.declared.name.Sought as name
 use Rattle.bufpages.specs.Name.{sought}
 use Rattle.bufpages.proofs.NameLaws.{name-refused, name-at}
 use Rattle.bufpin.specs.Pin.{heldAt, pinnedWords}
-use Rattle.bufpin.proofs.SweptLaws.{swept-stuck}
+use Rattle.bufvictim.proofs.SweptLaws.{swept-stuck}
 use Rattle.bufpin.proofs.NewLaws.{new-swept}
 
 -- ---- the pin

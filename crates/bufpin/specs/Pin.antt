@@ -1,16 +1,12 @@
--- What a pin answers, and what it leaves of the words where the page is held.
+-- What a pin of a page that is held answers, and what it leaves of the words.
 use Prim.Native.Nat.{ℕ}
-use mathlib.Core.Bool.{Bool, true, false, cond}
+use mathlib.Core.Bool.{true, false, cond}
 use mathlib.Core.List.{List}
 use lib.Dec.{eqb}
 use lib.ListN.{getD, set}
 use Rattle.bufmodel.specs.declared.answer.Pinned.{Pinned}
 use Rattle.bufmodel.specs.declared.answer.Pinned.the-variants.{At, Refused}
 use Rattle.bufmodel.specs.Word.{pins, maxPins, pinMore}
-
--- loaded into buffer i
-abbrev pub loadedAt : ℕ → Bool → ℕ → Pinned
-loadedAt i wrote probes = At (record { 0 = i }) false wrote probes
 
 -- held in buffer i, whose word is w
 unfoldable pub heldAt : ℕ → ℕ → Pinned

@@ -6,12 +6,12 @@ ghost use Rattle.bufmodel.specs.Memory.{memory};
 ghost use Rattle.bufmodel.specs.Answer.{acceptedAt};
 ghost use Rattle.bufmodel.specs.Calls.{logInserted, logFlushed};
 use crate::ends::Logged;
+use bufback::back::flushed_to;
 use bufbooks::lent::refusal;
 use bufmodel::answer::Accepted;
 use bufmodel::control::Control;
 use bufmodel::refusal::FLUSHED_BEYOND;
 use bufmodel::refusal::LOG_SHORTER;
-use bufmoves::back::flushed_to;
 
 // The log is inserted up to a position.
 pub fn log_inserted(

@@ -12,6 +12,4 @@ pub mod UnchainLaws
 pub mod MoveLaws
 pub mod LeaveSteps
 pub mod LeaveLaws
-pub mod BudgetLaws
 pub mod TestLaws
-pub mod CheckLaws

@@ -5,5 +5,3 @@ pub mod Names
 pub mod Link
 pub mod Lookup
 pub mod Chain
-pub mod Budget
-pub mod Check

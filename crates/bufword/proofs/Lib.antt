@@ -1,2 +1,1 @@
 pub mod PackLaws
-pub mod PositionLaws

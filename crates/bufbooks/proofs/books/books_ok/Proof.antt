@@ -10,16 +10,16 @@ use Prim.Native.Nat.{ℕ, _-_}
 use Rattle.laws.specs.Every.{all}
 use Rattle.laws.specs.Sum.{count}
 use Rattle.laws.proofs.Sum.{count-le}
-use Rattle.buftag.specs.declared.budget.Walked.{Walked}
+use Rattle.bufchains.specs.declared.budget.Walked.{Walked}
 use Rattle.buftag.specs.declared.link.Link.{Link}
-use Rattle.buftag.specs.Budget.{spend, spendAll, spent}
+use Rattle.bufchains.specs.Budget.{spend, spendAll, spent}
 use Rattle.buftag.specs.Link.{linkOf}
 use Rattle.buftag.specs.Lookup.{used}
 use Rattle.buftag.proofs.SignedLaws.{bits-back}
 use Rattle.bufmodel.specs.Memory.{Memory, memory, buffers}
 use Rattle.bufmodel.proofs.SizesLaws.{rows-say}
-use Rattle.bufbooks.specs.declared.buffers.Counted.the-variants.{Used, Wrong}
-use Rattle.bufbooks.specs.Buffers.{bufferTest, countedOf}
+use Rattle.bufscan.specs.declared.buffers.Counted.the-variants.{Used, Wrong}
+use Rattle.bufscan.specs.Buffers.{bufferTest, countedOf}
 use Rattle.bufbooks.proofs.BooksLaws.{books-hand, books-log, books-buffers, books-free, books-chains, freed, walked}
 use Rattle.bufbooks.proofs.books.books_ok.Statement.{statement}
 use Rattle.bufbooks.proofs.books.books_ok.Tie as tie

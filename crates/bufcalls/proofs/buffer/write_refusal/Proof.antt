@@ -10,7 +10,7 @@ use Prim.Native.Nat.{ℕ, _+_, _≤_, _<_}
 use Rattle.laws.specs.Block.{block}
 use Rattle.bufmodel.specs.Position.{position}
 use Rattle.bufmodel.proofs.OutcomeLaws.{refusal-past, refusal-at, refusal-none}
-use Rattle.bufword.proofs.PositionLaws.{position-block}
+use Rattle.bufposition.proofs.PositionLaws.{position-block}
 use Rattle.bufcalls.proofs.buffer.write_refusal.Statement.{statement}
 use Rattle.bufcalls.proofs.buffer.write_refusal.Tie as tie
 

@@ -51,21 +51,21 @@ use Rattle.bufmodel.specs.Answer.{writtenAt}
 use Rattle.bufmodel.specs.Calls.{flush}
 use Rattle.bufcontrol.proofs.SizeLaws.{flush-size}
 use Rattle.bufmodel.specs.declared.control.Control.{Control}
-use Rattle.bufcalls.specs.declared.ends.Flushed.{Flushed}
+use Rattle.bufflush.specs.declared.ends.Flushed.{Flushed}
 use Rattle.bufmodel.specs.declared.answer.Written.{Written}
 use Rattle.buftag.specs.declared.number.BufferNumber.{BufferNumber}
 use Rattle.bufmodel.proofs.control.Control as T
 use Rattle.bufmodel.proofs.control.Control.Laws as T′
-use Rattle.bufcalls.proofs.ends.Flushed as L
-use Rattle.bufcalls.proofs.ends.Flushed.Laws as L′
+use Rattle.bufflush.proofs.ends.Flushed as L
+use Rattle.bufflush.proofs.ends.Flushed.Laws as L′
 use Rattle.bufmodel.proofs.answer.Written as E
 use Rattle.bufmodel.proofs.answer.Written.Laws as E′
 use Rattle.buftag.proofs.number.BufferNumber as B
 use Rattle.buftag.proofs.number.BufferNumber.Laws as B′
-use Rattle.bufcalls.proofs.buffer.flush_buffer as core
-use Rattle.bufcalls.proofs.buffer.flush_buffer.Symbol as core-def
-use Rattle.bufcalls.proofs.buffer.flush_buffer.Symbol.{name as #core}
-use Rattle.bufcalls.proofs.buffer.flush_buffer.Met as core-thm
+use Rattle.bufflush.proofs.flush.flush_buffer as core
+use Rattle.bufflush.proofs.flush.flush_buffer.Symbol as core-def
+use Rattle.bufflush.proofs.flush.flush_buffer.Symbol.{name as #core}
+use Rattle.bufflush.proofs.flush.flush_buffer.Met as core-thm
 use Rattle.bufcontrol.proofs.StoredLaws.{mach, back, is-back, hand-fits, top-fits, inserted-fits, flushed-fits, stored}
 use Rattle.bufcontrol.proofs.WalkLaws.{_▹_, slice, shared, twice, says-both}
 use Rattle.bufcontrol.proofs.back.flush.Key.{name as #flush}

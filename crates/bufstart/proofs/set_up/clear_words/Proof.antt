@@ -3,7 +3,7 @@ use denote.Ref.{now}
 use lib.ListN.{length, length-set, replicate, length-replicate, getD-replicate}
 use mathlib.Core.Path.{_≡_, sym, _∙_}
 use Prim.Native.Nat.{_≤_, _-_}
-use Rattle.bufmoves.proofs.FillLaws.{Filled, fill-none, fill-more, fill-done}
+use Rattle.bufblock.proofs.FillLaws.{Filled, fill-none, fill-more, fill-done}
 use Rattle.bufstart.proofs.set_up.clear_words.Statement.{statement}
 use Rattle.bufstart.proofs.set_up.clear_words.Tie as tie
 

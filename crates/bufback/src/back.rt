@@ -1,0 +1,97 @@
+// Write-back, for pin, flush and checkpoint: flushed first, then the page, then the dirty bits.
+
+ghost use mathlib.Core.Path.{_≡_};
+ghost use mathlib.Core.List.{[]};
+ghost use Prim.Native.Nat.{_<_, max};
+ghost use lib.ListN.{length};
+ghost use Rattle.laws.specs.Block.{block};
+ghost use Rattle.buftag.specs.Names.{nameAt};
+ghost use Rattle.bufmodel.specs.Rows.{placeOf};
+ghost use Rattle.bufmodel.specs.Memory.{memory};
+ghost use Rattle.bufmodel.specs.Moves.{putAt, writeBack};
+ghost use Rattle.bufback.specs.Back.{Backed};
+use bufblock::block::copy_block;
+use bufmodel::control::Control;
+use bufposition::position::position_at;
+use bufrows::place::Place;
+use bufrows::place::place_of;
+use buftag::names::stored;
+use buftag::number::BufferNumber;
+use bufword::word::is_dirty;
+use bufword::word::make_clean;
+
+fn larger(a: u64, b: u64) -> u64
+    ensures { λ r. ⌜ r ≡ max a b ⌝ }
+{
+    if a < b {
+        return b;
+    }
+    a
+}
+
+// The control record with the log flushed up to a position at least.
+pub fn flushed_to(control: Control, position: u64) -> Control
+    ensures { λ r.
+        ⌜ r
+        ≡ record {
+          size = control .size;
+          hand = control .hand;
+          top = control .top;
+          inserted = control .inserted;
+          flushed = max (control .flushed) position;
+        } ⌝ }
+{
+    let mut after = control;
+    after.flushed = larger(control.flushed, position);
+    after
+}
+
+// A buffer's page goes to its place in the store.
+fn put_page(
+    control: Control,
+    names: &[u32],
+    pool: &[u8],
+    rows: &[u32],
+    store: &mut [u8],
+    buffer: BufferNumber,
+)
+    requires { ⌜ Backed (memory control [] (now names) (now pool) [] [] [] (now rows) (now store)) (buffer .0) ⌝ }
+    ensures { λ _.
+        ⌜ now (store .exit)
+        ≡ putAt (control .size) (block (control .size) (buffer .0) (now (pool .entry))) (now (store .entry))
+        (placeOf (now (rows .entry)) (nameAt (now (names .entry)) (buffer .0))) ⌝ }
+{
+    let Place::At(g) = place_of(rows, stored(names, buffer)) else {
+        return;
+    };
+    copy_block(store, g, pool, buffer.0, control.size);
+}
+
+// Writes a page back if it is dirty.
+pub fn write_back(
+    control: Control,
+    states: &mut [u32],
+    names: &[u32],
+    pool: &[u8],
+    rows: &[u32],
+    store: &mut [u8],
+    buffer: BufferNumber,
+) -> Control
+    requires { ⌜ Backed (memory control [] (now names) (now pool) [] [] [] (now rows) (now store)) (buffer .0)
+        × (buffer .0 < length (now states)) ⌝ }
+    ensures { λ r.
+        ⌜ memory r (now (states .exit)) (now (names .entry)) (now (pool .entry)) [] [] [] (now (rows .entry)) (now (store .exit))
+        ≡ writeBack
+        (memory control (now (states .entry)) (now (names .entry)) (now (pool .entry)) [] [] [] (now (rows .entry))
+        (now (store .entry))) (buffer .0) ⌝ }
+{
+    let i = buffer.0;
+    let w = states[i];
+    if !is_dirty(w) {
+        return control;
+    }
+    let c = flushed_to(control, position_at(pool, i * control.size));
+    put_page(control, names, pool, rows, store, buffer);
+    states[i] = make_clean(w);
+    c
+}

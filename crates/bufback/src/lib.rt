@@ -1,0 +1,3 @@
+// Write-back of a page, in log order.
+
+pub mod back;

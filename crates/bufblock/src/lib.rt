@@ -1,0 +1,3 @@
+// Blocks of bytes.
+
+pub mod block;

@@ -1,0 +1,3 @@
+// Log positions in lent memory.
+
+pub mod position;

@@ -1,0 +1,173 @@
+// The pass over the buffers: each one's word, links, name and log position.
+
+ghost use mathlib.Core.Path.{_≡_};
+ghost use mathlib.Core.Bool.{true};
+ghost use mathlib.Core.List.{[]};
+ghost use Prim.Native.Nat.{_+_, _*_, _≤_, _<_};
+ghost use lib.ListN.{length};
+ghost use Rattle.laws.specs.Every.{all};
+ghost use Rattle.laws.specs.Sum.{count};
+ghost use Rattle.buftag.specs.Names.{nameWords};
+ghost use Rattle.buftag.specs.Lookup.{used};
+ghost use Rattle.bufmodel.specs.Rows.{rowOf};
+ghost use Rattle.bufmodel.specs.Memory.{memory};
+ghost use Rattle.bufmodel.specs.Sizes.{soundRows};
+ghost use Rattle.bufmodel.specs.Books.{isOff};
+ghost use Rattle.bufrows.specs.Rows.{foundRow};
+ghost use Rattle.buftables.specs.Hashes.{Hashed};
+ghost use Rattle.bufscan.specs.Buffers.{Fitting};
+ghost use Rattle.bufscan.specs.Buffers.{emptyTest, usedTest, heldTest, bufferTest, countedOf};
+use bufchains::check::is_first;
+use bufmodel::control::Control;
+use bufposition::position::position_at;
+use bufrows::rows::ROW_WORDS;
+use bufrows::rows::Row;
+use bufrows::rows::blocks_at;
+use bufrows::rows::find_row;
+use bufrows::rows::is_file;
+use buftables::guesses::slot_of;
+use buftag::link::Link;
+use buftag::link::is_end;
+use buftag::link::link_at;
+use buftag::name::FileName;
+use buftag::name::hash_block;
+use buftag::names::holds;
+use buftag::names::no_name;
+use buftag::names::stored;
+use buftag::number::BufferNumber;
+use bufword::word::is_dirty;
+use bufword::word::is_empty;
+use bufword::word::word_ok;
+
+// How many buffers are in use, if each buffer is sound.
+pub enum Counted {
+    Used(usize),
+    Wrong,
+}
+
+fn is_off(l: Link) -> bool
+    ensures { λ r. ⌜ r ≡ isOff l ⌝ }
+{
+    match l {
+        Link::To(_) => false,
+        Link::End => false,
+        Link::Off => true,
+        Link::Bad => false,
+    }
+}
+
+// Whether an empty buffer has a name of zeros and chain link -1.
+fn empty_ok(names: &[u32], chain: &[i32], i: usize) -> bool
+    requires { ⌜ (nameWords * i + nameWords ≤ length (now names)) × (i < length (now chain)) ⌝ }
+    ensures { λ r. ⌜ r ≡ emptyTest (now (names .entry)) (now (chain .entry)) i ⌝ }
+{
+    if !holds(names, BufferNumber(i), no_name()) {
+        return false;
+    }
+    is_end(link_at(chain, i))
+}
+
+// Whether a buffer in use has a sound word, free link -2 and, if it is dirty, a log position of at most inserted.
+fn used_ok(control: Control, pool: &[u8], free: &[i32], w: u32, i: usize) -> bool
+    requires { ⌜ (8 ≤ control .size) × (i * control .size + control .size ≤ length (now pool)) × (i < length (now free)) ⌝ }
+    ensures { λ r. ⌜ r ≡ usedTest control (now (pool .entry)) (now (free .entry)) w i ⌝ }
+{
+    if !word_ok(w) {
+        return false;
+    }
+    if !is_off(link_at(free, i)) {
+        return false;
+    }
+    if !is_dirty(w) {
+        return true;
+    }
+    position_at(pool, i * control.size) <= control.inserted
+}
+
+// The row of a file, by a guess that need not be right.
+fn row_near(rows: &[u32], guess: u32, file: FileName) -> Row
+    requires { ⌜ soundRows (now rows) ≡ true ⌝ }
+    ensures { λ r. ⌜ foundRow r ≡ rowOf (now (rows .entry)) file ⌝ }
+{
+    let near = guess as usize;
+    if near < rows.len() / ROW_WORDS {
+        if is_file(rows, near, file) {
+            return Row::At(near);
+        }
+    }
+    find_row(rows, file)
+}
+
+// Whether a buffer's name names a block that its file has, and a look-up of it finds the buffer.
+fn held_ok(
+    names: &[u32],
+    heads: &[i32],
+    chain: &[i32],
+    rows: &[u32],
+    hashes: &[u32; 64],
+    guesses: &[u32; 64],
+    i: usize,
+) -> bool
+    requires { ⌜ (0 < length (now heads)) × (length (now names) ≡ nameWords * length (now chain)) × (i < length (now chain))
+        × (soundRows (now rows) ≡ true)
+        × Hashed (now rows) (now hashes) ⌝ }
+    ensures { λ r. ⌜ r ≡ heldTest (now (names .entry)) (now (heads .entry)) (now (chain .entry)) (now (rows .entry)) i ⌝ }
+{
+    let name = stored(names, BufferNumber(i));
+    let file = name.file;
+    let block = name.block;
+    let Row::At(row) = row_near(rows, guesses[slot_of(file)], file) else {
+        return false;
+    };
+    if block.0 >= blocks_at(rows, row) {
+        return false;
+    }
+    let b = hash_block(hashes[row], block) as usize % heads.len();
+    is_first(chain, names, link_at(heads, b), BufferNumber(i))
+}
+
+// Looks at every buffer, and counts those in use.
+pub fn buffers_ok(
+    control: Control,
+    states: &[u32],
+    names: &[u32],
+    pool: &[u8],
+    free: &[i32],
+    heads: &[i32],
+    chain: &[i32],
+    rows: &[u32],
+    hashes: &[u32; 64],
+    guesses: &[u32; 64],
+) -> Counted
+    requires { ⌜ Fitting (memory control (now states) (now names) (now pool) (now free) (now heads) (now chain) (now rows) [])
+        × Hashed (now rows) (now hashes) ⌝ }
+    ensures { λ r.
+        ⌜ r
+        ≡ countedOf
+        (all (length (now (states .entry)))
+        (bufferTest
+        (memory control (now (states .entry)) (now (names .entry)) (now (pool .entry)) (now (free .entry)) (now (heads .entry))
+        (now (chain .entry)) (now (rows .entry)) [])))
+        (count (length (now (states .entry))) (used (now (states .entry)))) ⌝ }
+{
+    let mut used = 0;
+    let mut i = 0;
+    while i < states.len() {
+        let w = states[i];
+        if is_empty(w) {
+            if !empty_ok(names, chain, i) {
+                return Counted::Wrong;
+            }
+        } else {
+            if !used_ok(control, pool, free, w, i) {
+                return Counted::Wrong;
+            }
+            if !held_ok(names, heads, chain, rows, hashes, guesses, i) {
+                return Counted::Wrong;
+            }
+            used += 1;
+        }
+        i += 1;
+    }
+    Counted::Used(used)
+}

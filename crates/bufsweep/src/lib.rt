@@ -1,0 +1,3 @@
+// The clock sweep.
+
+pub mod sweep;

@@ -1,0 +1,2 @@
+pub mod Hashes
+pub mod Guesses

@@ -1,0 +1,4 @@
+pub mod BackLaws
+pub mod SweptLaws
+pub mod TakenLaws
+pub mod VictimLaws
