@@ -2,4 +2,3 @@
 // refuses.
 
 pub mod buffer;
-pub mod page;

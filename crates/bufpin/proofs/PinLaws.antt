@@ -27,9 +27,9 @@ use Rattle.bufmodel.proofs.GoodLaws.{Good, checked-good, checked-early}
 use Rattle.bufmodel.proofs.AnswerLaws.{end-at, pinned-refused}
 use Rattle.bufmodel.proofs.HeldLaws.{pinned-full}
 use Rattle.bufmodel.proofs.FreeListLaws.{top-full}
-use Rattle.bufpages.specs.declared.name.Sought as name
-use Rattle.bufpages.specs.Name.{sought}
-use Rattle.bufpages.proofs.NameLaws.{name-refused, name-at}
+use Rattle.bufpeek.specs.declared.name.Sought as name
+use Rattle.bufpeek.specs.Name.{sought}
+use Rattle.bufpeek.proofs.NameLaws.{name-refused, name-at}
 use Rattle.bufpin.specs.Pin.{heldAt, pinnedWords}
 use Rattle.bufvictim.proofs.SweptLaws.{swept-stuck}
 use Rattle.bufpin.proofs.NewLaws.{new-swept}

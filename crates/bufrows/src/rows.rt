@@ -2,6 +2,7 @@
 
 ghost use mathlib.Core.Path.{_≡_};
 ghost use Prim.Native.Nat.{_+_, _*_, _^_, _≤_, _<_};
+ghost use lib.Dec.{ltb};
 ghost use lib.ListN.{length};
 ghost use Rattle.laws.specs.Every.{all};
 ghost use Rattle.buftag.specs.Name.{sameFile};
@@ -58,6 +59,14 @@ pub fn blocks_at(rows: &[u32], row: usize) -> u32
     rows[row * ROW_WORDS + 4]
 }
 
+// Whether a row's file has a block.
+pub fn has_block(rows: &[u32], row: usize, block: BlockNumber) -> bool
+    requires { ⌜ row * rowWords + rowWords ≤ length (now rows) ⌝ }
+    ensures { λ r. ⌜ r ≡ ltb (block .0) (blocksAt (now (rows .entry)) row) ⌝ }
+{
+    block.0 < blocks_at(rows, row)
+}
+
 // How many blocks the store keeps for a row's file.
 pub fn capacity_at(rows: &[u32], row: usize) -> u32
     requires { ⌜ row * rowWords + rowWords ≤ length (now rows) ⌝ }
@@ -111,12 +120,12 @@ pub fn start_of(rows: &[u32], row: usize) -> u64
     start
 }
 
-// Where a block of a row's file begins in the store, in bytes.
-pub fn offset_of(rows: &[u32], row: usize, block: BlockNumber, size: usize) -> usize
-    requires { ⌜ (row * rowWords ≤ length (now rows)) × (row ≤ maxFiles) × (startOf (now rows) row ≤ maxBlocks) × (size ≤ 32768) ⌝ }
-    ensures { λ r. ⌜ r ≡ (startOf (now (rows .entry)) row + block .0) * size ⌝ }
+// A block's place in the store, in blocks.
+pub fn block_place(rows: &[u32], row: usize, block: BlockNumber) -> usize
+    requires { ⌜ (row * rowWords ≤ length (now rows)) × (row ≤ maxFiles) × (startOf (now rows) row ≤ maxBlocks) ⌝ }
+    ensures { λ r. ⌜ r ≡ startOf (now (rows .entry)) row + block .0 ⌝ }
 {
-    (start_of(rows, row) as usize + block.0 as usize) * size
+    start_of(rows, row) as usize + block.0 as usize
 }
 
 // Whether no row before a row has its file.

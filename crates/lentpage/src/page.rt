@@ -11,7 +11,7 @@ use bufbooks::lent::ANSWER_WORDS;
 use bufbooks::lent::CONTROL_WORDS;
 use bufbooks::lent::read_control;
 use bufmodel::refusal::SIZES;
-use bufpages::peek::peek_at;
+use bufpeek::peek::peek_at;
 use bufpin::pin::pin_page;
 use buftag::name::page_name;
 use lentwords::answer::put_peeked;

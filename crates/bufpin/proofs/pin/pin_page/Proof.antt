@@ -12,10 +12,10 @@ use Rattle.bufmodel.specs.Pin.{heldIn}
 use Rattle.bufmodel.proofs.SizesLaws.{rows-say}
 use Rattle.bufmodel.proofs.GoodLaws.{Good, good-sized, good-sound}
 use Rattle.bufmodel.proofs.HeldLaws.{held-at}
-use Rattle.bufpages.specs.declared.name.Sought as name
-use Rattle.bufpages.specs.Name.{sought}
+use Rattle.bufpeek.specs.declared.name.Sought as name
+use Rattle.bufpeek.specs.Name.{sought}
 use Rattle.bufmodel.proofs.GoodLaws.{passed-good}
-use Rattle.bufpages.proofs.NameLaws.{name-at, looked-up}
+use Rattle.bufpeek.proofs.NameLaws.{name-at, looked-up}
 use Rattle.bufpin.proofs.PinLaws.{pin-early, pin-nameless, pin-held, pin-new}
 use Rattle.bufpin.proofs.pin.pin_page.Statement.{statement}
 use Rattle.bufpin.proofs.pin.pin_page.Tie as tie

@@ -1,0 +1,3 @@
+// A buffer's page, in the pool's bytes.
+
+pub mod page;
