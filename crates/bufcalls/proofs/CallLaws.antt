@@ -82,13 +82,13 @@ module _ (m : Memory) (i : ℕ) where
   unfolding unpin
   unpin-refused e h = accepted-refused h (end-at [] m _ e h)
 
-  pub unpin-done : Held m i → {w : ℕ} → w ≡ pinLess (wordOf m i)
-      → (accepted.the-variants.Done ≡ acceptedAt (unpin m i .refusal) []) × (withStates (set (m .states) i w) m ≡ unpin m i .after)
+  pub unpin-done : Held m i → {w : ℕ} {states : List ℕ} → w ≡ pinLess (wordOf m i) → states ≡ set (m .states) i w
+      → (accepted.the-variants.Done ≡ acceptedAt (unpin m i .refusal) []) × (withStates states m ≡ unpin m i .after)
   unfolding unpin
-  unpin-done k e =
+  unpin-done k e s =
       let o = done zeros [] (withStates (set (m .states) i (pinLess (wordOf m i))) m) in
       let z = buffer-later m i k [] ∙ refusal-none in
-      rw e (accepted-done (outcome-done [] m o z))
+      rw (s, e) (accepted-done (outcome-done [] m o z))
 
 -- ---- read
 module _ (m : Memory) (i from : ℕ) (bytes : List ℕ) where
@@ -141,12 +141,13 @@ module _ (m : Memory) (i from : ℕ) (bytes : List ℕ) (at : ℕ) where
   unfolding write
   write-refused e h = accepted-refused h (end-at bytes m _ e h)
 
-  pub write-done : {k : ℕ} → k ≡ checked m (writePlaces m i from bytes at) → k ≡ 0 → {pool : List ℕ} {w : ℕ}
+  pub write-done : {k : ℕ} → k ≡ checked m (writePlaces m i from bytes at) → k ≡ 0 → {pool states : List ℕ} {w : ℕ}
       → pool ≡ putBlock (size m) i (written at from bytes (pageOf m i)) (m .pool)
       → w ≡ makeDirty (wordOf m i)
+      → states ≡ set (m .states) i w
       → (accepted.the-variants.Done ≡ acceptedAt (write m i from bytes at .refusal) [])
-      × (withPool pool (withStates (set (m .states) i w) m) ≡ write m i from bytes at .after)
+      × (withPool pool (withStates states m) ≡ write m i from bytes at .after)
   unfolding write writeTo
-  write-done e z p q =
+  write-done e z p q s =
       let o = done zeros bytes (writeTo m i from bytes at) in
-      rw (p, q) (accepted-done (outcome-done bytes m o (sym e ∙ z)))
+      rw (p, s, q) (accepted-done (outcome-done bytes m o (sym e ∙ z)))

@@ -13,8 +13,6 @@ ghost use Rattle.bufmodel.specs.Memory.{memory};
 ghost use Rattle.bufmodel.specs.Outcome.{place, refusalOf, checked};
 ghost use Rattle.bufmodel.specs.Answer.{acceptedAt};
 ghost use Rattle.bufmodel.specs.Calls.{bufferPlaces, unpin, read, write};
-use crate::page::read_page;
-use crate::page::write_page;
 use bufbooks::lent::refusal;
 use bufmodel::answer::Accepted;
 use bufmodel::control::Control;
@@ -24,8 +22,13 @@ use bufmodel::refusal::NO_BYTES;
 use bufmodel::refusal::NOT_INSERTED;
 use bufmodel::refusal::NOT_PINNED;
 use bufmodel::refusal::RANGE;
-use bufposition::position::position_at;
+use bufpage::page::page_position;
+use bufpage::page::read_page;
+use bufpage::page::write_page;
 use buftag::number::BufferNumber;
+use bufword::state::is_buffer;
+use bufword::state::put_state;
+use bufword::state::state_of;
 use bufword::word::is_pinned;
 use bufword::word::make_dirty;
 use bufword::word::pin_less;
@@ -66,11 +69,10 @@ pub fn buffer_refusal(
     if k != 0 {
         return k;
     }
-    let i = buffer.0;
-    if i >= states.len() {
+    if !is_buffer(states, buffer) {
         return NO_BUFFER;
     }
-    if !is_pinned(states[i]) {
+    if !is_pinned(state_of(states, buffer)) {
         return NOT_PINNED;
     }
     0
@@ -117,8 +119,8 @@ pub fn unpin_buffer(
     if k != 0 {
         return Accepted::Refused(k);
     }
-    let i = buffer.0;
-    states[i] = pin_less(states[i]);
+    let word = pin_less(state_of(states, buffer));
+    put_state(states, buffer, word);
     Accepted::Done
 }
 
@@ -177,7 +179,7 @@ pub fn read_buffer(
     if !range_ok(control.size, from, out.len()) {
         return Accepted::Refused(RANGE);
     }
-    read_page(pool, control.size, buffer.0, from, out);
+    read_page(pool, control.size, buffer, from, out);
     Accepted::Done
 }
 
@@ -185,19 +187,19 @@ pub fn read_buffer(
 fn write_refusal(
     control: Control,
     pool: &[u8],
-    i: usize,
+    buffer: BufferNumber,
     from: usize,
     bytes: &[u8],
     position: u64,
 ) -> u32
-    requires { ⌜ (8 ≤ control .size) × (i * control .size + control .size ≤ length (now pool)) ⌝ }
+    requires { ⌜ (8 ≤ control .size) × (buffer .0 * control .size + control .size ≤ length (now pool)) ⌝ }
     ensures { λ r.
         ⌜ r
         ≡ refusalOf
         (place 9 (ltb (control .size) (from + length (now (bytes .entry))) || ltb from 8)
         ∷ place 10 (eqb (length (now (bytes .entry))) 0)
         ∷ place 11 (ltb (control .inserted) position)
-        ∷ place 12 (ltb position (pagePosition (block (control .size) i (now (pool .entry)))))
+        ∷ place 12 (ltb position (pagePosition (block (control .size) (buffer .0) (now (pool .entry)))))
         ∷ []) ⌝ }
 {
     if !range_ok(control.size, from, bytes.len()) {
@@ -212,7 +214,7 @@ fn write_refusal(
     if position > control.inserted {
         return NOT_INSERTED;
     }
-    if position < position_at(pool, i * control.size) {
+    if position < page_position(pool, control.size, buffer) {
         return EARLIER;
     }
     0
@@ -262,12 +264,12 @@ pub fn write_buffer(
     if k != 0 {
         return Accepted::Refused(k);
     }
-    let i = buffer.0;
-    let later = write_refusal(control, pool, i, from, bytes, position);
+    let later = write_refusal(control, pool, buffer, from, bytes, position);
     if later != 0 {
         return Accepted::Refused(later);
     }
-    write_page(pool, control.size, i, from, bytes, position);
-    states[i] = make_dirty(states[i]);
+    write_page(pool, control.size, buffer, from, bytes, position);
+    let word = make_dirty(state_of(states, buffer));
+    put_state(states, buffer, word);
     Accepted::Done
 }

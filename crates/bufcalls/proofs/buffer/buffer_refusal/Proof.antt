@@ -1,9 +1,10 @@
 use borrow.Author.Needs.{needs}
-use borrow.Author.Tests.{not-true, not-false}
+use borrow.Author.Tests.{ltb-true, ltb-false, not-true, not-false}
 use denote.Ref.{now}
-use mathlib.Core.Path.{sym, _∙_}
-use Prim.Native.Nat.{ℕ}
-use Rattle.bufmodel.specs.Memory.{Memory, memory}
+use mathlib.Core.Path.{_≡_, sym, ap, _∙_}
+use Prim.Native.Nat.{ℕ, _<_}
+use Rattle.bufmodel.specs.Word.{pinned}
+use Rattle.bufmodel.specs.Memory.{Memory, memory, buffers, wordOf}
 use Rattle.bufmodel.proofs.GoodLaws.{Good}
 use Rattle.bufmodel.proofs.GoodLaws.{checked-early, passed-good}
 use Rattle.bufcalls.proofs.CallLaws.{buffer-outside, buffer-unpinned, buffer-pinned}
@@ -25,20 +26,33 @@ at r = start r .args .buffer .0
 passed : (c : tie.Else1) → Good (lent (c .before))
 passed c = let r = c .before in passed-good (lent r) (r .refusal .ensures) (c .if1 .left)
 
+inside : (c : tie.Else2) → let r = c .before .before .before in at r < buffers (lent r)
+inside c = ltb-true _ _ (sym (c .before .is-buffer .ensures) ∙ not-false _ (c .if2 .left))
+
+-- the test is that of the buffer's word
+held : (c : tie.After-is-pinned)
+    → let r = c .before .before .before .before .before in
+    c .is-pinned .result ≡ pinned (wordOf (lent r) (at r))
+held c = c .is-pinned .ensures ∙ ap pinned (c .before .state-of .ensures)
+
 refusal-requires : tie.Need-refusal-requires
 refusal-requires c κs = search needs
 
 returns : tie.Need-returns
 returns c = let r = c .before in checked-early (lent r) _ (r .refusal .ensures) (c .if1 .taken)
 
+is-buffer-requires : tie.Need-is-buffer-requires
+is-buffer-requires c κs = search needs
+
 returns-2 : tie.Need-returns-2
-returns-2 c = let e = c .before in buffer-outside (lent (e .before)) (at (e .before)) (passed e) (c .if2 .taken)
+returns-2 c =
+    let b = c .before in
+    let e = b .before in
+    buffer-outside (lent (e .before)) (at (e .before)) (passed e)
+    (ltb-false _ _ (sym (b .is-buffer .ensures) ∙ not-true _ (c .if2 .taken)))
 
-mul-is-pinned : tie.Need-mul-is-pinned
-mul-is-pinned c = search needs
-
-shared-slice-read-is-pinned : tie.Need-shared-slice-read-is-pinned
-shared-slice-read-is-pinned c = search needs
+state-of-requires : tie.Need-state-of-requires
+state-of-requires c κs = inside c
 
 is-pinned-requires : tie.Need-is-pinned-requires
 is-pinned-requires c κs = search needs
@@ -47,15 +61,15 @@ returns-3 : tie.Need-returns-3
 returns-3 c =
     let p = c .before in
     let d = p .before .before in
-    let e = d .before in
-    buffer-unpinned (lent (e .before)) (at (e .before)) (passed e) (d .if2 .left) (sym (p .is-pinned .ensures) ∙ not-true _ (c .if3 .taken))
+    let e = d .before .before in
+    buffer-unpinned (lent (e .before)) (at (e .before)) (passed e) (inside d) (sym (held p) ∙ not-true _ (c .if3 .taken))
 
 returns-4 : tie.Need-returns-4
 returns-4 c =
     let p = c .before in
     let d = p .before .before in
-    let e = d .before in
-    buffer-pinned (lent (e .before)) (at (e .before)) (passed e) (d .if2 .left) (sym (p .is-pinned .ensures) ∙ not-false _ (c .if3 .left))
+    let e = d .before .before in
+    buffer-pinned (lent (e .before)) (at (e .before)) (passed e) (inside d) (sym (held p) ∙ not-false _ (c .if3 .left))
 
 pub buffer-refusal-spec : {M : Type 1} → statement M
 buffer-refusal-spec =
@@ -63,9 +77,9 @@ buffer-refusal-spec =
     (tie.spec
     refusal-requires
     returns
+    is-buffer-requires
     returns-2
-    mul-is-pinned
-    shared-slice-read-is-pinned
+    state-of-requires
     is-pinned-requires
     returns-3
     returns-4)

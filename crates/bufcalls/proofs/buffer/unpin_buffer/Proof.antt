@@ -1,7 +1,8 @@
 use borrow.Author.Needs.{needs}
 use denote.Ref.{now}
-use native.Mathlib.Omega.{arith}
+use mathlib.Core.Path.{ap, _∙_}
 use Prim.Native.Nat.{ℕ}
+use Rattle.bufmodel.specs.Word.{pinned, pinLess}
 use Rattle.bufmodel.specs.Memory.{Memory, memory}
 use Rattle.bufcalls.proofs.CallLaws.{Held, buffer-held, unpin-refused, unpin-done}
 use Rattle.bufcalls.proofs.buffer.unpin_buffer.Statement.{statement}
@@ -31,28 +32,26 @@ same-length c = search needs
 returns : tie.Need-returns
 returns c = let r = c .before in unpin-refused (lent r) (at r) (r .buffer-refusal .ensures) (c .if1 .taken)
 
-mul-pin-less : tie.Need-mul-pin-less
-mul-pin-less c = let h = held c in omega (arith, h .within, h .good .sizes .most)
-
-slice-read-pin-less : tie.Need-slice-read-pin-less
-slice-read-pin-less c = held (c .before) .within
+state-of-requires : tie.Need-state-of-requires
+state-of-requires c κs = held (c .before) .within
 
 pin-less-requires : tie.Need-pin-less-requires
-pin-less-requires c κs = held (c .before) .held
+pin-less-requires c κs = ap pinned (c .state-of .ensures) ∙ held (c .before .before) .held
 
-mul-states : tie.Need-mul-states
-mul-states c =
-    let h = held (c .before .before) in
-    omega (arith, h .within, h .good .sizes .most)
-
-slice-write-states : tie.Need-slice-write-states
-slice-write-states c = held (c .before .before) .within
+put-state-requires : tie.Need-put-state-requires
+put-state-requires c κs = held (c .before .before .before .before) .within
 
 same-length-2 : tie.Need-same-length-2
 same-length-2 c = search needs
 
 returns-2 : tie.Need-returns-2
-returns-2 c = let e = c .before .before in unpin-done (lent (e .before)) (at (e .before)) (held e) (c .pin-less .ensures)
+returns-2 c =
+    let p = c .before .before in
+    let l = p .before .before in
+    let s = l .before in
+    let e = s .before .before in
+    unpin-done (lent (e .before)) (at (e .before)) (held e) (l .pin-less .ensures ∙ ap pinLess (s .state-of .ensures))
+    (p .put-state .ensures)
 
 pub unpin-buffer-spec : {M : Type 1} → statement M
 unpin-buffer-spec =
@@ -61,10 +60,8 @@ unpin-buffer-spec =
     buffer-refusal-requires
     same-length
     returns
-    mul-pin-less
-    slice-read-pin-less
+    state-of-requires
     pin-less-requires
-    mul-states
-    slice-write-states
+    put-state-requires
     same-length-2
     returns-2)

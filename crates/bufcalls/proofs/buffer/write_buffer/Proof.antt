@@ -1,7 +1,8 @@
 use borrow.Author.Needs.{needs}
 use denote.Ref.{now}
-use native.Mathlib.Omega.{arith}
+use mathlib.Core.Path.{ap, _∙_}
 use Prim.Native.Nat.{ℕ}
+use Rattle.bufmodel.specs.Word.{makeDirty}
 use Rattle.bufmodel.specs.Memory.{Memory, memory}
 use Rattle.bufcalls.proofs.CallLaws.{
   Held,
@@ -81,24 +82,14 @@ write-page-requires c κs =
       write-range (lent r) (at r) (a .from) (now (a .bytes)) (a .position) (w .write-refusal .ensures) (d .if2 .left),
     )
 
-mul-make-dirty : tie.Need-mul-make-dirty
-mul-make-dirty c =
-    let h = held (c .before .before .before .before .before .before .before) in
-    omega (arith, h .within, h .good .sizes .most)
-
-slice-read-make-dirty : tie.Need-slice-read-make-dirty
-slice-read-make-dirty c = held (c .before .before .before .before .before .before .before .before) .within
+state-of-requires : tie.Need-state-of-requires
+state-of-requires c κs = held (c .before .before .before .before .before .before .before .before) .within
 
 make-dirty-requires : tie.Need-make-dirty-requires
 make-dirty-requires c κs = search needs
 
-mul-states : tie.Need-mul-states
-mul-states c =
-    let h = held (c .before .before .before .before .before .before .before .before .before) in
-    omega (arith, h .within, h .good .sizes .most)
-
-slice-write-states : tie.Need-slice-write-states
-slice-write-states c = held (c .before .before .before .before .before .before .before .before .before) .within
+put-state-requires : tie.Need-put-state-requires
+put-state-requires c κs = held (c .before .before .before .before .before .before .before .before .before .before .before) .within
 
 same-length-5 : tie.Need-same-length-5
 same-length-5 c = search needs
@@ -108,7 +99,10 @@ same-length-6 c = search needs
 
 returns-3 : tie.Need-returns-3
 returns-3 c =
-    let p = c .before .before .before .before in
+    let u = c .before .before in
+    let t = u .before .before in
+    let s = t .before in
+    let p = s .before .before .before .before in
     let d = p .before .before in
     let w = d .before in
     let e = w .before .before in
@@ -116,7 +110,7 @@ returns-3 c =
     let a = start r .args in
     write-done (lent r) (at r) (a .from) (now (a .bytes)) (a .position)
     (write-later (lent r) (at r) (a .from) (now (a .bytes)) (a .position) (held e) (w .write-refusal .ensures)) (d .if2 .left)
-    (p .write-page .ensures) (c .make-dirty .ensures)
+    (p .write-page .ensures) (t .make-dirty .ensures ∙ ap makeDirty (s .state-of .ensures)) (u .put-state .ensures)
 
 pub write-buffer-spec : {M : Type 1} → statement M
 write-buffer-spec =
@@ -131,11 +125,9 @@ write-buffer-spec =
     same-length-4
     returns-2
     write-page-requires
-    mul-make-dirty
-    slice-read-make-dirty
+    state-of-requires
     make-dirty-requires
-    mul-states
-    slice-write-states
+    put-state-requires
     same-length-5
     same-length-6
     returns-3)

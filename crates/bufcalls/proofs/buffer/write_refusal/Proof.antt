@@ -7,10 +7,7 @@ use mathlib.Core.Bool.{Bool, true, false, _||_}
 use mathlib.Core.List.{[]}
 use mathlib.Core.Path.{_≡_, sym, ap, _∙_}
 use Prim.Native.Nat.{ℕ, _+_, _≤_, _<_}
-use Rattle.laws.specs.Block.{block}
-use Rattle.bufmodel.specs.Position.{position}
 use Rattle.bufmodel.proofs.OutcomeLaws.{refusal-past, refusal-at, refusal-none}
-use Rattle.bufposition.proofs.PositionLaws.{position-block}
 use Rattle.bufcalls.proofs.buffer.write_refusal.Statement.{statement}
 use Rattle.bufcalls.proofs.buffer.write_refusal.Tie as tie
 
@@ -39,14 +36,6 @@ passed : (c : tie.Else2)
     range (a .control .size) (a .from) (a .from + length (now (a .bytes))) ≡ false
 passed c = in-body _ _ _ (within (c .before)) (c .if2 .left)
 
--- the position that the code reads is the page's
-page : (c : tie.After-position-at)
-    → let a = start (c .before .before .before .before .before .before .before) .args in
-    c .position-at .result ≡ position (block (a .control .size) (a .i) (now (a .pool)))
-page c =
-    let s = start (c .before .before .before .before .before .before .before) in
-    c .position-at .ensures ∙ position-block (s .args .control .size) (s .args .i) (now (s .args .pool)) (s .pre .0)
-
 range-ok-requires : tie.Need-range-ok-requires
 range-ok-requires c κs = search needs
 
@@ -69,29 +58,26 @@ returns-4 c =
     sym
     (refusal-past 9 _ (passed (e .before)) ∙ refusal-past 10 _ (ne-eqb _ _ (e .if3 .left)) ∙ refusal-at 11 _ (lt-ltb _ _ (c .if4 .taken)))
 
-mul-position-at : tie.Need-mul-position-at
-mul-position-at c = search needs
-
-position-at-requires : tie.Need-position-at-requires
-position-at-requires c κs = search needs
+page-position-requires : tie.Need-page-position-requires
+page-position-requires c κs = search needs
 
 returns-5 : tie.Need-returns-5
 returns-5 c =
     let p = c .before in
-    let f = p .before .before in
+    let f = p .before in
     let e = f .before .before in
     sym
     (refusal-past 9 _ (passed (e .before)) ∙ refusal-past 10 _ (ne-eqb _ _ (e .if3 .left)) ∙ refusal-past 11 _ (le-ltb _ _ (f .if4 .left))
-    ∙ refusal-at 12 [] (sym (ap (ltb _) (page p)) ∙ lt-ltb _ _ (c .if5 .taken)))
+    ∙ refusal-at 12 [] (sym (ap (ltb _) (p .page-position .ensures)) ∙ lt-ltb _ _ (c .if5 .taken)))
 
 returns-6 : tie.Need-returns-6
 returns-6 c =
     let p = c .before in
-    let f = p .before .before in
+    let f = p .before in
     let e = f .before .before in
     sym
     (refusal-past 9 _ (passed (e .before)) ∙ refusal-past 10 _ (ne-eqb _ _ (e .if3 .left)) ∙ refusal-past 11 _ (le-ltb _ _ (f .if4 .left))
-    ∙ refusal-past 12 [] (sym (ap (ltb _) (page p)) ∙ le-ltb _ _ (c .if5 .left)) ∙ refusal-none)
+    ∙ refusal-past 12 [] (sym (ap (ltb _) (p .page-position .ensures)) ∙ le-ltb _ _ (c .if5 .left)) ∙ refusal-none)
 
 pub write-refusal-spec : {M : Type 1} → statement M
 write-refusal-spec =
@@ -102,7 +88,6 @@ write-refusal-spec =
     returns-2
     returns-3
     returns-4
-    mul-position-at
-    position-at-requires
+    page-position-requires
     returns-5
     returns-6)
