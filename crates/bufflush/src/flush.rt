@@ -11,6 +11,7 @@ use bufmodel::answer::Written;
 use bufmodel::control::Control;
 use buftag::number::BufferNumber;
 use bufword::flag::one_if;
+use bufword::state::state_of;
 use bufword::word::is_dirty;
 
 // Writes the page back if it is dirty.
@@ -60,8 +61,7 @@ pub fn flush_buffer(
             answer: Written::Refused(k),
         };
     }
-    let i = buffer.0;
-    let n = one_if(is_dirty(states[i]));
+    let n = one_if(is_dirty(state_of(states, buffer)));
     let after = write_back(control, states, names, pool, rows, store, buffer);
     Flushed {
         control: after,

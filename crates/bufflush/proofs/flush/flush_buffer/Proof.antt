@@ -1,9 +1,9 @@
 use borrow.Author.Needs.{needs}
 use denote.Ref.{now}
-use native.Mathlib.Omega.{arith}
 use mathlib.Core.Path.{ap, _∙_}
 use Prim.Native.Nat.{ℕ}
 use Rattle.laws.specs.Sum.{ind}
+use Rattle.bufmodel.specs.Word.{dirty}
 use Rattle.bufmodel.specs.Memory.{Memory, memory}
 use Rattle.bufmoves.proofs.WholeLaws.{good-backed}
 use Rattle.bufcalls.proofs.CallLaws.{Held, buffer-held}
@@ -38,11 +38,8 @@ same-length-2 c = search needs
 returns : tie.Need-returns
 returns c = let r = c .before in flush-refused (lent r) (at r) (r .buffer-refusal .ensures) (c .if1 .taken)
 
-mul-is-dirty : tie.Need-mul-is-dirty
-mul-is-dirty c = let h = held c in omega (arith, h .within, h .good .sizes .most)
-
-slice-read-is-dirty : tie.Need-slice-read-is-dirty
-slice-read-is-dirty c = held (c .before) .within
+state-of-requires : tie.Need-state-of-requires
+state-of-requires c κs = held (c .before) .within
 
 is-dirty-requires : tie.Need-is-dirty-requires
 is-dirty-requires c κs = search needs
@@ -52,7 +49,7 @@ one-if-requires c κs = search needs
 
 write-back-requires : tie.Need-write-back-requires
 write-back-requires c κs =
-    let e = c .before .before .before .before .before in
+    let e = c .before .before .before .before .before .before in
     let h = held e in
     (good-backed (lent (e .before)) (h .good) (at (e .before)) (h .within), h .within)
 
@@ -67,8 +64,10 @@ returns-2 c =
     let b = c .before .before .before .before in
     let o = b .before .before .before in
     let d = o .before in
-    let e = d .before .before in
-    flush-done (lent (e .before)) (at (e .before)) (held e) (o .one-if .ensures ∙ ap ind (d .is-dirty .ensures)) (b .write-back .ensures)
+    let s = d .before in
+    let e = s .before .before in
+    flush-done (lent (e .before)) (at (e .before)) (held e)
+    (o .one-if .ensures ∙ ap ind (d .is-dirty .ensures ∙ ap dirty (s .state-of .ensures))) (b .write-back .ensures)
 
 pub flush-buffer-spec : {M : Type 1} → statement M
 flush-buffer-spec =
@@ -78,8 +77,7 @@ flush-buffer-spec =
     same-length
     same-length-2
     returns
-    mul-is-dirty
-    slice-read-is-dirty
+    state-of-requires
     is-dirty-requires
     one-if-requires
     write-back-requires
