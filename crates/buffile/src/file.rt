@@ -34,6 +34,7 @@ use buftag::name::same_file;
 use buftag::names::stored;
 use buftag::number::BlockNumber;
 use buftag::number::BufferNumber;
+use bufword::state::state_of;
 use bufword::word::is_empty;
 use bufword::word::is_pinned;
 
@@ -97,14 +98,14 @@ pub fn extend_file(
 }
 
 // Whether a buffer holds a page of a file.
-fn is_of_file(states: &[u32], names: &[u32], file: FileName, i: usize) -> bool
-    requires { ⌜ (i < length (now states)) × (length (now names) ≡ nameWords * length (now states)) ⌝ }
-    ensures { λ r. ⌜ r ≡ fileAt (now (states .entry)) (now (names .entry)) file i ⌝ }
+fn is_of_file(states: &[u32], names: &[u32], file: FileName, buffer: BufferNumber) -> bool
+    requires { ⌜ (buffer .0 < length (now states)) × (length (now names) ≡ nameWords * length (now states)) ⌝ }
+    ensures { λ r. ⌜ r ≡ fileAt (now (states .entry)) (now (names .entry)) file (buffer .0) ⌝ }
 {
-    if is_empty(states[i]) {
+    if is_empty(state_of(states, buffer)) {
         return false;
     }
-    let name = stored(names, BufferNumber(i));
+    let name = stored(names, buffer);
     let own = name.file;
     same_file(own, file)
 }
@@ -116,7 +117,7 @@ fn any_pinned(states: &[u32], names: &[u32], file: FileName) -> bool
 {
     let mut i = 0;
     while i < states.len() {
-        if is_of_file(states, names, file, i) {
+        if is_of_file(states, names, file, BufferNumber(i)) {
             if is_pinned(states[i]) {
                 return true;
             }
@@ -154,7 +155,7 @@ fn release_file(
     let mut after = control;
     let mut i = 0;
     while i < n {
-        if is_of_file(states, names, file, i) {
+        if is_of_file(states, names, file, BufferNumber(i)) {
             after = release_buffer(after, states, names, free, heads, chain, BufferNumber(i));
         }
         i += 1;
