@@ -10,13 +10,15 @@ ghost use Rattle.bufmodel.specs.Rows.{placeOf};
 ghost use Rattle.bufmodel.specs.Memory.{memory};
 ghost use Rattle.bufmodel.specs.Moves.{putAt, writeBack};
 ghost use Rattle.bufback.specs.Back.{Backed};
-use bufblock::block::copy_block;
 use bufmodel::control::Control;
-use bufposition::position::position_at;
+use bufpage::page::page_position;
+use bufpage::page::page_to_store;
 use bufrows::place::Place;
 use bufrows::place::place_of;
 use buftag::names::stored;
 use buftag::number::BufferNumber;
+use bufword::state::put_state;
+use bufword::state::state_of;
 use bufword::word::is_dirty;
 use bufword::word::make_clean;
 
@@ -64,7 +66,7 @@ fn put_page(
     let Place::At(g) = place_of(rows, stored(names, buffer)) else {
         return;
     };
-    copy_block(store, g, pool, buffer.0, control.size);
+    page_to_store(store, g, pool, buffer, control.size);
 }
 
 // Writes a page back if it is dirty.
@@ -85,13 +87,12 @@ pub fn write_back(
         (memory control (now (states .entry)) (now (names .entry)) (now (pool .entry)) [] [] [] (now (rows .entry))
         (now (store .entry))) (buffer .0) ⌝ }
 {
-    let i = buffer.0;
-    let w = states[i];
+    let w = state_of(states, buffer);
     if !is_dirty(w) {
         return control;
     }
-    let c = flushed_to(control, position_at(pool, i * control.size));
+    let c = flushed_to(control, page_position(pool, control.size, buffer));
     put_page(control, names, pool, rows, store, buffer);
-    states[i] = make_clean(w);
+    put_state(states, buffer, make_clean(w));
     c
 }

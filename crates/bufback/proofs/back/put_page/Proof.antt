@@ -36,9 +36,9 @@ returns c =
     let a = p .before .before .before .before .before .before .args in
     ap (putAt (a .control .size) _ (now (a .store))) (ap foundPlace (sym (c .enum-told .given .1)) ∙ place p)
 
-copy-block-requires : tie.Need-copy-block-requires
+page-to-store-requires : tie.Need-page-to-store-requires
 unfolding foundPlace
-copy-block-requires c κs =
+page-to-store-requires c κs =
     let p = c .before .before .before .before in
     let s = p .before .before .before .before .before .before in
     let e = sym (place p) ∙ ap foundPlace (c .before .before .g .given .1) in
@@ -59,7 +59,7 @@ returns-2 c =
     let p = d .before .before .before .before in
     let a = p .before .before .before .before .before .before .args in
     let e = sym (place p) ∙ ap foundPlace (d .before .before .g .given .1) in
-    b .copy-block .ensures ∙ ap (putAt (a .control .size) _ (now (a .store))) (sym e)
+    b .page-to-store .ensures ∙ ap (putAt (a .control .size) _ (now (a .store))) (sym e)
 
 pub put-page-spec : {M : Type 1} → statement M
 put-page-spec =
@@ -70,6 +70,6 @@ put-page-spec =
     enum-known-g
     enum-told
     returns
-    copy-block-requires
+    page-to-store-requires
     same-length
     returns-2)
