@@ -6,10 +6,8 @@ ghost use Rattle.bufmodel.specs.Sizes.{soundRows};
 ghost use Rattle.bufpeek.specs.Name.{sought};
 use bufmodel::refusal::NO_BLOCK;
 use bufmodel::refusal::NO_FILE;
-use bufrows::rows::Row;
-use bufrows::rows::blocks_at;
-use bufrows::rows::find_row;
-use bufrows::rows::start_of;
+use bufrows::place::Place;
+use bufrows::place::place_of;
 use buftag::name::PageName;
 
 // A page's place in the store, or the number that refuses its name.
@@ -22,13 +20,10 @@ pub fn seek(rows: &[u32], name: PageName) -> Sought
     requires { ⌜ soundRows (now rows) ≡ true ⌝ }
     ensures { λ r. ⌜ r ≡ sought (now (rows .entry)) name ⌝ }
 {
-    let file = name.file;
-    let block = name.block.0;
-    let Row::At(row) = find_row(rows, file) else {
-        return Sought::Refused(NO_FILE);
-    };
-    if block >= blocks_at(rows, row) {
-        return Sought::Refused(NO_BLOCK);
+    let place = place_of(rows, name);
+    match place {
+        Place::At(g) => Sought::At(g),
+        Place::NoFile => Sought::Refused(NO_FILE),
+        Place::NoBlock => Sought::Refused(NO_BLOCK),
     }
-    Sought::At(start_of(rows, row) as usize + block as usize)
 }

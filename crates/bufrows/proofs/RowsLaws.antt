@@ -13,7 +13,7 @@ use Rattle.laws.specs.Every.{all}
 use Rattle.laws.specs.First.{found, missing}
 use Rattle.buftag.specs.Name.{sameFile, isFork}
 use Rattle.bufmodel.specs.Rows.{rowWords, files, fileAt, blocksAt, capacityAt, rowOf, startOf, storeBlocks}
-use Rattle.bufmodel.specs.Sizes.{maxFiles, maxBlocks, newFile, soundRow, soundRows, RowsSound}
+use Rattle.bufmodel.specs.Sizes.{maxFiles, maxBlocks, newFile, soundRow, soundRows}
 use Rattle.bufmodel.proofs.RowsLaws.{row-found, start-grows}
 use Rattle.bufmodel.proofs.SizesLaws.{rows-say}
 use Rattle.bufrows.specs.declared.rows.Row.{Row}

@@ -2,32 +2,30 @@
 
 ghost use mathlib.Core.Path.{_≡_};
 ghost use mathlib.Core.Bool.{true};
-ghost use Rattle.bufmodel.specs.Rows.{placeOf};
 ghost use Rattle.bufmodel.specs.Sizes.{soundRows};
-ghost use Rattle.bufrows.specs.Place.{foundPlace};
+ghost use Rattle.bufrows.specs.Place.{placed};
 use crate::rows::Row;
-use crate::rows::blocks_at;
+use crate::rows::block_place;
 use crate::rows::find_row;
-use crate::rows::start_of;
+use crate::rows::has_block;
 use buftag::name::PageName;
 
-// A page's place, or that there is no such page.
+// A page's place, or what there is none of: a row of its file, or such a block in its file.
 pub enum Place {
     At(usize),
-    Missing,
+    NoFile,
+    NoBlock,
 }
 
 pub fn place_of(rows: &[u32], name: PageName) -> Place
     requires { ⌜ soundRows (now rows) ≡ true ⌝ }
-    ensures { λ r. ⌜ foundPlace r ≡ placeOf (now (rows .entry)) name ⌝ }
+    ensures { λ r. ⌜ r ≡ placed (now (rows .entry)) name ⌝ }
 {
-    let file = name.file;
-    let block = name.block.0;
-    let Row::At(row) = find_row(rows, file) else {
-        return Place::Missing;
+    let Row::At(row) = find_row(rows, name.file) else {
+        return Place::NoFile;
     };
-    if block >= blocks_at(rows, row) {
-        return Place::Missing;
+    if !has_block(rows, row, name.block) {
+        return Place::NoBlock;
     }
-    Place::At(start_of(rows, row) as usize + block as usize)
+    Place::At(block_place(rows, row, name.block))
 }

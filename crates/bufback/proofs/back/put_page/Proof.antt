@@ -8,6 +8,7 @@ use Rattle.bufmodel.specs.Moves.{putAt}
 use Rattle.bufmodel.proofs.RowsLaws.{place-in}
 use Rattle.bufmodel.proofs.SizesLaws.{rows-say}
 use Rattle.bufrows.specs.Place.{foundPlace}
+use Rattle.bufrows.proofs.PlaceLaws.{found-placed, found-other}
 use Rattle.bufback.proofs.back.put_page.Statement.{statement}
 use Rattle.bufback.proofs.back.put_page.Tie as tie
 
@@ -15,7 +16,7 @@ use Rattle.bufback.proofs.back.put_page.Tie as tie
 place : (c : tie.After-place-of)
     → let a = c .before .before .before .before .before .before .args in
     foundPlace (c .place-of .result) ≡ placeOf (now (a .rows)) (nameAt (now (a .names)) (a .buffer .0))
-place c = c .place-of .ensures ∙ ap (placeOf _) (c .before .stored .ensures)
+place c = ap foundPlace (c .place-of .ensures) ∙ found-placed _ _ ∙ ap (placeOf _) (c .before .stored .ensures)
 
 stored-requires : tie.Need-stored-requires
 stored-requires c κs = search needs
@@ -26,15 +27,12 @@ place-of-requires c κs = search needs
 enum-known-g : tie.Need-enum-known-g
 enum-known-g c = search needs
 
-enum-told : tie.Need-enum-told
-enum-told c = search needs
-
 returns : tie.Need-returns
-unfolding putAt foundPlace
+unfolding putAt
 returns c =
-    let p = c .before .before in
+    let p = c .before in
     let a = p .before .before .before .before .before .before .args in
-    ap (putAt (a .control .size) _ (now (a .store))) (ap foundPlace (sym (c .enum-told .given .1)) ∙ place p)
+    ap (putAt (a .control .size) _ (now (a .store))) (sym (found-other _ (c .match .keys2)) ∙ place p)
 
 page-to-store-requires : tie.Need-page-to-store-requires
 unfolding foundPlace
@@ -68,7 +66,6 @@ put-page-spec =
     stored-requires
     place-of-requires
     enum-known-g
-    enum-told
     returns
     page-to-store-requires
     same-length

@@ -1,7 +1,7 @@
 use borrow.Author.Needs.{needs}
 use Rattle.bufrows.proofs.RowsLaws.{rows-part, rows-many, rows-wide, rows-each}
 use Rattle.bufmodel.specs.Rows.{files}
-use mathlib.Core.Path.{sym, _∙_}
+use mathlib.Core.Path.{_∙_}
 use native.Mathlib.Omega.{arith}
 use Rattle.bufrows.proofs.rows.rows_ok.Statement.{statement}
 use Rattle.bufrows.proofs.rows.rows_ok.Tie as tie
