@@ -64,17 +64,16 @@ module _ (m : Memory) (n : PageName) where
       unfolding partOf peekedAt offsetOf
       peek-store h = rw (peek-done e, sym (looked-up m g n) ∙ h, name-at (m .rows) n [] e .0)
 
-    -- ---- the offsets fit
-    small : {k top : ℕ} → k < top → top ≤ 65536 → k * size m < 2 ^ 64
-    small {k} {top} l h =
-        let most : k ≤ 65536 = omega arith in
+    -- ---- the offsets fit, and a held page is within the pool
+    pub place-small : {at : ℕ} → sought (m .rows) n ≡ At at → at * size m < 2 ^ 64
+    place-small {at} e =
+        let l = place-in (m .rows) (g .sizes .rows) n (name-at (m .rows) n [] e .0) in
+        let most : at ≤ 65536 = omega (arith, g .sizes .rows .room) in
         omega (arith, sized-page (g .sizes) .1, mul-le-mul-right (size m) most)
 
-    pub place-small : {at : ℕ} → sought (m .rows) n ≡ At at → at * size m < 2 ^ 64
-    place-small e = small (place-in (m .rows) (g .sizes .rows) n (name-at (m .rows) n [] e .0)) (g .sizes .rows .room)
-
-    pub buffer-small : {b : BufferNumber} → lookUp (m .heads) (m .chain) (m .names) n ≡ held.the-variants.At b → b .0 * size m < 2 ^ 64
-    buffer-small {b} h = small (held-at m g n b (sym (looked-up m g n) ∙ h) .0) (omega (arith, g .sizes .most))
+    pub buffer-in : {b : BufferNumber} → lookUp (m .heads) (m .chain) (m .names) n ≡ held.the-variants.At b
+        → b .0 * size m + size m ≤ length (m .pool)
+    buffer-in {b} h = block-in (size m) (buffers m) (b .0) (m .pool) (g .sizes .pool) (held-at m g n b (sym (looked-up m g n) ∙ h) .0)
 
 -- ---- the part that an answer tells of: the bytes of one block, within the pool or the store; none where the call is refused
 abbrev pub Told : Memory → List ℕ → peeked.Peeked → Type 0

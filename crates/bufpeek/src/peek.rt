@@ -9,6 +9,7 @@ use crate::name::seek;
 use bufbooks::lent::refusal;
 use bufmodel::answer::Peeked;
 use bufmodel::control::Control;
+use bufpage::page::page_offset;
 use buftag::lookup::Held;
 use buftag::lookup::look_up;
 use buftag::name::PageName;
@@ -56,7 +57,7 @@ pub fn peek_at(
             let Held::At(buffer) = look_up(heads, chain, names, name) else {
                 return Peeked::InStore((g * control.size) as u64);
             };
-            Peeked::InPool((buffer.0 * control.size) as u64)
+            Peeked::InPool(page_offset(pool, control.size, buffer) as u64)
         }
     }
 }

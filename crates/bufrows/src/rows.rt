@@ -1,12 +1,12 @@
 // The file rows: a row's numbers, the row of a file, where a file's blocks stand in the store, whether the rows are sound.
 
 ghost use mathlib.Core.Path.{_≡_};
-ghost use Prim.Native.Nat.{_+_, _*_, _^_, _≤_, _<_};
+ghost use Prim.Native.Nat.{_+_, _*_, _≤_};
 ghost use lib.Dec.{ltb};
 ghost use lib.ListN.{length};
 ghost use Rattle.laws.specs.Every.{all};
 ghost use Rattle.buftag.specs.Name.{sameFile};
-ghost use Rattle.bufmodel.specs.Rows.{rowWords, files, fileAt, blocksAt, capacityAt, setBlocks, rowOf, startOf};
+ghost use Rattle.bufmodel.specs.Rows.{rowWords, fileAt, blocksAt, capacityAt, setBlocks, rowOf, startOf};
 ghost use Rattle.bufmodel.specs.Sizes.{maxFiles, maxBlocks, newFile, soundRow, soundRows};
 ghost use Rattle.bufrows.specs.Rows.{foundRow};
 use buftag::name::FileName;

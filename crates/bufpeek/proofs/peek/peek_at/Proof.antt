@@ -1,15 +1,17 @@
 use borrow.Author.Needs.{needs}
 use native.Mathlib.Omega.{arith}
 use denote.Ref.{now}
-use mathlib.Core.Path.{_≡_, sym, _∙_}
+use mathlib.Core.Path.{_≡_, sym, _∙_, ap}
 use Rattle.buftag.specs.declared.name.PageName.{PageName}
+use Rattle.buftag.specs.declared.lookup.Held as held
+use Rattle.buftag.specs.Lookup.{lookUp}
+use Rattle.bufmodel.specs.declared.answer.Peeked.the-variants.{InPool}
 use Rattle.bufmodel.specs.Memory.{Memory, memory}
-use Rattle.bufmodel.proofs.GoodLaws.{Good}
+use Rattle.bufmodel.proofs.GoodLaws.{Good, passed-good}
 use Rattle.bufmodel.proofs.SizesLaws.{rows-say}
 use Rattle.bufpeek.specs.declared.name.Sought.the-variants.{At}
 use Rattle.bufpeek.specs.Name.{sought}
-use Rattle.bufmodel.proofs.GoodLaws.{passed-good}
-use Rattle.bufpeek.proofs.PeekLaws.{peek-early, peek-refused, peek-pool, peek-store, place-small, buffer-small}
+use Rattle.bufpeek.proofs.PeekLaws.{peek-early, peek-refused, peek-pool, peek-store, place-small, buffer-in}
 use Rattle.bufpeek.proofs.peek.peek_at.Statement.{statement}
 use Rattle.bufpeek.proofs.peek.peek_at.Tie as tie
 
@@ -34,6 +36,13 @@ name c = start (passed c) .args .name
 
 placed : (c : tie.After-known-told2) → sought (lent (start (passed c)) .rows) (name c) ≡ At (c .before .sought2 .given .0 .0)
 placed c = sym (c .before .before .before .seek .ensures) ∙ c .before .sought2 .given .1
+
+-- and a buffer that holds it
+found : (c : tie.After-known-told3)
+    → let k = c .before .before .before .before in
+    let m = lent (start (passed k)) in
+    lookUp (m .heads) (m .chain) (m .names) (name k) ≡ held.the-variants.At (c .before .buffer .given .0 .0)
+found c = sym (c .before .before .before .look-up .ensures) ∙ c .before .buffer .given .1
 
 refusal-requires : tie.Need-refusal-requires
 refusal-requires c κs = search needs
@@ -73,11 +82,10 @@ returns-2 c =
     let h = sym (c .before .before .before .look-up .ensures) ∙ c .before .enum-told .given .1 in
     peek-store (lent (start (passed k))) (name k) (good (passed k)) (placed k) h
 
-mul-t21 : tie.Need-mul-t21
-mul-t21 c =
-    let k = c .before .before .before .before .before .before in
-    let h = sym (c .before .before .before .before .before .look-up .ensures) ∙ c .before .before .before .buffer .given .1 in
-    record { fits = buffer-small (lent (start (passed k))) (name k) (good (passed k)) h }
+page-offset-requires : tie.Need-page-offset-requires
+page-offset-requires c κs =
+    let k = c .before .before .before .before in
+    buffer-in (lent (start (passed k))) (name k) (good (passed k)) (found c)
 
 returns-3 : tie.Need-returns-3
 returns-3 c =
@@ -87,9 +95,8 @@ returns-3 c =
 
 returns-4 : tie.Need-returns-4
 returns-4 c =
-    let k = c .before .before .before .before .before .before in
-    let h = sym (c .before .before .before .before .before .look-up .ensures) ∙ c .before .before .before .buffer .given .1 in
-    peek-pool (lent (start (passed k))) (name k) (good (passed k)) (placed k) h
+    let k = c .before .before .before .before .before in
+    ap InPool (c .page-offset .ensures) ∙ peek-pool (lent (start (passed k))) (name k) (good (passed k)) (placed k) (found (c .before))
 
 pub peek-at-spec : {M : Type 1} → statement M
 peek-at-spec =
@@ -105,6 +112,6 @@ peek-at-spec =
     enum-told
     mul-t19
     returns-2
-    mul-t21
+    page-offset-requires
     returns-3
     returns-4)
