@@ -7,6 +7,7 @@ ghost use Prim.Native.Nat.{_+_, _*_, _≤_, _<_};
 ghost use lib.ListN.{length};
 ghost use Rattle.laws.specs.Every.{all};
 ghost use Rattle.laws.specs.Sum.{count};
+ghost use Rattle.buftag.specs.Link.{linkAt};
 ghost use Rattle.buftag.specs.Names.{nameWords};
 ghost use Rattle.buftag.specs.Lookup.{used};
 ghost use Rattle.bufmodel.specs.Rows.{rowOf};
@@ -15,15 +16,14 @@ ghost use Rattle.bufmodel.specs.Sizes.{soundRows};
 ghost use Rattle.bufmodel.specs.Books.{isOff};
 ghost use Rattle.bufrows.specs.Rows.{foundRow};
 ghost use Rattle.buftables.specs.Hashes.{Hashed};
-ghost use Rattle.bufscan.specs.Buffers.{Fitting};
-ghost use Rattle.bufscan.specs.Buffers.{emptyTest, usedTest, heldTest, bufferTest, countedOf};
+ghost use Rattle.bufscan.specs.Buffers.{Fitting, emptyTest, usedTest, heldTest, bufferTest, countedOf};
 use bufchains::check::is_first;
 use bufmodel::control::Control;
-use bufposition::position::position_at;
+use bufpage::page::page_position;
 use bufrows::rows::ROW_WORDS;
 use bufrows::rows::Row;
-use bufrows::rows::blocks_at;
 use bufrows::rows::find_row;
+use bufrows::rows::has_block;
 use bufrows::rows::is_file;
 use buftables::guesses::slot_of;
 use buftag::link::Link;
@@ -56,32 +56,40 @@ fn is_off(l: Link) -> bool
     }
 }
 
-// Whether an empty buffer has a name of zeros and chain link -1.
-fn empty_ok(names: &[u32], chain: &[i32], i: usize) -> bool
-    requires { ⌜ (nameWords * i + nameWords ≤ length (now names)) × (i < length (now chain)) ⌝ }
-    ensures { λ r. ⌜ r ≡ emptyTest (now (names .entry)) (now (chain .entry)) i ⌝ }
+fn link_of(links: &[i32], buffer: BufferNumber) -> Link
+    requires { ⌜ buffer .0 < length (now links) ⌝ }
+    ensures { λ r. ⌜ r ≡ linkAt (now (links .entry)) (buffer .0) ⌝ }
 {
-    if !holds(names, BufferNumber(i), no_name()) {
+    link_at(links, buffer.0)
+}
+
+// Whether an empty buffer has a name of zeros and chain link -1.
+fn empty_ok(names: &[u32], chain: &[i32], buffer: BufferNumber) -> bool
+    requires { ⌜ (nameWords * buffer .0 + nameWords ≤ length (now names)) × (buffer .0 < length (now chain)) ⌝ }
+    ensures { λ r. ⌜ r ≡ emptyTest (now (names .entry)) (now (chain .entry)) (buffer .0) ⌝ }
+{
+    if !holds(names, buffer, no_name()) {
         return false;
     }
-    is_end(link_at(chain, i))
+    is_end(link_of(chain, buffer))
 }
 
 // Whether a buffer in use has a sound word, free link -2 and, if it is dirty, a log position of at most inserted.
-fn used_ok(control: Control, pool: &[u8], free: &[i32], w: u32, i: usize) -> bool
-    requires { ⌜ (8 ≤ control .size) × (i * control .size + control .size ≤ length (now pool)) × (i < length (now free)) ⌝ }
-    ensures { λ r. ⌜ r ≡ usedTest control (now (pool .entry)) (now (free .entry)) w i ⌝ }
+fn used_ok(control: Control, pool: &[u8], free: &[i32], w: u32, buffer: BufferNumber) -> bool
+    requires { ⌜ (8 ≤ control .size) × (buffer .0 * control .size + control .size ≤ length (now pool))
+        × (buffer .0 < length (now free)) ⌝ }
+    ensures { λ r. ⌜ r ≡ usedTest control (now (pool .entry)) (now (free .entry)) w (buffer .0) ⌝ }
 {
     if !word_ok(w) {
         return false;
     }
-    if !is_off(link_at(free, i)) {
+    if !is_off(link_of(free, buffer)) {
         return false;
     }
     if !is_dirty(w) {
         return true;
     }
-    position_at(pool, i * control.size) <= control.inserted
+    page_position(pool, control.size, buffer) <= control.inserted
 }
 
 // The row of a file, by a guess that need not be right.
@@ -106,24 +114,24 @@ fn held_ok(
     rows: &[u32],
     hashes: &[u32; 64],
     guesses: &[u32; 64],
-    i: usize,
+    buffer: BufferNumber,
 ) -> bool
-    requires { ⌜ (0 < length (now heads)) × (length (now names) ≡ nameWords * length (now chain)) × (i < length (now chain))
+    requires { ⌜ (0 < length (now heads)) × (length (now names) ≡ nameWords * length (now chain)) × (buffer .0 < length (now chain))
         × (soundRows (now rows) ≡ true)
         × Hashed (now rows) (now hashes) ⌝ }
-    ensures { λ r. ⌜ r ≡ heldTest (now (names .entry)) (now (heads .entry)) (now (chain .entry)) (now (rows .entry)) i ⌝ }
+    ensures { λ r. ⌜ r ≡ heldTest (now (names .entry)) (now (heads .entry)) (now (chain .entry)) (now (rows .entry)) (buffer .0) ⌝ }
 {
-    let name = stored(names, BufferNumber(i));
+    let name = stored(names, buffer);
     let file = name.file;
     let block = name.block;
     let Row::At(row) = row_near(rows, guesses[slot_of(file)], file) else {
         return false;
     };
-    if block.0 >= blocks_at(rows, row) {
+    if !has_block(rows, row, block) {
         return false;
     }
     let b = hash_block(hashes[row], block) as usize % heads.len();
-    is_first(chain, names, link_at(heads, b), BufferNumber(i))
+    is_first(chain, names, link_at(heads, b), buffer)
 }
 
 // Looks at every buffer, and counts those in use.
@@ -155,14 +163,14 @@ pub fn buffers_ok(
     while i < states.len() {
         let w = states[i];
         if is_empty(w) {
-            if !empty_ok(names, chain, i) {
+            if !empty_ok(names, chain, BufferNumber(i)) {
                 return Counted::Wrong;
             }
         } else {
-            if !used_ok(control, pool, free, w, i) {
+            if !used_ok(control, pool, free, w, BufferNumber(i)) {
                 return Counted::Wrong;
             }
-            if !held_ok(names, heads, chain, rows, hashes, guesses, i) {
+            if !held_ok(names, heads, chain, rows, hashes, guesses, BufferNumber(i)) {
                 return Counted::Wrong;
             }
             used += 1;

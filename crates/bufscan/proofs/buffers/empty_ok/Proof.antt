@@ -20,19 +20,19 @@ holds-requires c κs = search needs
 -- what the test of the name said
 named : (c : tie.After-holds)
     → let a = c .before .before .before .args in
-    sameName (nameAt (now (a .names)) (a .i)) noName ≡ c .holds .result
+    sameName (nameAt (now (a .names)) (a .buffer .0)) noName ≡ c .holds .result
 named c =
     let a = c .before .before .before .args in
-    sym (c .holds .ensures ∙ ap (sameName (nameAt (now (a .names)) (a .i))) (c .before .no-name .ensures))
+    sym (c .holds .ensures ∙ ap (sameName (nameAt (now (a .names)) (a .buffer .0))) (c .before .no-name .ensures))
 
 returns : tie.Need-returns
 unfolding emptyTest
 returns c =
     let a = c .before .before .before .before .args in
-    ap (λ t. t && isEnd (linkAt (now (a .chain)) (a .i))) (sym (named (c .before) ∙ not-true _ (c .if1 .taken)))
+    ap (λ t. t && isEnd (linkAt (now (a .chain)) (a .buffer .0))) (sym (named (c .before) ∙ not-true _ (c .if1 .taken)))
 
-link-at-requires : tie.Need-link-at-requires
-link-at-requires c κs = search needs
+link-of-requires : tie.Need-link-of-requires
+link-of-requires c κs = search needs
 
 is-end-requires : tie.Need-is-end-requires
 is-end-requires c κs = search needs
@@ -41,8 +41,8 @@ returns-2 : tie.Need-returns-2
 unfolding emptyTest
 returns-2 c =
     and-last (named (c .before .before .before) ∙ not-false _ (c .before .before .if1 .left))
-    (c .is-end .ensures ∙ ap isEnd (c .before .link-at .ensures))
+    (c .is-end .ensures ∙ ap isEnd (c .before .link-of .ensures))
 
 pub empty-ok-spec : {M : Type 1} → statement M
 empty-ok-spec =
-    tie.close (tie.spec no-name-requires holds-requires returns link-at-requires is-end-requires returns-2)
+    tie.close (tie.spec no-name-requires holds-requires returns link-of-requires is-end-requires returns-2)

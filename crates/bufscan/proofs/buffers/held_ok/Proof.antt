@@ -1,4 +1,5 @@
 use borrow.Author.Needs.{needs}
+use borrow.Author.Tests.{ltb-true, ltb-false, not-true, not-false}
 use native.Mathlib.Nat.{mod-lt}
 use native.Mathlib.Omega.{arith}
 use Rattle.bufrows.specs.Rows.{foundRow}
@@ -14,6 +15,7 @@ use Rattle.buftag.specs.Link.{linkAt}
 use Rattle.buftag.specs.Names.{nameAt}
 use Rattle.laws.specs.First.{Found, found}
 use Prim.Native.Nat.{ℕ, _<_}
+use lib.Dec.{ltb}
 use lib.ListN.{length, getD}
 use mathlib.Core.Path.{_≡_, ap, sym, _∙_}
 use denote.Ref.{now}
@@ -53,7 +55,7 @@ looked c = c .before .before
 
 -- the row of the buffer's file is the one looked for
 abbrev its-row : tie.Start → Found
-its-row s = let a = s .args in rowOf (now (a .rows)) (nameAt (now (a .names)) (a .i) .file)
+its-row s = let a = s .args in rowOf (now (a .rows)) (nameAt (now (a .names)) (a .buffer .0) .file)
 
 near : (c : tie.After-row-near) → its-row (entry c) ≡ foundRow (c .row-near .result)
 near c =
@@ -78,32 +80,35 @@ within c = row-found (now (entry (looked c) .args .rows)) _ (here c) .0
 few : (c : tie.After-row) → found-row c < maxFiles
 few c = let s = entry (looked c) in omega (arith, within c, rows-say (now (s .args .rows)) .holds (s .pre .3) .few)
 
-blocks-at-requires : tie.Need-blocks-at-requires
+has-block-requires : tie.Need-has-block-requires
 unfolding files
-blocks-at-requires c κs = omega (arith, within (c .before))
+has-block-requires c κs = omega (arith, within (c .before))
 
--- the numbers that the code compares
+-- what the look at the file's blocks said
 abbrev block-of : tie.Start → ℕ
-block-of s = nameAt (now (s .args .names)) (s .args .i) .block .0
+block-of s = nameAt (now (s .args .names)) (s .args .buffer .0) .block .0
 
-counts : (c : tie.After-blocks-at)
-    → let r = c .before .before in
-    (c .blocks-at .result ≡ blocksAt (now (entry (looked r) .args .rows)) (found-row r))
-    × (named (looked r) .stored .result .block .0 ≡ block-of (entry (looked r)))
-counts c = (c .blocks-at .ensures, ap (λ n. n .block .0) (named (looked (c .before .before)) .stored .ensures))
+abbrev blocks-of : tie.After-row → ℕ
+blocks-of r = blocksAt (now (entry (looked r) .args .rows)) (found-row r)
+
+has : (c : tie.After-has-block)
+    → let r = c .before .before in ltb (block-of (entry (looked r))) (blocks-of r) ≡ c .has-block .result
+has c =
+    let r = c .before .before in
+    sym (c .has-block .ensures ∙ ap (λ n. ltb (n .block .0) (blocks-of r)) (named (looked r) .stored .ensures))
 
 returns-2 : tie.Need-returns-2
-returns-2 c = held-behind _ _ _ _ _ (here (c .before .before .before .before)) (omega (arith, counts (c .before .before), c .if1 .taken))
+returns-2 c =
+    held-behind _ _ _ _ _ (here (c .before .before .before)) (ltb-false _ _ (has (c .before) ∙ not-true _ (c .if1 .taken)))
 
-below : (c : tie.Else1)
-    → let r = c .before .before .before .before in block-of (entry (looked r)) < blocksAt (now (entry (looked r) .args .rows)) (found-row r)
-below c = omega (arith, counts (c .before .before), c .if1 .left)
+below : (c : tie.Else1) → let r = c .before .before .before in block-of (entry (looked r)) < blocks-of r
+below c = ltb-true _ _ (has (c .before) ∙ not-false _ (c .if1 .left))
 
 mul-hash-block : tie.Need-mul-hash-block
-mul-hash-block c = omega (arith, few (c .before .before .before .before))
+mul-hash-block c = omega (arith, few (c .before .before .before))
 
 element-copy-out-hash-block : tie.Need-element-copy-out-hash-block
-element-copy-out-hash-block c = few (c .before .before .before .before)
+element-copy-out-hash-block c = few (c .before .before .before)
 
 hash-block-requires : tie.Need-hash-block-requires
 hash-block-requires c κs = search needs
@@ -115,29 +120,29 @@ rem-b : tie.Need-rem-b
 rem-b c = search needs
 
 link-at-requires : tie.Need-link-at-requires
-link-at-requires c κs = let s = entry (c .before .before .before .before .before .before .before .before) in mod-lt _ (s .pre .0)
+link-at-requires c κs = let s = entry (c .before .before .before .before .before .before .before) in mod-lt _ (s .pre .0)
 
 is-first-requires : tie.Need-is-first-requires
 is-first-requires c κs = search needs
 
 abbrev its : tie.After-is-first → tie.After-row
-its c = c .before .before .before .before .before .before .before .before
+its c = c .before .before .before .before .before .before .before
 
 -- the chain walked is that of the name's bucket
 finds : (c : tie.After-is-first)
     → let a = entry (looked (its c)) .args in
-    findsItself (now (a .names)) (now (a .heads)) (now (a .chain)) (a .i) ≡ c .is-first .result
+    findsItself (now (a .names)) (now (a .heads)) (now (a .chain)) (a .buffer .0) ≡ c .is-first .result
 unfolding findsItself
 finds c =
     let r = its c in
     let s = entry (looked r) in
     let a = s .args in
-    let n = nameAt (now (a .names)) (a .i) in
+    let n = nameAt (now (a .names)) (a .buffer .0) in
     let start = getD (now (a .hashes)) (found-row r) 0 in
     let hash = c .before .before .hash-block .ensures ∙ ap (λ m. fnv (wordBytes (m .block .0)) start) (named (looked r) .stored .ensures) in
     let bucket = bucket-continued (now (a .rows)) (now (a .hashes)) (s .pre .4) n (here r) hash (length (now (a .heads))) in
     let first = c .before .link-at .ensures ∙ ap (linkAt (now (a .heads))) bucket in
-    sym (c .is-first .ensures ∙ ap (λ l. isFirst (now (a .chain)) (now (a .names)) l (a .i)) first)
+    sym (c .is-first .ensures ∙ ap (λ l. isFirst (now (a .chain)) (now (a .names)) l (a .buffer .0)) first)
 
 returns-3 : tie.Need-returns-3
 returns-3 c = held-page _ _ _ _ _ (here (its c)) (below (c .before .before .before .before)) (finds c)
@@ -154,7 +159,7 @@ held-ok-spec =
     enum-known-row
     enum-told
     returns
-    blocks-at-requires
+    has-block-requires
     returns-2
     mul-hash-block
     element-copy-out-hash-block

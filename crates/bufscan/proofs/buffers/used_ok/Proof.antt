@@ -1,7 +1,6 @@
 use borrow.Author.Needs.{needs}
 use borrow.Author.Tests.{not-true, not-false}
 use Rattle.bufscan.specs.Buffers.{usedTest}
-use Rattle.bufposition.proofs.PositionLaws.{position-block}
 use Rattle.bufmodel.specs.Books.{isOff}
 use Rattle.bufmodel.specs.Word.{soundWord}
 use Rattle.buftag.specs.Link.{linkAt}
@@ -19,8 +18,8 @@ returns : tie.Need-returns
 unfolding usedTest
 returns c = rw (sym (c .before .word-ok .ensures) ∙ not-true _ (c .if1 .taken))
 
-link-at-requires : tie.Need-link-at-requires
-link-at-requires c κs = search needs
+link-of-requires : tie.Need-link-of-requires
+link-of-requires c κs = search needs
 
 is-off-requires : tie.Need-is-off-requires
 is-off-requires c κs = search needs
@@ -30,8 +29,8 @@ sound : (c : tie.Else1) → soundWord (c .before .before .before .args .w) ≡ t
 sound c = sym (c .before .word-ok .ensures) ∙ not-false _ (c .if1 .left)
 
 off : (c : tie.After-is-off)
-    → let a = c .before .before .before .before .before .args in isOff (linkAt (now (a .free)) (a .i)) ≡ c .is-off .result
-off c = sym (c .is-off .ensures ∙ ap isOff (c .before .link-at .ensures))
+    → let a = c .before .before .before .before .before .args in isOff (linkAt (now (a .free)) (a .buffer .0)) ≡ c .is-off .result
+off c = sym (c .is-off .ensures ∙ ap isOff (c .before .link-of .ensures))
 
 returns-2 : tie.Need-returns-2
 unfolding usedTest
@@ -49,24 +48,19 @@ returns-3 c =
       sym (c .before .is-dirty .ensures) ∙ not-true _ (c .if3 .taken),
     )
 
-mul-position-at : tie.Need-mul-position-at
-mul-position-at c = search needs
-
-position-at-requires : tie.Need-position-at-requires
-position-at-requires c κs = search needs
+page-position-requires : tie.Need-page-position-requires
+page-position-requires c κs = search needs
 
 returns-4 : tie.Need-returns-4
 unfolding usedTest
 returns-4 c =
-    let s = c .before .before .before .before .before .before .before .before .before .before .before in
-    let a = s .args in
-    let here = position-block (a .control .size) (a .i) (now (a .pool)) (s .pre .0) in
+    let a = c .before .before .before .before .before .before .before .before .before .before .args in
     rw (
-      sound (c .before .before .before .before .before .before .before .before),
-      off (c .before .before .before .before .before .before) ∙ not-false _ (c .before .before .before .before .before .if2 .left),
-      sym (c .before .before .before .before .is-dirty .ensures) ∙ not-false _ (c .before .before .before .if3 .left),
+      sound (c .before .before .before .before .before .before .before),
+      off (c .before .before .before .before .before) ∙ not-false _ (c .before .before .before .before .if2 .left),
+      sym (c .before .before .before .is-dirty .ensures) ∙ not-false _ (c .before .before .if3 .left),
     )
-    (ap (λ p. leb p (a .control .inserted)) (c .before .position-at .ensures ∙ here))
+    (ap (λ p. leb p (a .control .inserted)) (c .before .page-position .ensures))
 
 pub used-ok-spec : {M : Type 1} → statement M
 used-ok-spec =
@@ -74,11 +68,10 @@ used-ok-spec =
     (tie.spec
     word-ok-requires
     returns
-    link-at-requires
+    link-of-requires
     is-off-requires
     returns-2
     is-dirty-requires
     returns-3
-    mul-position-at
-    position-at-requires
+    page-position-requires
     returns-4)
