@@ -3,6 +3,7 @@
 
 ghost use mathlib.Core.Path.{_≡_};
 ghost use Prim.Native.Nat.{_*_, _<_};
+ghost use lib.Dec.{eqb};
 ghost use lib.ListN.{length};
 ghost use Rattle.laws.specs.Every.{all};
 ghost use Rattle.laws.specs.Sum.{count};
@@ -46,6 +47,12 @@ pub fn count_used(words: &[u32]) -> usize
     n
 }
 
+fn same_buffer(a: BufferNumber, b: BufferNumber) -> bool
+    ensures { λ r. ⌜ r ≡ eqb (a .0) (b .0) ⌝ }
+{
+    a.0 == b.0
+}
+
 // Whether a buffer is the first with its name in the chain that starts at `first`.
 pub fn is_first(chain: &[i32], names: &[u32], first: Link, buffer: BufferNumber) -> bool
     requires { ⌜ (length (now names) ≡ nameWords * length (now chain)) × (buffer .0 < length (now chain)) ⌝ }
@@ -55,7 +62,7 @@ pub fn is_first(chain: &[i32], names: &[u32], first: Link, buffer: BufferNumber)
     let Held::At(found) = find_from(chain, names, name, first) else {
         return false;
     };
-    found.0 == buffer.0
+    same_buffer(found, buffer)
 }
 
 // Whether a buffer in use is found under its name, or an empty one has chain link -1.

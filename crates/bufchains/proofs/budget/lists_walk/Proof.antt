@@ -1,4 +1,3 @@
-use denote.Ref.{now}
 use borrow.Author.Needs.{needs}
 use Rattle.bufchains.proofs.BudgetLaws.{spend-ends, spendAll-none, spendAll-more, spendAll-wrong, spendAll-done}
 use Rattle.bufchains.specs.Budget.{spend, spendAll}

@@ -35,12 +35,15 @@ returns c =
     let f = c .before .before in
     ap (isAt (f .before .before .before .args .buffer .0)) (sym (c .enum-told .given .1)) ∙ answer f
 
+same-buffer-requires : tie.Need-same-buffer-requires
+same-buffer-requires c κs = search needs
+
 returns-2 : tie.Need-returns-2
 returns-2 c =
-    let f = c .before .before .before .before .before in
-    ap (isAt (f .before .before .before .args .buffer .0)) (sym (c .before .before .before .found .given .1)) ∙ answer f
+    let f = c .before .before .before .before in
+    c .same-buffer .ensures ∙ ap (isAt (f .before .before .before .args .buffer .0)) (sym (c .before .before .found .given .1)) ∙ answer f
 
 pub is-first-spec : {M : Type 1} → statement M
 is-first-spec =
     tie.close
-    (tie.spec stored-requires find-from-requires enum-known-found enum-told returns returns-2)
+    (tie.spec stored-requires find-from-requires enum-known-found enum-told returns same-buffer-requires returns-2)
