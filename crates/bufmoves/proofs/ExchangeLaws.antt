@@ -14,16 +14,13 @@ use Rattle.bufmodel.specs.declared.control.Control.{Control}
 use Rattle.bufmodel.specs.Word.{loaded}
 use Rattle.bufmodel.specs.Memory.{Memory, memory}
 use Rattle.bufmodel.specs.Moves.{off, release, loadAt}
-
--- the control record with another top
-abbrev withTop : Control → ℤ → Control
-withTop c t = record { size = c .size; hand = c .hand; top = t; inserted = c .inserted; flushed = c .flushed }
+use Rattle.bufmoves.specs.Free.{topped}
 
 module _ (c : Control) (states names pool : List ℕ) (free heads chain : List ℤ) (store : List ℕ) (i : ℕ) where
   pub released : {own top : ℤ} {names′ : List ℕ} {heads′ chain′ : List ℤ} → own ≡ pos i → top ≡ c .top → names′ ≡ setName names i noName
       → heads′ ≡ unchainHeads heads chain i
       → chain′ ≡ unchainChain chain i
-      → memory (withTop c own) (set states i 0) names′ [] (set free i top) heads′ chain′ [] []
+      → memory (topped c own) (set states i 0) names′ [] (set free i top) heads′ chain′ [] []
       ≡ release (memory c states names [] free heads chain [] []) i
   unfolding release
   released o t n h l = rw (o, t, n, h, l)
@@ -34,7 +31,7 @@ module _ (c : Control) (states names pool : List ℕ) (free heads chain : List �
       → pool′ ≡ putBlock (c .size) i (block (c .size) g store) pool
       → heads′ ≡ enterHeads heads (bucketOf n (length heads)) i
       → chain′ ≡ enterChain heads chain (bucketOf n (length heads)) i
-      → memory (withTop c top) (set states i w) names′ pool′ (set free i off) heads′ chain′ [] store
+      → memory (topped c top) (set states i w) names′ pool′ (set free i off) heads′ chain′ [] store
       ≡ loadAt (memory c states names pool free heads chain [] store) n i g
   unfolding loadAt
   loaded-in n g t w m p h l = rw (t, w, m, p, h, l)
