@@ -17,21 +17,24 @@ use Rattle.bufmodel.specs.Moves.{off, release, loadAt}
 use Rattle.bufmoves.specs.Free.{topped}
 
 module _ (c : Control) (states names pool : List ℕ) (free heads chain : List ℤ) (store : List ℕ) (i : ℕ) where
-  pub released : {own top : ℤ} {names′ : List ℕ} {heads′ chain′ : List ℤ} → own ≡ pos i → top ≡ c .top → names′ ≡ setName names i noName
+  pub released : {c′ : Control} {states′ names′ : List ℕ} {free′ heads′ chain′ : List ℤ} → c′ ≡ topped c (pos i) → states′ ≡ set states i 0
+      → names′ ≡ setName names i noName
+      → free′ ≡ set free i (c .top)
       → heads′ ≡ unchainHeads heads chain i
       → chain′ ≡ unchainChain chain i
-      → memory (topped c own) (set states i 0) names′ [] (set free i top) heads′ chain′ [] []
-      ≡ release (memory c states names [] free heads chain [] []) i
+      → memory c′ states′ names′ [] free′ heads′ chain′ [] [] ≡ release (memory c states names [] free heads chain [] []) i
   unfolding release
-  released o t n h l = rw (o, t, n, h, l)
+  released t s n f h l = rw (t, s, n, f, h, l)
 
-  pub loaded-in : (n : PageName) (g : ℕ) {top : ℤ} {w : ℕ} {names′ pool′ : List ℕ} {heads′ chain′ : List ℤ} → top ≡ numberAt free i
-      → w ≡ loaded
+  pub loaded-in : (n : PageName) (g : ℕ) {c′ : Control} {states′ names′ pool′ : List ℕ} {free′ heads′ chain′ : List ℤ}
+      → c′ ≡ topped c (numberAt free i)
+      → states′ ≡ set states i loaded
       → names′ ≡ setName names i n
       → pool′ ≡ putBlock (c .size) i (block (c .size) g store) pool
+      → free′ ≡ set free i off
       → heads′ ≡ enterHeads heads (bucketOf n (length heads)) i
       → chain′ ≡ enterChain heads chain (bucketOf n (length heads)) i
-      → memory (topped c top) (set states i w) names′ pool′ (set free i off) heads′ chain′ [] store
+      → memory c′ states′ names′ pool′ free′ heads′ chain′ [] store
       ≡ loadAt (memory c states names pool free heads chain [] store) n i g
   unfolding loadAt
-  loaded-in n g t w m p h l = rw (t, w, m, p, h, l)
+  loaded-in n g t s m p f h l = rw (t, s, m, p, f, h, l)

@@ -5,16 +5,18 @@ ghost use mathlib.Core.List.{[]};
 ghost use Rattle.bufmodel.specs.Memory.{memory};
 ghost use Rattle.bufmodel.specs.Moves.{release, loadAt};
 ghost use Rattle.bufmoves.specs.Exchange.{Chained, Lodged};
-use bufblock::block::copy_block;
+use crate::free::pop_free;
+use crate::free::push_free;
 use bufmodel::control::Control;
+use bufpage::page::page_from_store;
 use buftag::chain::insert;
 use buftag::chain::remove;
-use buftag::link::OFF;
 use buftag::name::PageName;
 use buftag::names::no_name;
 use buftag::names::put_name;
 use buftag::names::stored;
 use buftag::number::BufferNumber;
+use bufword::state::put_state;
 use bufword::word::loaded_word;
 
 // A buffer gives up its page: it leaves its chain, has a name of zeros and word 0, and is put on top of the free list.
@@ -34,16 +36,11 @@ pub fn release_buffer(
         (memory control (now (states .entry)) (now (names .entry)) [] (now (free .entry)) (now (heads .entry)) (now (chain .entry)) []
         []) (buffer .0) ⌝ }
 {
-    let i = buffer.0;
     let name = stored(names, buffer);
     remove(heads, chain, name, buffer);
     put_name(names, buffer, no_name());
-    states[i] = 0;
-    let top = control.top;
-    free[i] = top;
-    let mut after = control;
-    after.top = i as i32;
-    after
+    put_state(states, buffer, 0);
+    push_free(control, free, buffer)
 }
 
 // The page `name`, at place `g` of the store, comes into a buffer, the top of the free list.
@@ -69,14 +66,10 @@ pub fn load_page(
         (memory control (now (states .entry)) (now (names .entry)) (now (pool .entry)) (now (free .entry)) (now (heads .entry))
         (now (chain .entry)) [] (now (store .entry))) name (buffer .0) g ⌝ }
 {
-    let i = buffer.0;
-    let next = free[i];
-    free[i] = OFF;
+    let after = pop_free(control, free, buffer);
     put_name(names, buffer, name);
     insert(heads, chain, name, buffer);
-    copy_block(pool, i, store, g, control.size);
-    states[i] = loaded_word();
-    let mut after = control;
-    after.top = next;
+    page_from_store(pool, buffer, store, g, control.size);
+    put_state(states, buffer, loaded_word());
     after
 }

@@ -1,21 +1,13 @@
 use borrow.Author.Needs.{needs}
 use denote.Ref.{now}
-use Rattle.buftag.proofs.SignedLaws.{element-back}
+use mathlib.Core.Path.{_∙_, ap}
+use lib.ListN.{set}
 use Rattle.bufmoves.proofs.ExchangeLaws.{loaded-in}
 use Rattle.bufmoves.proofs.exchange.load_page.Statement.{statement}
 use Rattle.bufmoves.proofs.exchange.load_page.Tie as tie
 
-mul-next : tie.Need-mul-next
-mul-next c = search needs
-
-slice-copy-out-next : tie.Need-slice-copy-out-next
-slice-copy-out-next c = search needs
-
-mul-free : tie.Need-mul-free
-mul-free c = search needs
-
-slice-set-of-free : tie.Need-slice-set-of-free
-slice-set-of-free c = search needs
+pop-free-requires : tie.Need-pop-free-requires
+pop-free-requires c κs = search needs
 
 put-name-requires : tie.Need-put-name-requires
 put-name-requires c κs = search needs
@@ -23,17 +15,14 @@ put-name-requires c κs = search needs
 insert-requires : tie.Need-insert-requires
 insert-requires c κs = search needs
 
-copy-block-requires : tie.Need-copy-block-requires
-copy-block-requires c κs = search needs
+page-from-store-requires : tie.Need-page-from-store-requires
+page-from-store-requires c κs = search needs
 
 loaded-word-requires : tie.Need-loaded-word-requires
 loaded-word-requires c κs = search needs
 
-mul-states : tie.Need-mul-states
-mul-states c = search needs
-
-slice-write-states : tie.Need-slice-write-states
-slice-write-states c = search needs
+put-state-requires : tie.Need-put-state-requires
+put-state-requires c κs = search needs
 
 same-length : tie.Need-same-length
 same-length c = search needs
@@ -55,33 +44,33 @@ same-length-6 c = search needs
 
 returns : tie.Need-returns
 returns c =
-    let i = c .before .before .before .before .before .before .before in
-    let p = i .before .before .before .before .before in
-    let n = p .before .before in
-    let a = n .before .before .before .before .before .args in
+    let w = c .before .before in
+    let b = w .before .before .before .before .before in
+    let e = b .before .before .before .before in
+    let p = e .before .before .before .before .before in
+    let f = p .before .before .before in
+    let a = f .before .before .before .before .before .before .args in
+    let i = a .buffer .0 in
     loaded-in (a .control) (now (a .states)) (now (a .names)) (now (a .pool)) (now (a .free)) (now (a .heads)) (now (a .chain))
-    (now (a .store)) (a .buffer .0) (a .name) (a .g)
-    (element-back (now (a .free)) (a .buffer .0) (n .next .given))
-    (c .loaded-word .ensures)
+    (now (a .store)) i (a .name) (a .g)
+    (f .pop-free .ensures .0)
+    (w .put-state .ensures ∙ ap (set (now (a .states)) i) (w .before .loaded-word .ensures))
     (p .put-name .ensures)
-    (c .before .before .before .copy-block .ensures)
-    (i .insert .ensures .0)
-    (i .insert .ensures .1)
+    (b .page-from-store .ensures)
+    (f .pop-free .ensures .1)
+    (e .insert .ensures .0)
+    (e .insert .ensures .1)
 
 pub load-page-spec : {M : Type 1} → statement M
 load-page-spec =
     tie.close
     (tie.spec
-    mul-next
-    slice-copy-out-next
-    mul-free
-    slice-set-of-free
+    pop-free-requires
     put-name-requires
     insert-requires
-    copy-block-requires
+    page-from-store-requires
     loaded-word-requires
-    mul-states
-    slice-write-states
+    put-state-requires
     same-length
     same-length-2
     same-length-3

@@ -6,8 +6,7 @@ use lib.ListN.{length}
 use Rattle.buftag.specs.Name.{bucketOf}
 use Rattle.buftag.specs.Names.{setName}
 use Rattle.buftag.specs.Chain.{pastHeads, leaveChain}
-use mathlib.Core.Path.{_≡_, _∙_, ap}
-use Rattle.buftag.proofs.SignedLaws.{bits-back, index-back}
+use mathlib.Core.Path.{_∙_, ap}
 use Rattle.buftag.proofs.LeaveLaws.{leave-is}
 use Rattle.bufmoves.proofs.ExchangeLaws.{released}
 use Rattle.bufmoves.proofs.exchange.release_buffer.Statement.{statement}
@@ -25,20 +24,11 @@ no-name-requires c κs = search needs
 put-name-requires : tie.Need-put-name-requires
 put-name-requires c κs = search needs
 
-mul-states : tie.Need-mul-states
-mul-states c = search needs
+put-state-requires : tie.Need-put-state-requires
+put-state-requires c κs = search needs
 
-slice-write-states : tie.Need-slice-write-states
-slice-write-states c = search needs
-
-mul-top : tie.Need-mul-top
-mul-top c = search needs
-
-slice-set-from-top : tie.Need-slice-set-from-top
-slice-set-from-top c = search needs
-
-cast-after : tie.Need-cast-after
-cast-after c = search needs
+push-free-requires : tie.Need-push-free-requires
+push-free-requires c κs = search needs
 
 same-length : tie.Need-same-length
 same-length c = search needs
@@ -57,23 +47,26 @@ same-length-5 c = search needs
 
 returns : tie.Need-returns
 returns c =
-    let p = c .before .before .before in
+    let f = c .before in
+    let w = f .before .before .before .before in
+    let p = w .before .before .before .before in
     let r = p .before .before .before .before .before in
     let n = r .before .before .before in
     let s = n .before .before .before .before in
     let a = s .args in
-    let w = s .pre .within in
+    let i = a .buffer .0 in
     let h = now (a .heads) in
     let l = now (a .chain) in
+    let m = s .pre .within in
     let leaves =
-    leave-is (now (a .states)) (now (a .names)) h l (a .buffer .0) (omega (arith, w .one, w .chain)) (w .buckets)
-    (s .pre .sound) (s .pre .used) in
-    released (a .control) (now (a .states)) (now (a .names)) [] (now (a .free)) (now (a .heads)) (now (a .chain)) [] (a .buffer .0)
-    (index-back (a .buffer .0) (omega (arith, w .one, w .few)))
-    (bits-back (a .control .top) (record { sfits = c .struct-told .given .1 .1 .0 .1 }))
-    (p .put-name .ensures ∙ ap (setName (now (a .names)) (a .buffer .0)) (p .before .no-name .ensures))
-    (r .remove .ensures .0 ∙ ap (λ x. pastHeads h l (bucketOf x (length h)) (a .buffer .0)) (n .stored .ensures) ∙ leaves .0)
-    (r .remove .ensures .1 ∙ ap (λ x. leaveChain h l (bucketOf x (length h)) (a .buffer .0)) (n .stored .ensures) ∙ leaves .1)
+    leave-is (now (a .states)) (now (a .names)) h l i (omega (arith, m .one, m .chain)) (m .buckets) (s .pre .sound) (s .pre .used) in
+    released (a .control) (now (a .states)) (now (a .names)) [] (now (a .free)) h l [] i
+    (f .push-free .ensures .0)
+    (w .put-state .ensures)
+    (p .put-name .ensures ∙ ap (setName (now (a .names)) i) (p .before .no-name .ensures))
+    (f .push-free .ensures .1)
+    (r .remove .ensures .0 ∙ ap (λ x. pastHeads h l (bucketOf x (length h)) i) (n .stored .ensures) ∙ leaves .0)
+    (r .remove .ensures .1 ∙ ap (λ x. leaveChain h l (bucketOf x (length h)) i) (n .stored .ensures) ∙ leaves .1)
 
 pub release-buffer-spec : {M : Type 1} → statement M
 release-buffer-spec =
@@ -83,11 +76,8 @@ release-buffer-spec =
     remove-requires
     no-name-requires
     put-name-requires
-    mul-states
-    slice-write-states
-    mul-top
-    slice-set-from-top
-    cast-after
+    put-state-requires
+    push-free-requires
     same-length
     same-length-2
     same-length-3
