@@ -1,4 +1,4 @@
-// What moves pages and buffers: the clock sweep, write-back, release and load.
+// What moves pages between buffers: release and load, and the free list that both change.
 
 pub mod exchange;
 pub mod free;

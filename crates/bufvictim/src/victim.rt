@@ -29,6 +29,7 @@ use bufsweep::sweep::Victim;
 use bufsweep::sweep::sweep;
 use buftag::name::PageName;
 use buftag::number::BufferNumber;
+use bufword::state::state_of;
 use bufword::word::is_dirty;
 
 // The victim of a sweep is written back if it is dirty, gives up its page, and the page `name`, at place `g` of the store, is loaded.
@@ -64,8 +65,7 @@ fn pin_victim(
         (memory control (now (states .entry)) (now (names .entry)) (now (pool .entry)) (now (free .entry)) (now (heads .entry))
         (now (chain .entry)) (now (rows .entry)) (now (store .entry))) (victim .0)) (victim .0)) name ⌝ }
 {
-    let i = victim.0;
-    let wrote = is_dirty(states[i]);
+    let wrote = is_dirty(state_of(states, victim));
     let written = write_back(control, states, names, pool, rows, store, victim);
     let freed = release_buffer(written, states, names, free, heads, chain, victim);
     let after = load_page(

@@ -1,7 +1,8 @@
 use borrow.Author.Needs.{needs}
 use denote.Ref.{now}
 use native.Mathlib.Omega.{arith}
-use mathlib.Core.Path.{ap}
+use mathlib.Core.Path.{_∙_, ap}
+use Rattle.bufmodel.specs.Word.{dirty}
 use Rattle.bufmodel.specs.Memory.{Memory, memory}
 use Rattle.bufmodel.specs.Books.{emptyAt}
 use Rattle.bufmodel.proofs.GoodLaws.{good-of}
@@ -21,25 +22,22 @@ taken : (c : tie.Start) → Taken (whole c) (c .args .victim .0)
 unfolding emptyAt
 taken c = record { good = good-of (whole c) (c .pre .0) (c .pre .1); below = c .pre .2; full = c .pre .3 }
 
-mul-is-dirty : tie.Need-mul-is-dirty
-mul-is-dirty c = search needs
-
-slice-read-is-dirty : tie.Need-slice-read-is-dirty
-slice-read-is-dirty c = search needs
+state-of-requires : tie.Need-state-of-requires
+state-of-requires c κs = search needs
 
 is-dirty-requires : tie.Need-is-dirty-requires
 is-dirty-requires c κs = search needs
 
 write-back-requires : tie.Need-write-back-requires
 write-back-requires c κs =
-    let s = c .before .before .before .before .before .before .before .before .before .before .before in
+    let s = c .before .before .before .before .before .before .before .before .before .before .before .before in
     let t = taken s in
     (good-backed (whole s) (t .good) (s .args .victim .0) (t .below), t .below)
 
 release-buffer-requires : tie.Need-release-buffer-requires
 release-buffer-requires c κs =
     let at-write-back = c .before .before .before .before .before .before .before .before .before in
-    let s = at-write-back .before .before .before .before .before .before .before .before .before .before .before .before in
+    let s = at-write-back .before .before .before .before .before .before .before .before .before .before .before .before .before in
     let i = s .args .victim .0 in
     let e = back-whole (whole s) i _ _ _ (at-write-back .write-back .ensures) in
     let t = back-taken (whole s) i (taken s) e in
@@ -50,7 +48,7 @@ load-page-requires c κs =
     let at-release-buffer = c .before .before .before .before .before .before .before .before .before .before .before
     .before .before .before in
     let at-write-back = at-release-buffer .before .before .before .before .before .before .before .before .before .before in
-    let s = at-write-back .before .before .before .before .before .before .before .before .before .before .before .before in
+    let s = at-write-back .before .before .before .before .before .before .before .before .before .before .before .before .before in
     let i = s .args .victim .0 in
     let e = back-whole (whole s) i _ _ _ (at-write-back .write-back .ensures) in
     let t = back-taken (whole s) i (taken s) e in
@@ -95,12 +93,12 @@ returns c =
     .before .before .before .before .before in
     let at-write-back = at-release-buffer .before .before .before .before .before .before .before .before .before .before in
     let at-is-dirty = at-write-back .before .before .before .before .before in
-    let s = at-is-dirty .before .before .before .before .before .before .before in
+    let s = at-is-dirty .before .before .before .before .before .before .before .before in
     let i = s .args .victim .0 in
     let e = back-whole (whole s) i _ _ _ (at-write-back .write-back .ensures) in
     let f = release-whole _ i _ _ _ _ _ _ (at-release-buffer .release-buffer .ensures) in
     let h = load-whole _ i _ _ (s .args .name) (s .args .g) _ _ _ _ _ (at-load-page .load-page .ensures) in (
-      ap (λ t. loadedAt i t (s .args .probes)) (at-is-dirty .is-dirty .ensures),
+      ap (λ t. loadedAt i t (s .args .probes)) (at-is-dirty .is-dirty .ensures ∙ ap dirty (at-is-dirty .before .state-of .ensures)),
       load-taken (whole s) (s .args .name) i (s .args .g) (s .pre .4) e f h,
     )
 
@@ -108,8 +106,7 @@ pub pin-victim-spec : {M : Type 1} → statement M
 pin-victim-spec =
     tie.close
     (tie.spec
-    mul-is-dirty
-    slice-read-is-dirty
+    state-of-requires
     is-dirty-requires
     write-back-requires
     release-buffer-requires
