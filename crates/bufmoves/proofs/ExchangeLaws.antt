@@ -12,7 +12,7 @@ use Rattle.buftag.specs.Link.{numberAt}
 use Rattle.buftag.specs.Chain.{enterHeads, enterChain, unchainHeads, unchainChain}
 use Rattle.bufmodel.specs.declared.control.Control.{Control}
 use Rattle.bufmodel.specs.Word.{loaded}
-use Rattle.bufmodel.specs.Memory.{Memory, memory}
+use Rattle.bufmodel.specs.Memory.{memory}
 use Rattle.bufmodel.specs.Moves.{off, release, loadAt}
 use Rattle.bufmoves.specs.Free.{topped}
 

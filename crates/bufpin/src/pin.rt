@@ -30,6 +30,8 @@ use buftag::number::BufferNumber;
 use bufvictim::ends::PinEnd;
 use bufvictim::ends::refused;
 use bufvictim::victim::pin_swept;
+use bufword::state::put_state;
+use bufword::state::state_of;
 use bufword::word::MAX_PINS;
 use bufword::word::pin_more;
 use bufword::word::pins_of;
@@ -116,12 +118,11 @@ fn pin_held(control: Control, states: &mut [u32], buffer: BufferNumber) -> PinEn
     ensures { λ r. ⌜ r .answer ≡ heldAt (buffer .0) (getD (now (states .entry)) (buffer .0) 0) ⌝ }
     ensures { λ _. ⌜ now (states .exit) ≡ pinnedWords (now (states .entry)) (buffer .0) ⌝ }
 {
-    let i = buffer.0;
-    let w = states[i];
+    let w = state_of(states, buffer);
     if pins_of(w) == MAX_PINS {
         return refused(control, PIN_COUNT);
     }
-    states[i] = pin_more(w);
+    put_state(states, buffer, pin_more(w));
     PinEnd {
         control: control,
         answer: Pinned::At {

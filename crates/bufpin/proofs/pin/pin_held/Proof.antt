@@ -5,17 +5,14 @@ use mathlib.Core.Path.{refl, sym, _∙_, ap}
 use mathlib.Core.Logic.{_≢_}
 use lib.ListN.{getD, set}
 use borrow.Author.Tests.{eq-eqb, ne-eqb}
-use Rattle.bufmodel.specs.Word.{pins, maxPins}
+use Rattle.bufmodel.specs.Word.{pins, maxPins, pinMore}
 use Rattle.bufmodel.proofs.WordLaws.{pins-lt}
 use Rattle.bufpin.specs.Pin.{heldAt, pinnedWords}
 use Rattle.bufpin.proofs.pin.pin_held.Statement.{statement}
 use Rattle.bufpin.proofs.pin.pin_held.Tie as tie
 
-mul-w : tie.Need-mul-w
-mul-w c = search needs
-
-slice-read-w : tie.Need-slice-read-w
-slice-read-w c = search needs
+state-of-requires : tie.Need-state-of-requires
+state-of-requires c κs = search needs
 
 pins-of-requires : tie.Need-pins-of-requires
 pins-of-requires c κs = search needs
@@ -23,50 +20,57 @@ pins-of-requires c κs = search needs
 refused-requires : tie.Need-refused-requires
 refused-requires c κs = search needs
 
+same-length : tie.Need-same-length
+same-length c = search needs
+
 returns : tie.Need-returns
 unfolding heldAt pinnedWords
 returns c =
-    let i = c .before in
-    let s = i .before .before .before .before in
+    let p = c .before .before in
+    let s = p .before .before .before .before in
     let w = getD (now (s .args .states)) (s .args .buffer .0) 0 in
-    let e = eq-eqb (pins w) maxPins (sym (i .before .pins-of .ensures) ∙ i .if1 .taken) in
+    let read = p .pins-of .ensures ∙ ap pins (p .before .state-of .ensures) in
+    let e = eq-eqb (pins w) maxPins (sym read ∙ c .before .if1 .taken) in
     rw (c .refused .ensures) (refl, (rw e, rw e))
 
 pin-more-requires : tie.Need-pin-more-requires
 pin-more-requires c κs =
-    let s = c .before .before .before .before in
+    let p = c .before .before in
+    let s = p .before .before .before .before in
     let w = getD (now (s .args .states)) (s .args .buffer .0) 0 in
-    let ne : pins w ≢ maxPins = λ h. c .if1 .left (c .before .pins-of .ensures ∙ h) in
-    (s .pre .1, s .pre .2, omega (arith, pins-lt w, ne))
+    let read = p .pins-of .ensures ∙ ap pins (p .before .state-of .ensures) in
+    let ne : pins w ≢ maxPins = λ h. c .before .if1 .left (read ∙ h) in
+    rw (p .before .state-of .ensures) (s .pre .1, s .pre .2, omega (arith, pins-lt w, ne))
 
-mul-states : tie.Need-mul-states
-mul-states c = search needs
+put-state-requires : tie.Need-put-state-requires
+put-state-requires c κs = search needs
 
-slice-write-states : tie.Need-slice-write-states
-slice-write-states c = search needs
-
-same-length : tie.Need-same-length
-same-length c = search needs
+same-length-2 : tie.Need-same-length-2
+same-length-2 c = search needs
 
 returns-2 : tie.Need-returns-2
 unfolding heldAt pinnedWords
 returns-2 c =
-    let s = c .before .before .before .before .before in
-    let w = getD (now (s .args .states)) (s .args .buffer .0) 0 in
-    let e = ne-eqb (pins w) maxPins (λ h. c .before .if1 .left (c .before .before .pins-of .ensures ∙ h)) in
-    (refl, (rw e, rw e (ap (set (now (s .args .states)) (s .args .buffer .0)) (c .pin-more .ensures))))
+    let more = c .before .before .before in
+    let p = more .before .before .before in
+    let s = p .before .before .before .before in
+    let i = s .args .buffer .0 in
+    let w = getD (now (s .args .states)) i 0 in
+    let read = p .pins-of .ensures ∙ ap pins (p .before .state-of .ensures) in
+    let e = ne-eqb (pins w) maxPins (λ h. more .before .before .if1 .left (read ∙ h)) in
+    let raised = more .pin-more .ensures ∙ ap pinMore (p .before .state-of .ensures) in
+    (refl, (rw e, rw e (c .before .before .put-state .ensures ∙ ap (set (now (s .args .states)) i) raised)))
 
 pub pin-held-spec : {M : Type 1} → statement M
 pin-held-spec =
     tie.close
     (tie.spec
-    mul-w
-    slice-read-w
+    state-of-requires
     pins-of-requires
     refused-requires
+    same-length
     returns
     pin-more-requires
-    mul-states
-    slice-write-states
-    same-length
+    put-state-requires
+    same-length-2
     returns-2)
