@@ -3,7 +3,7 @@ use denote.Ref.{now}
 use lib.ListN.{length}
 use mathlib.Core.List.{List, []}
 use mathlib.Core.Logic.{⊎-elim}
-use mathlib.Core.Path.{_≡_, sym, _∙_, ap, subst}
+use mathlib.Core.Path.{_≡_, refl, sym, _∙_, ap, subst}
 use native.Mathlib.Omega.{arith}
 use Prim.Native.Nat.{ℕ, _≤_, _<_, _-_}
 use Rattle.bufmodel.specs.declared.control.Control.{Control}
@@ -95,7 +95,8 @@ loop-again c =
           same o (w .10) (w .8) (w .9) ∙ r .ensures ∙ more)
           (λ w.
           same h (w .3) (w .1) (w .2)
-          ∙ back-clean (h .control) (h .states) (h .names) (h .pool) (h .rows) (h .store) i (sym (d .is-dirty .ensures) ∙ w .0 .left)
+          ∙ back-clean (h .control) (h .states) (h .names) (h .pool) (h .rows) (h .store) i refl
+          (sym (d .is-dirty .ensures) ∙ w .0 .left)
           ∙ more)
           (c .if1 .came),
     )
