@@ -2,7 +2,7 @@
 
 ghost use mathlib.Core.Path.{_≡_};
 ghost use mathlib.Core.List.{[]};
-ghost use Rattle.bufmodel.specs.Lent.{Lent, called};
+ghost use Rattle.bufmodel.specs.Lent.{called};
 ghost use Rattle.bufbooks.specs.Lent.{check};
 use crate::lent::ANSWER_WORDS;
 use crate::lent::CONTROL_WORDS;

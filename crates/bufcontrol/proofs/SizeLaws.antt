@@ -1,7 +1,7 @@
 -- No call but set up changes the block size, so a call need not store it back.
 use Prim.Native.Nat.{ℕ, zero, suc}
 use mathlib.Core.Path.{_≡_, refl, _∙_}
-use mathlib.Core.List.{List, []}
+use mathlib.Core.List.{[]}
 use Rattle.laws.specs.First.{Found, found, missing}
 use Rattle.buftag.specs.declared.link.Link.{Link}
 use Rattle.buftag.specs.declared.link.Link.the-variants.{To, End, Off, Bad}
@@ -11,7 +11,7 @@ use Rattle.buftag.specs.declared.name.PageName.{PageName}
 use Rattle.buftag.specs.Link.{linkOf}
 use Rattle.bufmodel.specs.Memory.{Memory, size, withHand, withStates}
 use Rattle.bufmodel.specs.Rows.{placeOf}
-use Rattle.bufmodel.specs.Sweep.{Swept, sweepAll}
+use Rattle.bufmodel.specs.Sweep.{Swept}
 use Rattle.bufmodel.specs.Moves.{writeBack, writeUpTo, release, loadAt, loadTop, load}
 use Rattle.bufmodel.specs.Outcome.{Outcome, outcome}
 use Rattle.bufmodel.specs.Pin.{heldIn, pinHeld, pinFree, pinVictim, pinSwept, pinNew, pinTo, pin}

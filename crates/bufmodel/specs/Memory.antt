@@ -1,6 +1,5 @@
 -- The lent memory, with the control record taken apart, and what is read off it.
 use Prim.Native.Nat.{ℕ}
-use mathlib.Core.Bool.{Bool}
 use mathlib.Core.List.{List}
 use lib.ListN.{length, getD}
 use lib.IntN.{ℤ}

@@ -1,7 +1,7 @@
 -- What a call leaves, and the places of checking: a list of numbers and conditions, checked downwards.
 use Prim.Native.Nat.{ℕ, zero, suc}
 use mathlib.Core.Bool.{Bool, not, cond}
-use mathlib.Core.List.{List, [], _∷_, _++_}
+use mathlib.Core.List.{List, [], _∷_}
 use Rattle.bufmodel.specs.Memory.{Memory}
 use Rattle.bufmodel.specs.Sizes.{sized}
 use Rattle.bufmodel.specs.Books.{sound}

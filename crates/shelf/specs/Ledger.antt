@@ -1,6 +1,6 @@
 -- The ledger: the shelf, and what the calls so far did to the log and the store. One function for each sentence of document 01.
 use Prim.Native.Nat.{ℕ, zero, suc, _+_, max}
-use mathlib.Core.Bool.{Bool, true, false, not, _&&_, _||_, cond}
+use mathlib.Core.Bool.{Bool, false, not, _&&_, _||_, cond}
 use mathlib.Core.List.{List}
 use lib.ListN.{getD}
 use lib.Dec.{eqb, leb, ltb}
@@ -8,7 +8,6 @@ use Rattle.laws.specs.First.{Found, found, missing}
 use Rattle.bufmodel.specs.Position.{position}
 use Rattle.bufmodel.specs.Rows.{capacityAt, rowOf, startOf, storeBlocks, placeOf}
 use Rattle.bufmodel.specs.Memory.{Memory}
-use Rattle.bufmodel.specs.Outcome.{Outcome}
 use Rattle.bufmodel.specs.Step.{Call, Pin, Unpin, Read, Write, Flush, Checkpoint, Peek, Extend, Drop, LogInserted, LogFlushed}
 use Rattle.shelf.specs.Shelf.{Shelf, with, firstShelf, nextBlock, shelfAfter}
 

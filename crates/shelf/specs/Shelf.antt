@@ -1,7 +1,7 @@
 -- The plain shelf: document 01's term for what a pool of pages is, without buffers, books or a store to write back to.
 -- A page is known by its place, the index of its block in the store.
 use Prim.Native.Nat.{ℕ, suc, _+_, _-_}
-use mathlib.Core.Bool.{Bool, true, false, not, _&&_, _||_, cond}
+use mathlib.Core.Bool.{Bool, false, not, _&&_, _||_, cond}
 use mathlib.Core.List.{List, [], _∷_}
 use lib.ListN.{length, replicate}
 use lib.Dec.{eqb, leb, ltb}
@@ -9,7 +9,6 @@ use Rattle.laws.specs.Every.{any}
 use Rattle.laws.specs.Sum.{count}
 use Rattle.laws.specs.First.{Found, found, missing}
 use Rattle.laws.specs.Block.{block}
-use Rattle.buftag.specs.declared.name.PageName.{PageName}
 use Rattle.bufmodel.specs.Word.{maxPins}
 use Rattle.bufmodel.specs.Position.{position, written}
 use Rattle.bufmodel.specs.Rows.{blocksAt, setBlocks, rowOf, startOf, storeBlocks, placeOf}

@@ -4,8 +4,6 @@ use native.Mathlib.Omega.{arith}
 use Rattle.bufmodel.proofs.SweepLaws.{next-end, next-on}
 use Rattle.bufsweep.proofs.sweep.next_of.Statement.{statement}
 use Rattle.bufsweep.proofs.sweep.next_of.Tie as tie
-use Rattle.bufsweep.proofs.sweep.next_of.Reads as reads
-use Rattle.bufsweep.proofs.sweep.next_of.Lts as lts
 
 -- src/sweep.rt:30:8
 add-if1 : tie.Need-add-if1
