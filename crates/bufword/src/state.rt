@@ -25,6 +25,6 @@ pub fn put_state(states: &mut [u32], buffer: BufferNumber, word: u32)
     requires { ⌜ buffer .0 < length (now states) ⌝ }
     ensures { λ _. ⌜ now (states .exit) ≡ set (now (states .entry)) (buffer .0) word ⌝ }
 {
-    let i = buffer.0;
-    states[i] = word;
+    let at = buffer.0;
+    states[at] = word;
 }
