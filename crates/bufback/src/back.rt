@@ -1,4 +1,4 @@
-// Write-back, for pin, flush and checkpoint: flushed first, then the page, then the dirty bits.
+// Write-back, for pin, flush and checkpoint: flushed first, in the record by value, then the page, then the dirty bits.
 
 ghost use mathlib.Core.Path.{_≡_};
 ghost use mathlib.Core.List.{[]};
@@ -15,10 +15,10 @@ use bufpage::page::page_position;
 use bufpage::page::page_to_store;
 use bufrows::place::Place;
 use bufrows::place::place_of;
+use bufstate::state::put_state;
+use bufstate::state::state_of;
 use buftag::names::stored;
 use buftag::number::BufferNumber;
-use bufword::state::put_state;
-use bufword::state::state_of;
 use bufword::word::is_dirty;
 use bufword::word::make_clean;
 

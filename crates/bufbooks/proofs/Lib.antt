@@ -1,2 +1,1 @@
-pub mod BooksLaws
 pub mod LentLaws

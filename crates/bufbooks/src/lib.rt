@@ -1,5 +1,4 @@
-// Whether lent memory may be used: its books, once its sizes fit.
+// Whether lent memory may be used: its sizes first, then its books.
 
-pub mod books;
 pub mod export;
 pub mod lent;

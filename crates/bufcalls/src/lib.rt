@@ -1,4 +1,4 @@
-// Calls by value: the calls on a pinned buffer, and checkpoint. Each checks first, in the table's order, and changes nothing where it
+// Calls by value on a pinned buffer: unpin, read, write. Each checks first, in the table's order, and changes nothing where it
 // refuses.
 
 pub mod buffer;

@@ -29,12 +29,12 @@ use bufrows::rows::capacity_at;
 use bufrows::rows::find_row;
 use bufrows::rows::set_blocks;
 use bufrows::rows::start_of;
+use bufstate::state::state_of;
 use buftag::name::FileName;
 use buftag::name::same_file;
 use buftag::names::stored;
 use buftag::number::BlockNumber;
 use buftag::number::BufferNumber;
-use bufword::state::state_of;
 use bufword::word::is_empty;
 use bufword::word::is_pinned;
 

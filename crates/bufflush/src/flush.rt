@@ -9,9 +9,9 @@ use bufback::back::write_back;
 use bufcalls::buffer::buffer_refusal;
 use bufmodel::answer::Written;
 use bufmodel::control::Control;
+use bufstate::flag::one_if;
+use bufstate::state::state_of;
 use buftag::number::BufferNumber;
-use bufword::flag::one_if;
-use bufword::state::state_of;
 use bufword::word::is_dirty;
 
 // Writes the page back if it is dirty.

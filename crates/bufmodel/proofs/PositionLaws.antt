@@ -9,7 +9,7 @@ use lib.ListN.{length, getD, take, replicate, length-append, length-take, length
 use borrow.Author.Tests.{ltb-true}
 use Rattle.laws.proofs.Lists.{take-listed, getD-replicate-all}
 use Rattle.buftag.specs.declared.name.PageName.{PageName}
-use Rattle.buftag.specs.Bytes.{wordBytes, wordAt}
+use Rattle.bufhash.specs.Bytes.{wordBytes, wordAt}
 use Rattle.buftag.specs.Name.{nameOf}
 use Rattle.buftag.proofs.NameLaws.{name-of-bytes}
 use Rattle.bufmodel.specs.Position.{position, positionBytes, paste, written}

@@ -133,7 +133,7 @@ pub cases-hold :
     × (step (after (dirtied ++ (block 3 ∷ Unpin 0 ∷ block 0 ∷ []))) (Read 0 4 (replicate 6 0)) .bytes ≡ 90 ∷ 0 ∷ 0 ∷ 0 ∷ 77 ∷ 78 ∷ [])
 unfolding Rattle.laws.specs.Every.all Rattle.laws.specs.Every.any Rattle.laws.specs.Sum.sum Rattle.laws.specs.Sum.count
     Rattle.laws.specs.Times.times Rattle.laws.specs.Times.without Rattle.laws.specs.First.first Rattle.laws.specs.Block.block
-    Rattle.laws.specs.Block.putBlock Rattle.buftag.specs.Fnv.fnvStep Rattle.buftag.specs.Name.hashOf
+    Rattle.laws.specs.Block.putBlock Rattle.bufhash.specs.Fnv.fnvStep Rattle.buftag.specs.Name.hashOf
     Rattle.buftag.specs.Name.bucketOf Rattle.buftag.specs.Link.ends Rattle.buftag.specs.Link.members
     Rattle.buftag.specs.Link.holdsTest Rattle.buftag.specs.Lookup.held Rattle.buftag.specs.Chain.idle
     Rattle.buftag.specs.Chain.twins Rattle.buftag.specs.Chain.distinctTest Rattle.buftag.specs.Chain.eachTest

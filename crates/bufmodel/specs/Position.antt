@@ -2,7 +2,7 @@
 use Prim.Native.Nat.{ℕ, _+_, _*_, _/_, _%_, _^_}
 use mathlib.Core.List.{List, _++_}
 use lib.ListN.{length, take, drop}
-use Rattle.buftag.specs.Bytes.{wordBytes, wordAt}
+use Rattle.bufhash.specs.Bytes.{wordBytes, wordAt}
 
 unfoldable pub position : List ℕ → ℕ
 position page = wordAt page 0 * 2 ^ 32 + wordAt page 4

@@ -1,4 +1,4 @@
-// The places 3 and 4: a file's row, and a page's place in the store.
+// What refuses a page's name: 3 or 4, or else its place in the store.
 
 ghost use mathlib.Core.Path.{_≡_};
 ghost use mathlib.Core.Bool.{true};

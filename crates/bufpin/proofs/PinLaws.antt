@@ -30,7 +30,7 @@ use Rattle.bufmodel.proofs.FreeListLaws.{top-full}
 use Rattle.bufpeek.specs.declared.name.Sought as name
 use Rattle.bufpeek.specs.Name.{sought}
 use Rattle.bufpeek.proofs.NameLaws.{name-refused, name-at}
-use Rattle.bufpin.specs.Pin.{heldAt, pinnedWords}
+use Rattle.bufpin.specs.Pin.{heldAt, heldWords}
 use Rattle.bufvictim.proofs.SweptLaws.{swept-stuck}
 use Rattle.bufpin.proofs.NewLaws.{new-swept}
 
@@ -41,8 +41,8 @@ unfolding heldAt
 more-answer i w f = rw f
 
 more-words : (words : List ℕ) (i : ℕ) → eqb (pins (getD words i 0)) maxPins ≡ false
-    → pinnedWords words i ≡ set words i (pinMore (getD words i 0))
-unfolding pinnedWords
+    → heldWords words i ≡ set words i (pinMore (getD words i 0))
+unfolding heldWords
 more-words words i f = rw f
 
 module _ (m : Memory) (n : PageName) where
@@ -81,8 +81,8 @@ module _ (m : Memory) (n : PageName) where
 
       -- a page that is held
       pub pin-held : (b : BufferNumber) → heldIn m n ≡ At b
-          → Says (heldAt (b .0) (wordOf m (b .0))) (withStates (pinnedWords (m .states) (b .0)) m)
-      unfolding heldAt pinnedWords countFull noVictim pinTo pinHeld pinnedAt
+          → Says (heldAt (b .0) (wordOf m (b .0))) (withStates (heldWords (m .states) (b .0)) m)
+      unfolding heldAt heldWords countFull noVictim pinTo pinHeld pinnedAt
       pin-held b e =
           ⊎-elim
           (λ t. rw t (pin-refused (omega arith) (last (At b) e ∙ refusal-at 5 _ t)))

@@ -13,7 +13,7 @@ ghost use Rattle.bufmodel.specs.Sizes.{sized};
 ghost use Rattle.bufmodel.specs.Books.{sound};
 ghost use Rattle.bufmodel.specs.Answer.{pinnedAt};
 ghost use Rattle.bufmodel.specs.Pin.{pinNew, pin};
-ghost use Rattle.bufpin.specs.Pin.{heldAt, pinnedWords};
+ghost use Rattle.bufpin.specs.Pin.{heldAt, heldWords};
 use bufbooks::lent::refusal;
 use bufmodel::answer::Pinned;
 use bufmodel::control::Control;
@@ -21,6 +21,8 @@ use bufmodel::refusal::PIN_COUNT;
 use bufmoves::exchange::load_page;
 use bufpeek::name::Sought;
 use bufpeek::name::seek;
+use bufstate::state::put_state;
+use bufstate::state::state_of;
 use buftag::link::Link;
 use buftag::link::read_link;
 use buftag::lookup::Held;
@@ -30,8 +32,6 @@ use buftag::number::BufferNumber;
 use bufvictim::ends::PinEnd;
 use bufvictim::ends::refused;
 use bufvictim::victim::pin_swept;
-use bufword::state::put_state;
-use bufword::state::state_of;
 use bufword::word::MAX_PINS;
 use bufword::word::pin_more;
 use bufword::word::pins_of;
@@ -116,7 +116,7 @@ fn pin_held(control: Control, states: &mut [u32], buffer: BufferNumber) -> PinEn
         × (empty (getD (now states) (buffer .0) 0) ≡ false) ⌝ }
     ensures { λ r. ⌜ r .control ≡ control ⌝ }
     ensures { λ r. ⌜ r .answer ≡ heldAt (buffer .0) (getD (now (states .entry)) (buffer .0) 0) ⌝ }
-    ensures { λ _. ⌜ now (states .exit) ≡ pinnedWords (now (states .entry)) (buffer .0) ⌝ }
+    ensures { λ _. ⌜ now (states .exit) ≡ heldWords (now (states .entry)) (buffer .0) ⌝ }
 {
     let w = state_of(states, buffer);
     if pins_of(w) == MAX_PINS {

@@ -8,7 +8,7 @@ use lib.ListN.{length, getD, take, drop}
 use lib.Seq.{sets, sets-eq, drop-drop, getD-drop, getD-take}
 use Rattle.laws.specs.Block.{block}
 use Rattle.laws.proofs.Sets.{sets-append}
-use Rattle.buftag.specs.Bytes.{wordBytes, wordAt}
+use Rattle.bufhash.specs.Bytes.{wordBytes, wordAt}
 use Rattle.bufmodel.specs.Position.{position, positionBytes, paste}
 
 -- the high word, then the low one

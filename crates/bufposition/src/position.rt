@@ -3,9 +3,9 @@
 ghost use mathlib.Core.Path.{_≡_};
 ghost use Prim.Native.Nat.{_+_, _^_, _≤_, _<_};
 ghost use lib.ListN.{length, drop};
-ghost use Rattle.buftag.specs.Bytes.{wordAt};
+ghost use Rattle.bufhash.specs.Bytes.{wordAt};
 ghost use Rattle.bufmodel.specs.Position.{position, positionBytes, paste};
-use buftag::bytes::put_word;
+use bufhash::bytes::put_word;
 
 fn wide(byte: u8) -> u64
     ensures { λ r. ⌜ (r ≡ byte) × (r < 256) ⌝ }

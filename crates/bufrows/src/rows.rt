@@ -1,24 +1,18 @@
-// The file rows: a row's numbers, the row of a file, where a file's blocks stand in the store, whether the rows are sound.
+// The file rows: a row's numbers, the row of a file, where a file's blocks stand in the store.
 
 ghost use mathlib.Core.Path.{_≡_};
 ghost use Prim.Native.Nat.{_+_, _*_, _≤_};
 ghost use lib.Dec.{ltb};
 ghost use lib.ListN.{length};
-ghost use Rattle.laws.specs.Every.{all};
 ghost use Rattle.buftag.specs.Name.{sameFile};
 ghost use Rattle.bufmodel.specs.Rows.{rowWords, fileAt, blocksAt, capacityAt, setBlocks, rowOf, startOf};
-ghost use Rattle.bufmodel.specs.Sizes.{maxFiles, maxBlocks, newFile, soundRow, soundRows};
+ghost use Rattle.bufmodel.specs.Sizes.{maxFiles, maxBlocks};
 ghost use Rattle.bufrows.specs.Rows.{foundRow};
 use buftag::name::FileName;
-use buftag::name::is_fork;
 use buftag::name::same_file;
 use buftag::number::BlockNumber;
 
 pub const ROW_WORDS: usize = 6;
-
-pub const MAX_FILES: usize = 64;
-
-pub const MAX_BLOCKS: u64 = 65536;
 
 // What a search for a file answers: its row, or that there is none.
 pub enum Row {
@@ -83,7 +77,7 @@ pub fn set_blocks(rows: &mut [u32], row: usize, blocks: u32)
     rows[row * ROW_WORDS + 4] = blocks;
 }
 
-// The row of a file. Two rows in a turn of the loop: every buffer's file is looked for, in every call.
+// The row of a file. Two rows in a turn of the loop: a buffer whose row was guessed wrong is looked for here, in every call.
 pub fn find_row(rows: &[u32], file: FileName) -> Row
     ensures { λ r. ⌜ foundRow r ≡ rowOf (now (rows .entry)) file ⌝ }
 {
@@ -126,66 +120,4 @@ pub fn block_place(rows: &[u32], row: usize, block: BlockNumber) -> usize
     ensures { λ r. ⌜ r ≡ startOf (now (rows .entry)) row + block .0 ⌝ }
 {
     start_of(rows, row) as usize + block.0 as usize
-}
-
-// Whether no row before a row has its file.
-fn is_new(rows: &[u32], row: usize) -> bool
-    requires { ⌜ row * rowWords + rowWords ≤ length (now rows) ⌝ }
-    ensures { λ r. ⌜ r ≡ newFile (now (rows .entry)) row ⌝ }
-{
-    let file = file_at(rows, row);
-    let mut i = 0;
-    while i < row {
-        if is_file(rows, i, file) {
-            return false;
-        }
-        i += 1;
-    }
-    true
-}
-
-// Whether a row is sound: its fork, its blocks, and that no row before it has its file.
-fn row_ok(rows: &[u32], row: usize) -> bool
-    requires { ⌜ row * rowWords + rowWords ≤ length (now rows) ⌝ }
-    ensures { λ r. ⌜ r ≡ soundRow (now (rows .entry)) row ⌝ }
-{
-    if !is_fork(file_at(rows, row).fork) {
-        return false;
-    }
-    if blocks_at(rows, row) > capacity_at(rows, row) {
-        return false;
-    }
-    is_new(rows, row)
-}
-
-// Whether each row is sound.
-fn each_ok(rows: &[u32], n: usize) -> bool
-    requires { ⌜ n * rowWords ≤ length (now rows) ⌝ }
-    ensures { λ r. ⌜ r ≡ all n (soundRow (now (rows .entry))) ⌝ }
-{
-    let mut row = 0;
-    while row < n {
-        if !row_ok(rows, row) {
-            return false;
-        }
-        row += 1;
-    }
-    true
-}
-
-// Whether the rows are sound.
-pub fn rows_ok(rows: &[u32]) -> bool
-    ensures { λ r. ⌜ r ≡ soundRows (now (rows .entry)) ⌝ }
-{
-    if rows.len() % ROW_WORDS != 0 {
-        return false;
-    }
-    let n = rows.len() / ROW_WORDS;
-    if n > MAX_FILES {
-        return false;
-    }
-    if start_of(rows, n) > MAX_BLOCKS {
-        return false;
-    }
-    each_ok(rows, n)
 }

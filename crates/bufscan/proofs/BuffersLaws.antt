@@ -11,8 +11,8 @@ use Rattle.laws.specs.First.{found, missing}
 use Rattle.laws.proofs.Every.{all-fails, all-passes}
 use Rattle.laws.proofs.Sum.{count-done}
 use Rattle.buftag.specs.declared.name.PageName.{PageName}
-use Rattle.buftag.specs.Bytes.{wordBytes}
-use Rattle.buftag.specs.Fnv.{fnv, fnvStart}
+use Rattle.bufhash.specs.Bytes.{wordBytes}
+use Rattle.bufhash.specs.Fnv.{fnv, fnvStart}
 use Rattle.buftag.specs.Name.{fileBytes, bucketOf}
 use Rattle.buftag.specs.Names.{nameAt}
 use Rattle.buftag.specs.Lookup.{used}

@@ -5,9 +5,9 @@ ghost use mathlib.Core.Bool.{_&&_};
 ghost use lib.Dec.{leb};
 ghost use Rattle.bufmodel.specs.Memory.{memory};
 ghost use Rattle.bufmodel.specs.Sizes.{permitted, maxBuffers, maxBuckets, sized};
+use crate::rows::rows_ok;
 use bufmodel::control::Control;
 use bufrows::rows::ROW_WORDS;
-use bufrows::rows::rows_ok;
 use bufrows::rows::start_of;
 use buftag::names::NAME_WORDS;
 

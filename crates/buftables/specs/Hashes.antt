@@ -3,7 +3,7 @@ use mathlib.Core.Path.{_≡_}
 use mathlib.Core.List.{List}
 use Prim.Native.Nat.{ℕ, _<_}
 use lib.ListN.{getD}
-use Rattle.buftag.specs.Fnv.{fnv, fnvStart}
+use Rattle.bufhash.specs.Fnv.{fnv, fnvStart}
 use Rattle.buftag.specs.Name.{fileBytes}
 use Rattle.bufmodel.specs.Rows.{files, fileAt}
 

@@ -1,6 +1,5 @@
 pub mod SignedLaws
 pub mod TagLaws
-pub mod FnvLaws
 pub mod NameLaws
 pub mod NamesLaws
 pub mod LinkLaws

@@ -11,10 +11,10 @@ use Rattle.laws.proofs.Sets.{sets-append, sets-whole}
 use Rattle.laws.proofs.Says.{says-eq, says-and, says-as}
 use Rattle.buftag.specs.declared.name.FileName.{FileName}
 use Rattle.buftag.specs.declared.name.PageName.{PageName}
-use Rattle.buftag.specs.Bytes.{wordBytes, wordAt}
-use Rattle.buftag.specs.Fnv.{fnv, fnvStart}
+use Rattle.bufhash.specs.Bytes.{wordBytes, wordAt}
+use Rattle.bufhash.specs.Fnv.{fnv, fnvStart}
 use Rattle.buftag.specs.Name.{fileOf, nameOf, fileBytes, nameBytes, nameOfBytes, hashOf, bucketOf, sameFile, sameName, Fits}
-use Rattle.buftag.proofs.FnvLaws.{fnv-append}
+use Rattle.bufhash.proofs.FnvLaws.{fnv-append}
 
 -- ---- equality
 -- equal numbers make equal names

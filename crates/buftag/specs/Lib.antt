@@ -1,5 +1,3 @@
-pub mod Bytes
-pub mod Fnv
 pub mod Name
 pub mod Names
 pub mod Link

@@ -6,8 +6,8 @@ use Prim.Native.Nat.{ℕ, _%_, _^_, _<_}
 use lib.Dec.{eqb, leb}
 use Rattle.buftag.specs.declared.name.FileName.{FileName}
 use Rattle.buftag.specs.declared.name.PageName.{PageName}
-use Rattle.buftag.specs.Bytes.{wordBytes, wordAt}
-use Rattle.buftag.specs.Fnv.{fnv, fnvStart}
+use Rattle.bufhash.specs.Bytes.{wordBytes, wordAt}
+use Rattle.bufhash.specs.Fnv.{fnv, fnvStart}
 
 abbrev pub fileOf : ℕ → ℕ → ℕ → ℕ → FileName
 fileOf t d r f = record { tablespace = t; database = d; relation = r; fork = f }

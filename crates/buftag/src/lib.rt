@@ -1,10 +1,8 @@
 // Page names, their bytes and hash, and the bucket chains that find the buffer of a name.
 // Knows nothing of the pool: a buffer is a number with a state word (0 where it is empty), a name and a chain link.
 
-pub mod bytes;
 pub mod chain;
 pub mod export;
-pub mod fnv;
 pub mod link;
 pub mod lookup;
 pub mod name;

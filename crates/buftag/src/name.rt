@@ -3,12 +3,12 @@
 ghost use mathlib.Core.Path.{_≡_};
 ghost use Prim.Native.Nat.{_<_};
 ghost use lib.ListN.{length};
-ghost use Rattle.buftag.specs.Bytes.{wordBytes};
-ghost use Rattle.buftag.specs.Fnv.{fnv, fnvStart};
+ghost use Rattle.bufhash.specs.Bytes.{wordBytes};
+ghost use Rattle.bufhash.specs.Fnv.{fnv, fnvStart};
 ghost use Rattle.buftag.specs.Name.{fileOf, nameOf, fileBytes, nameBytes, hashOf, bucketOf, sameFile, sameName, isFork};
-use crate::bytes::put_word;
-use crate::fnv::mix_word;
 use crate::number::BlockNumber;
+use bufhash::bytes::put_word;
+use bufhash::fnv::mix_word;
 
 // The forks of a file.
 pub const TABLE: u32 = 0;

@@ -25,11 +25,11 @@ use bufmodel::control::Control;
 use bufmodel::refusal::ALL_PINNED;
 use bufmoves::exchange::load_page;
 use bufmoves::exchange::release_buffer;
+use bufstate::state::state_of;
 use bufsweep::sweep::Victim;
 use bufsweep::sweep::sweep;
 use buftag::name::PageName;
 use buftag::number::BufferNumber;
-use bufword::state::state_of;
 use bufword::word::is_dirty;
 
 // The victim of a sweep is written back if it is dirty, gives up its page, and the page `name`, at place `g` of the store, is loaded.

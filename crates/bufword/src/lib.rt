@@ -1,5 +1,3 @@
-// State words: of a buffer in lent memory, and their fields; and a flag as a number.
+// State words: their fields, and what the calls make of them.
 
-pub mod flag;
-pub mod state;
 pub mod word;

@@ -12,8 +12,8 @@ use bufflush::checkpoint::checkpoint_pool;
 use bufflush::flush::flush_buffer;
 use bufmodel::refusal::SIZES;
 use buftag::number::BufferNumber;
-use lentwords::answer::put_written;
-use lentwords::answer::refuse;
+use lentanswer::answer::put_written;
+use lentanswer::answer::refuse;
 use lentwords::control::keep_control;
 
 // Writes a pinned page back if it is dirty: answers how many were written.

@@ -13,8 +13,8 @@ use bufcalls::buffer::unpin_buffer;
 use bufcalls::buffer::write_buffer;
 use bufmodel::refusal::SIZES;
 use buftag::number::BufferNumber;
-use lentwords::answer::put_accepted;
-use lentwords::answer::refuse;
+use lentanswer::answer::put_accepted;
+use lentanswer::answer::refuse;
 
 // Gives back one pin.
 pub fn lent_unpin(

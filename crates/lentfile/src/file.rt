@@ -13,9 +13,9 @@ use buffile::file::drop_file;
 use buffile::file::extend_file;
 use bufmodel::refusal::SIZES;
 use buftag::name::file_name;
-use lentwords::answer::put_accepted;
-use lentwords::answer::put_extended;
-use lentwords::answer::refuse;
+use lentanswer::answer::put_accepted;
+use lentanswer::answer::put_extended;
+use lentanswer::answer::refuse;
 use lentwords::control::keep_control;
 
 // Gives a file its next block, of zeros: answers its number.

@@ -14,9 +14,9 @@ use bufmodel::refusal::SIZES;
 use bufpeek::peek::peek_at;
 use bufpin::pin::pin_page;
 use buftag::name::page_name;
-use lentwords::answer::put_peeked;
-use lentwords::answer::put_pinned;
-use lentwords::answer::refuse;
+use lentanswer::answer::put_peeked;
+use lentanswer::answer::put_pinned;
+use lentanswer::answer::refuse;
 use lentwords::control::keep_control;
 
 // Pins a page: answers its buffer, hit or loaded, whether a page was written back, and the probes.

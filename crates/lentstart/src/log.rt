@@ -11,8 +11,8 @@ use bufbooks::lent::read_control;
 use bufmodel::refusal::SIZES;
 use bufstart::log::log_flushed;
 use bufstart::log::log_inserted;
-use lentwords::answer::put_accepted;
-use lentwords::answer::refuse;
+use lentanswer::answer::put_accepted;
+use lentanswer::answer::refuse;
 use lentwords::control::keep_control;
 
 // The log is inserted up to a position.

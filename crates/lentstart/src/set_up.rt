@@ -10,8 +10,8 @@ use bufbooks::lent::CONTROL_WORDS;
 use bufbooks::lent::read_control;
 use bufmodel::refusal::SIZES;
 use bufstart::set_up::set_up_pool;
-use lentwords::answer::put_accepted;
-use lentwords::answer::refuse;
+use lentanswer::answer::put_accepted;
+use lentanswer::answer::refuse;
 use lentwords::control::keep_control;
 
 // Sets up an empty pool.

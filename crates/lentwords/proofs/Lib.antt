@@ -1,3 +1,2 @@
-pub mod WordsLaws
 pub mod ExportLaws
 pub mod CallLaws

@@ -1,4 +1,3 @@
-// What the pool's calls for C are made of: the answer's words and the control record's.
+// What the pool's calls for C are made of: the control record's words, and the laws that carry a call over to lent memory.
 
-pub mod answer;
 pub mod control;

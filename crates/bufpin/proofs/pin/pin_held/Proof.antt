@@ -7,7 +7,7 @@ use lib.ListN.{getD, set}
 use borrow.Author.Tests.{eq-eqb, ne-eqb}
 use Rattle.bufmodel.specs.Word.{pins, maxPins, pinMore}
 use Rattle.bufmodel.proofs.WordLaws.{pins-lt}
-use Rattle.bufpin.specs.Pin.{heldAt, pinnedWords}
+use Rattle.bufpin.specs.Pin.{heldAt, heldWords}
 use Rattle.bufpin.proofs.pin.pin_held.Statement.{statement}
 use Rattle.bufpin.proofs.pin.pin_held.Tie as tie
 
@@ -24,7 +24,7 @@ same-length : tie.Need-same-length
 same-length c = search needs
 
 returns : tie.Need-returns
-unfolding heldAt pinnedWords
+unfolding heldAt heldWords
 returns c =
     let p = c .before .before in
     let s = p .before .before .before .before in
@@ -49,7 +49,7 @@ same-length-2 : tie.Need-same-length-2
 same-length-2 c = search needs
 
 returns-2 : tie.Need-returns-2
-unfolding heldAt pinnedWords
+unfolding heldAt heldWords
 returns-2 c =
     let more = c .before .before .before in
     let p = more .before .before .before in

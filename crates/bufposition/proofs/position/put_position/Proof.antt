@@ -1,5 +1,5 @@
 use Rattle.bufposition.proofs.PositionLaws.{position-put}
-use Rattle.buftag.specs.Bytes.{wordBytes}
+use Rattle.bufhash.specs.Bytes.{wordBytes}
 use Prim.Native.Nat.{_+_, _/_, _%_, _^_}
 use mathlib.Core.Path.{_≡_, ap, _∙_}
 use lib.Seq.{sets}

@@ -8,9 +8,9 @@ use Rattle.bufmodel.proofs.RowsLaws.{row-found}
 use Rattle.bufmodel.proofs.SizesLaws.{rows-say}
 use Rattle.bufmodel.specs.Rows.{files, blocksAt, rowOf}
 use Rattle.bufmodel.specs.Sizes.{maxFiles}
-use Rattle.buftag.specs.Bytes.{wordBytes}
+use Rattle.bufhash.specs.Bytes.{wordBytes}
 use Rattle.bufchains.specs.Check.{isFirst, findsItself}
-use Rattle.buftag.specs.Fnv.{fnv}
+use Rattle.bufhash.specs.Fnv.{fnv}
 use Rattle.buftag.specs.Link.{linkAt}
 use Rattle.buftag.specs.Names.{nameAt}
 use Rattle.laws.specs.First.{Found, found}

@@ -5,19 +5,15 @@ use Rattle.bufmodel.proofs.SweepLaws.{next-end, next-on}
 use Rattle.bufsweep.proofs.sweep.next_of.Statement.{statement}
 use Rattle.bufsweep.proofs.sweep.next_of.Tie as tie
 
--- src/sweep.rt:30:8
 add-if1 : tie.Need-add-if1
 add-if1 c = search needs
 
--- src/sweep.rt:31:9
 returns : tie.Need-returns
 returns c = let a = c .before .args in sym (next-end (a .n) (a .at) (omega (arith, c .if1 .taken)))
 
--- src/sweep.rt:33:5
 add-result : tie.Need-add-result
 add-result c = search needs
 
--- src/sweep.rt:26:1
 returns-2 : tie.Need-returns-2
 returns-2 c = let a = c .before .args in omega (arith, next-on (a .n) (a .at) (λ e. c .if1 .left (omega (arith, e))))
 

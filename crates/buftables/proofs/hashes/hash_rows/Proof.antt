@@ -3,7 +3,7 @@ use borrow.Author.Count.{below-more}
 use lib.ListN.{length, getD}
 use lib.Seq.{getD-set-same, getD-set-other}
 use Rattle.bufmodel.specs.Rows.{files, fileAt}
-use Rattle.buftag.specs.Fnv.{fnv, fnvStart}
+use Rattle.bufhash.specs.Fnv.{fnv, fnvStart}
 use Rattle.buftag.specs.Name.{fileBytes}
 use mathlib.Core.Path.{_≡_, ap, _∙_}
 use native.Mathlib.Omega.{arith}

@@ -1,6 +1,6 @@
 use Rattle.buftag.proofs.NameLaws.{hash-continued}
-use Rattle.buftag.specs.Fnv.{fnv}
-use Rattle.buftag.specs.Bytes.{wordBytes}
+use Rattle.bufhash.specs.Fnv.{fnv}
+use Rattle.bufhash.specs.Bytes.{wordBytes}
 use mathlib.Core.Path.{_∙_, ap}
 use borrow.Author.Needs.{needs}
 use Rattle.buftag.proofs.name.hash.Statement.{statement}

@@ -1,5 +1,5 @@
-use Rattle.buftag.specs.Bytes.{wordBytes}
-use Rattle.buftag.specs.Fnv.{fnv}
+use Rattle.bufhash.specs.Bytes.{wordBytes}
+use Rattle.bufhash.specs.Fnv.{fnv}
 use mathlib.Core.Path.{_∙_, ap}
 use borrow.Author.Needs.{needs}
 use Rattle.buftag.proofs.name.hash_file.Statement.{statement}

@@ -1,5 +1,5 @@
 use Rattle.buftag.proofs.NameLaws.{bytes-put}
-use Rattle.buftag.specs.Bytes.{wordBytes}
+use Rattle.bufhash.specs.Bytes.{wordBytes}
 use lib.Seq.{sets}
 use mathlib.Core.Path.{_∙_, ap}
 use denote.Ref.{now}

@@ -1,5 +1,5 @@
 use Rattle.buftag.proofs.SignedLaws.{bits-back, casts}
-use Rattle.lentwords.proofs.WordsLaws.{top-negative, top-place}
+use Rattle.lentanswer.proofs.WordsLaws.{top-negative, top-place}
 use Rattle.lentwords.proofs.control.top_word.Statement.{statement}
 use Rattle.lentwords.proofs.control.top_word.Tie as tie
 

@@ -6,7 +6,7 @@ use Rattle.buftag.proofs.SignedLaws.{bits-back}
 use mathlib.Core.Path.{_∙_, ap}
 use mathlib.Core.List.{[], _∷_}
 use Rattle.bufmodel.specs.Lent.{topWord, wordsOf}
-use Rattle.lentwords.proofs.WordsLaws.{five}
+use Rattle.lentanswer.proofs.WordsLaws.{five}
 use Rattle.lentwords.proofs.control.write_control.Statement.{statement}
 use Rattle.lentwords.proofs.control.write_control.Tie as tie
 

@@ -1,0 +1,3 @@
+// The check of the books.
+
+pub mod books;

@@ -1,0 +1,3 @@
+// An answer's result and words.
+
+pub mod answer;
