@@ -28,7 +28,7 @@ fn copy_usual(to: &mut [u8], from: &[u8])
 }
 
 // The bytes of a page of any size.
-fn copy_page(to: &mut [u8], from: &[u8])
+pub fn copy_page(to: &mut [u8], from: &[u8])
     requires { ⌜ length (now to) ≡ length (now from) ⌝ }
     ensures { λ _. ⌜ now (to .exit) ≡ now (from .entry) ⌝ }
 {

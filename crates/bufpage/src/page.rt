@@ -7,6 +7,7 @@ ghost use Rattle.laws.specs.Block.{block, putBlock};
 ghost use Rattle.bufmodel.specs.Position.{position as pagePosition, written};
 use bufblock::block::copy_block;
 use bufblock::block::copy_bytes;
+use bufblock::block::copy_page;
 use bufposition::position::position_at;
 use bufposition::position::put_position;
 use buftag::number::BufferNumber;
@@ -75,10 +76,14 @@ pub fn page_to_store(store: &mut [u8], g: usize, pool: &[u8], buffer: BufferNumb
     copy_block(store, g, pool, buffer.0, size);
 }
 
-// A page comes from place `g` of the store.
+// A page comes from place `g` of the store: its part of the pool is lent on and filled.
 pub fn page_from_store(pool: &mut [u8], buffer: BufferNumber, store: &[u8], g: usize, size: usize)
     requires { ⌜ (buffer .0 * size + size ≤ length (now pool)) × (g * size + size ≤ length (now store)) ⌝ }
     ensures { λ _. ⌜ now (pool .exit) ≡ putBlock size (buffer .0) (block size g (now (store .entry))) (now (pool .entry)) ⌝ }
 {
-    copy_block(pool, buffer.0, store, g, size);
+    let a = buffer.0 * size;
+    let e = a + size;
+    let b = g * size;
+    let f = b + size;
+    copy_page(&mut pool[a..e], &store[b..f]);
 }
