@@ -1,4 +1,4 @@
--- The calls on a file and peek: what their places answer, and the release of a file's buffers, one after another.
+-- The calls on a file: what their places answer, and the release of a file's buffers, one after another.
 use Prim.Native.Nat.{ℕ, zero, suc, _+_, _≤_, _<_}
 use native.Mathlib.Numerals.{add-one}
 use native.Mathlib.Omega.{arith}
@@ -32,7 +32,7 @@ use Rattle.bufmodel.proofs.RowsLaws.{row-found, start-in}
 use Rattle.bufmodel.proofs.ReleaseLaws.{release-buffers, release-good}
 use Rattle.bufmodel.proofs.DropLaws.{of-says}
 use Rattle.bufmoves.specs.Exchange.{Chained}
-use Rattle.buffile.specs.File.{fileAt, pinnedOf}
+use Rattle.buffile.specs.File.{heldOf, pinnedOf}
 use Rattle.bufmoves.proofs.WholeLaws.{good-chained}
 
 -- ---- a call with the place 3 for a row, and one more
@@ -103,11 +103,11 @@ module _ (m : Memory) (f : FileName) where
 
     module _ {r : ℕ} (e : rowOf (m .rows) f ≡ found r) where
       pub drop-pinned : pinnedOf (m .states) (m .names) f ≡ true → dropFile m f ≡ refused 14 [] m
-      unfolding dropFile filePinned pinnedOf ofFile fileAt emptyAt
+      unfolding dropFile filePinned pinnedOf ofFile heldOf emptyAt
       drop-pinned q = call-refused m g (rowOf (m .rows) f) 14 _ _ e (λ z. absurd (omega arith)) q
 
       drop-done : pinnedOf (m .states) (m .names) f ≡ false → dropFile m f ≡ dropAt m f (found r)
-      unfolding dropFile filePinned pinnedOf ofFile fileAt emptyAt
+      unfolding dropFile filePinned pinnedOf ofFile heldOf emptyAt
       drop-done q = call-done m g (rowOf (m .rows) f) 14 _ _ e q ∙ ap (dropAt m f) e
 
       pub dropped : pinnedOf (m .states) (m .names) f ≡ false → {d : Memory} {rows : List ℕ} → d ≡ releaseUpTo f (buffers m) m
@@ -123,12 +123,12 @@ pub memory-same : (d : Memory) {c : Control} {s n : List ℕ} {f h l : List ℤ}
 memory-same d a b c e f g = rw (a, b, c, e, f, g)
 
 -- whether a buffer is of the file, by the words and names alone
-pub of-file : (m : Memory) (f : FileName) (i : ℕ) → fileAt (m .states) (m .names) f i ≡ ofFile m f i
-unfolding fileAt ofFile emptyAt
+pub of-file : (m : Memory) (f : FileName) (i : ℕ) → heldOf (m .states) (m .names) f i ≡ ofFile m f i
+unfolding heldOf ofFile emptyAt
 of-file m f i = refl
 
 -- what release asks of such a buffer
-pub file-chained : (m : Memory) (f : FileName) (i : ℕ) → Good m → i < buffers m → fileAt (m .states) (m .names) f i ≡ true
+pub file-chained : (m : Memory) (f : FileName) (i : ℕ) → Good m → i < buffers m → heldOf (m .states) (m .names) f i ≡ true
     → Chained (memory (m .control) (m .states) (m .names) [] (m .free) (m .heads) (m .chain) [] []) i
 file-chained m f i g l e = good-chained m g i l (of-says m f i .holds (sym (of-file m f i) ∙ e) .0)
 
@@ -152,14 +152,14 @@ module _ (m : Memory) (f : FileName) where
   unfolding releaseUpTo
   released-none = refl
 
-  pub released-hit : (i : ℕ) (d : Memory) → d ≡ releaseUpTo f i m → fileAt (d .states) (d .names) f i ≡ true
+  pub released-hit : (i : ℕ) (d : Memory) → d ≡ releaseUpTo f i m → heldOf (d .states) (d .names) f i ≡ true
       → release d i ≡ releaseUpTo f (i + 1) m
   unfolding releaseUpTo releaseIf
   released-hit i d e h =
       let q : ofFile (releaseUpTo f i m) f i ≡ true = subst (λ (x : Memory). ofFile x f i ≡ true) e (sym (of-file d f i) ∙ h) in
       rw (add-one, q) (ap (λ (x : Memory). release x i) e)
 
-  pub released-miss : (i : ℕ) (d : Memory) → d ≡ releaseUpTo f i m → fileAt (d .states) (d .names) f i ≡ false
+  pub released-miss : (i : ℕ) (d : Memory) → d ≡ releaseUpTo f i m → heldOf (d .states) (d .names) f i ≡ false
       → d ≡ releaseUpTo f (i + 1) m
   unfolding releaseUpTo releaseIf
   released-miss i d e h =

@@ -10,8 +10,8 @@ use Rattle.buftag.specs.Names.{nameAt}
 use Rattle.bufmodel.specs.Word.{empty, pinned}
 
 -- buffer i holds a page of this file
-unfoldable pub fileAt : List ℕ → List ℕ → FileName → ℕ → Bool
-fileAt states names f i = not (empty (getD states i 0)) && sameFile (nameAt names i .file) f
+unfoldable pub heldOf : List ℕ → List ℕ → FileName → ℕ → Bool
+heldOf states names f i = not (empty (getD states i 0)) && sameFile (nameAt names i .file) f
 
 unfoldable pub pinnedOf : List ℕ → List ℕ → FileName → Bool
-pinnedOf states names f = any (length states) (λ i. fileAt states names f i && pinned (getD states i 0))
+pinnedOf states names f = any (length states) (λ i. heldOf states names f i && pinned (getD states i 0))

@@ -13,7 +13,7 @@ ghost use Rattle.bufmodel.specs.Answer.{extendedAt, acceptedAt};
 ghost use Rattle.bufmodel.specs.Calls.{extend, dropFile};
 ghost use Rattle.buftag.specs.Names.{nameWords};
 ghost use Prim.Native.Nat.{_*_, _<_};
-ghost use Rattle.buffile.specs.File.{fileAt, pinnedOf};
+ghost use Rattle.buffile.specs.File.{heldOf, pinnedOf};
 use bufblock::block::clear_block;
 use bufbooks::lent::refusal;
 use bufmodel::answer::Accepted;
@@ -100,7 +100,7 @@ pub fn extend_file(
 // Whether a buffer holds a page of a file.
 fn is_of_file(states: &[u32], names: &[u32], file: FileName, buffer: BufferNumber) -> bool
     requires { ⌜ (buffer .0 < length (now states)) × (length (now names) ≡ nameWords * length (now states)) ⌝ }
-    ensures { λ r. ⌜ r ≡ fileAt (now (states .entry)) (now (names .entry)) file (buffer .0) ⌝ }
+    ensures { λ r. ⌜ r ≡ heldOf (now (states .entry)) (now (names .entry)) file (buffer .0) ⌝ }
 {
     if is_empty(state_of(states, buffer)) {
         return false;
@@ -118,7 +118,7 @@ fn any_pinned(states: &[u32], names: &[u32], file: FileName) -> bool
     let mut i = 0;
     while i < states.len() {
         if is_of_file(states, names, file, BufferNumber(i)) {
-            if is_pinned(states[i]) {
+            if is_pinned(state_of(states, BufferNumber(i))) {
                 return true;
             }
         }

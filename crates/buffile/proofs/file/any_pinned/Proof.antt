@@ -1,6 +1,6 @@
 use borrow.Author.Needs.{needs}
 use Prim.Native.Nat.{_≤_, _-_}
-use mathlib.Core.Path.{_≡_, sym, _∙_}
+use mathlib.Core.Path.{_≡_, sym, ap, _∙_}
 use mathlib.Core.Logic.{⊎-elim}
 use mathlib.Core.Bool.{true, not, _&&_}
 use lib.ListN.{length, getD}
@@ -8,13 +8,13 @@ use Rattle.laws.specs.Every.{all}
 use Rattle.laws.proofs.Every.{all-none, all-more, any-found, any-done}
 use Rattle.laws.proofs.Tests.{and-true}
 use Rattle.bufmodel.specs.Word.{pinned}
-use Rattle.buffile.specs.File.{fileAt, pinnedOf}
+use Rattle.buffile.specs.File.{heldOf, pinnedOf}
 use Rattle.buffile.proofs.file.any_pinned.Statement.{statement}
 use Rattle.buffile.proofs.file.any_pinned.Tie as tie
 
 abbrev Inv-loop : tie.InvT-loop
 Inv-loop states names file i₀ i =
-    (i ≤ length states) × (all i (λ k. not (fileAt states names file k && pinned (getD states k 0))) ≡ true)
+    (i ≤ length states) × (all i (λ k. not (heldOf states names file k && pinned (getD states k 0))) ≡ true)
 
 abbrev μ-loop : tie.MeasureT-loop
 μ-loop states names file i₀ i = length states - i
@@ -25,11 +25,8 @@ loop-holds c = (search needs, all-none _)
 is-of-file-requires : tie.Need-is-of-file-requires Inv-loop μ-loop
 is-of-file-requires c κs = search needs
 
-mul-is-pinned : tie.Need-mul-is-pinned Inv-loop μ-loop
-mul-is-pinned c = search needs
-
-shared-slice-read-is-pinned : tie.Need-shared-slice-read-is-pinned Inv-loop μ-loop
-shared-slice-read-is-pinned c = search needs
+state-of-requires : tie.Need-state-of-requires Inv-loop μ-loop
+state-of-requires c κs = search needs
 
 is-pinned-requires : tie.Need-is-pinned-requires Inv-loop μ-loop
 is-pinned-requires c κs = search needs
@@ -39,7 +36,7 @@ unfolding pinnedOf
 returns c =
     any-found _ _ _ (c .before .before .before .before .before .loop-test .taken)
     (and-true (sym (c .before .before .before .before .is-of-file .ensures) ∙ c .before .before .before .if1 .taken)
-    (sym (c .before .is-pinned .ensures) ∙ c .if2 .taken))
+    (sym (c .before .is-pinned .ensures ∙ ap pinned (c .before .before .state-of .ensures)) ∙ c .if2 .taken))
 
 add-i : tie.Need-add-i Inv-loop μ-loop
 add-i c = search needs
@@ -53,7 +50,7 @@ loop-again c =
       search needs,
       all-more _ _ (c .before .before .before .loop .inv .1)
           (⊎-elim
-          (λ w. rw (sym h ∙ w .0 .taken, sym (w .2 .ensures) ∙ w .3 .left))
+          (λ w. rw (sym h ∙ w .0 .taken, sym (w .2 .ensures ∙ ap pinned (w .1 .ensures)) ∙ w .3 .left))
           (λ w. rw (sym h ∙ w .left))
           (c .if1 .came)),
     )
@@ -70,8 +67,7 @@ any-pinned-spec =
     μ-loop
     loop-holds
     is-of-file-requires
-    mul-is-pinned
-    shared-slice-read-is-pinned
+    state-of-requires
     is-pinned-requires
     returns
     add-i

@@ -7,7 +7,7 @@ use Rattle.laws.proofs.Tests.{and-last}
 use Rattle.buftag.specs.declared.name.PageName.{PageName}
 use Rattle.buftag.specs.Name.{sameFile}
 use Rattle.bufmodel.specs.Word.{empty}
-use Rattle.buffile.specs.File.{fileAt}
+use Rattle.buffile.specs.File.{heldOf}
 use Rattle.buffile.proofs.file.is_of_file.Statement.{statement}
 use Rattle.buffile.proofs.file.is_of_file.Tie as tie
 
@@ -24,7 +24,7 @@ is-empty-requires : tie.Need-is-empty-requires
 is-empty-requires c κs = search needs
 
 returns : tie.Need-returns
-unfolding fileAt
+unfolding heldOf
 returns c = rw (sym (blank (c .before)) ∙ c .if1 .taken)
 
 stored-requires : tie.Need-stored-requires
@@ -34,7 +34,7 @@ same-file-requires : tie.Need-same-file-requires
 same-file-requires c κs = search needs
 
 returns-2 : tie.Need-returns-2
-unfolding fileAt
+unfolding heldOf
 returns-2 c =
     let f = c .before .before .before .before .before .before .before .before .args .file in
     and-last (ap not (sym (blank (c .before .before .before .before)) ∙ c .before .before .before .if1 .left))
