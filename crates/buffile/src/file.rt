@@ -24,11 +24,11 @@ use bufmodel::refusal::FILE_PINNED;
 use bufmodel::refusal::NO_FILE;
 use bufmoves::exchange::release_buffer;
 use bufrows::rows::Row;
+use bufrows::rows::block_place;
 use bufrows::rows::blocks_at;
 use bufrows::rows::capacity_at;
 use bufrows::rows::find_row;
 use bufrows::rows::set_blocks;
-use bufrows::rows::start_of;
 use bufstate::state::state_of;
 use buftag::name::FileName;
 use buftag::name::same_file;
@@ -90,7 +90,7 @@ pub fn extend_file(
     }
     clear_block(
         store,
-        start_of(rows, row) as usize + blocks as usize,
+        block_place(rows, row, BlockNumber(blocks)),
         control.size,
     );
     set_blocks(rows, row, blocks + 1);

@@ -119,16 +119,9 @@ returns-3 c =
     (extend-full m (file k) (good (passed k)) (row-is k)
     (sym (c .before .before .before .blocks-at .ensures) ∙ c .if2 .taken ∙ c .before .capacity-at .ensures))
 
-start-of-requires : tie.Need-start-of-requires
-start-of-requires c κs =
-    let f = fits (c .before .before .before .before .before .before .before) in (omega (arith, f .0), f .1)
-
-cast-clear-block : tie.Need-cast-clear-block
-cast-clear-block c = search needs
-
-add-clear-block : tie.Need-add-clear-block
-add-clear-block c =
-    let b = c .before .before .before in omega (arith, c .start-of .ensures, fits (rowed b) .2, b .before .before .before .blocks-at .ok)
+block-place-requires : tie.Need-block-place-requires
+block-place-requires c κs =
+    let f = fits (c .before .before .before .before .before .before .before) in (omega (arith, f .0), f .1, f .2)
 
 clear-block-requires : tie.Need-clear-block-requires
 clear-block-requires c κs =
@@ -137,8 +130,8 @@ clear-block-requires c κs =
     let m = lent (start (passed k)) in
     let g = good (passed k) in
     let n = b .before .before .before .blocks-at in
-    block-in (size m) (storeBlocks (m .rows)) (c .start-of .result + n .result) (m .store) (g .sizes .store)
-    (omega (arith, c .start-of .ensures, n .ensures, next-in m (file k) g (row-is k) (room b)))
+    block-in (size m) (storeBlocks (m .rows)) (c .block-place .result) (m .store) (g .sizes .store)
+    (omega (arith, c .block-place .ensures, n .ensures, next-in m (file k) g (row-is k) (room b)))
 
 add-set-blocks : tie.Need-add-set-blocks
 add-set-blocks c =
@@ -168,10 +161,10 @@ returns-4 c =
     let k = rowed b in
     let m = lent (start (passed k)) in
     let n = b .before .before .before .blocks-at in
-    let at = c .before .before .before .before .before .before .before .start-of .ensures in
+    let at = c .before .before .before .before .before .before .before .block-place .ensures in
     extended-more m (file k) (good (passed k)) (row-is k) (room b) (n .ensures) (c .before .before .set-blocks .ensures)
     (c .before .before .before .before .before .before .clear-block .ensures
-    ∙ ap (λ (s : ℕ). putBlock (size m) (s + n .result) (replicate (size m) 0) (m .store)) at)
+    ∙ ap (λ (s : ℕ). putBlock (size m) s (replicate (size m) 0) (m .store)) at)
 
 pub extend-file-spec : {M : Type 1} → statement M
 extend-file-spec =
@@ -192,9 +185,7 @@ extend-file-spec =
     same-length-5
     same-length-6
     returns-3
-    start-of-requires
-    cast-clear-block
-    add-clear-block
+    block-place-requires
     clear-block-requires
     add-set-blocks
     set-blocks-requires
