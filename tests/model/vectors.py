@@ -25,7 +25,7 @@ AFTER_SET_UP = [
     3087, 3379, 3748, 3949, 3999, 4111, 4148, 4230, 4301, 4302, 4482, 4488, 4527, 4605, 4823, 4996, 5024, 5028, 5078, 5271, 5394, 5466,
     5656, 5671, 5937]
 FROM_SOUND = [29, 30, 122, 123, 135, 168, 226, 280, 316, 360, 392, 461, 494, 503, 721, 724]
-BELOW = ['laws', 'buftag', 'bufmodel', 'shelf']
+BELOW = ['laws', 'bufhash', 'buftag', 'bufmodel', 'shelf']
 
 HEAD = '''-- Written by tests/model/vectors.py.
 use Prim.Native.Nat.{ℕ}
