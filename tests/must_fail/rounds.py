@@ -1,7 +1,7 @@
-"""rounds.py ROOM [CRATE..]: tries crates/CRATE/must-fail/FUNCTION/*.edit, in rounds: in each, one edit of every function of the crate.
+"""rounds.py ROOM EDITS [CRATE..]: tries EDITS/CRATE/must-fail/FUNCTION/*.edit, in rounds: in each, one edit of every function of a crate.
 
 A function's proof rests on the contracts of what it calls and not on their code, so the edits of a round are independent: each edited
-function must be refused for a fact of its own. Prints a line for each edit and 'N passed, M failed'."""
+function must be refused for a fact of its own. Prints a line for each edit, one for each crate, and 'N passed, M failed'."""
 import concurrent.futures
 import glob
 import itertools
@@ -40,13 +40,13 @@ def reached(name, below):
 class Function:
     """A function of a crate: where its code and its proof stand."""
 
-    def __init__(self, crate, path, text, head):
+    def __init__(self, folder, crate, path, text, head):
         self.crate, self.name, self.public = crate, head.group(2), bool(head.group(1))
-        self.path, self.text, self.file = path, text, os.path.relpath(path, 'crates/' + crate)
+        self.text, self.file = text, os.path.relpath(path, 'crates/' + crate)
         self.module = self.file[len('src/'):-len('.rt')]
         body = text.index('\n{', head.end())
         self.contract, self.body = range(head.end(), body), range(body, text.index('\n}', body))
-        self.edits = sorted(glob.glob('crates/%s/must-fail/%s/*.edit' % (crate, self.name)))
+        self.edits = sorted(glob.glob('%s/%s/must-fail/%s/*.edit' % (folder, crate, self.name)))
 
     def places(self, edit):
         """Where an edit changes the function: its body, or the contract of one that no other calls; and imports."""
@@ -75,19 +75,23 @@ class Function:
             proof = re.escape('/proofs/%s/%s/Proof.antt:' % (self.module, self.name))
             for line in re.findall('^.*%s.*: error: .*' % proof, said, re.M):
                 if 'was not admitted' not in line:
-                    # a need without a name: the proof does not fit the code, and nothing is shown
-                    return None if 'that can be named from here' in line else line[line.index('/proofs/') + 1:]
+                    return None if self.misfit(line) else line[line.index('/proofs/') + 1:]
             return None
         line = re.search('^fn .*::%s: no proof: .*`search` does not close .*' % self.name, said, re.M)
         return line and line.group()[line.group().index('`search`'):]
 
+    def misfit(self, line):
+        """An error that only says that the proof was written for other code: a name that is gone, facts that are more or fewer."""
+        return 'that can be named from here' in line or ': error: `%s-spec`: ' % self.name.replace('_', '-') in line
 
-def functions(crate):
+
+def functions(folder, crate):
+    """The functions of a crate by their names."""
     found = {}
     for path in sorted(glob.glob('crates/%s/src/**/*.rt' % crate, recursive=True)):
         text = open(path, encoding='utf8').read()
         for head in HEAD.finditer(text):
-            found[head.group(2)] = Function(crate, path, text, head)
+            found[head.group(2)] = Function(folder, crate, path, text, head)
     return found
 
 
@@ -97,14 +101,13 @@ def rounds(found):
     return [[(function, function.edits[turn]) for function in found.values() if turn < len(function.edits)] for turn in range(count)]
 
 
-def named(crate, found):
-    """A line for each public function, after '+' if it has two edits or more; and one for a folder that is no function's."""
-    for name, function in found.items():
-        if function.public:
-            yield '%s%s: two wrong answers or more are named for %s' % ('+' if len(function.edits) >= 2 else '-', crate, name)
-    for folder in glob.glob('crates/%s/must-fail/*/' % crate):
-        if os.path.basename(folder[:-1]) not in found:
-            yield '-%s: there is no such function' % folder
+def named(folder, crate, found):
+    """A line on the crate: whether each public function has two edits, and each folder of edits is a function's."""
+    few = [name for name, function in found.items() if function.public and len(function.edits) < 2]
+    stray = [name for name in map(os.path.basename, glob.glob('%s/%s/must-fail/*' % (folder, crate)))
+             if name not in found and not name.endswith('.edit')]
+    yield '%s%s: each public function has two edits%s' % ('-' if few or stray else '+', crate, ''.join('; not ' + name for name in few) +
+                                                          ''.join('; no function: ' + name for name in stray))
 
 
 def prepare(room, crate, below):
@@ -149,14 +152,14 @@ def attempt(room, crate, tried, below):
 
 
 def main():
-    room, wanted, below = sys.argv[1], sys.argv[2:], crates()
+    room, folder, wanted, below = sys.argv[1], sys.argv[2], sys.argv[3:], crates()
     # crates at the end of the list take longest
-    found = {crate: functions(crate) for crate in reversed(wanted or list(below))}
+    found = {crate: functions(folder, crate) for crate in reversed(wanted or list(below))}
     tasks = [('%s/%s.%d' % (room, crate, turn), crate, tried, below) for crate in found for turn, tried in enumerate(rounds(found[crate]))]
     passed = failed = 0
     with concurrent.futures.ThreadPoolExecutor(os.cpu_count()) as pool:
         checked = pool.map(lambda task: attempt(*task), tasks)
-        for told in itertools.chain((named(crate, found[crate]) for crate in found), checked):
+        for told in itertools.chain((named(folder, crate, found[crate]) for crate in found), checked):
             for line in told:
                 print(('passed: ' if line[0] == '+' else 'FAILED: ') + line[1:], flush=True)
                 passed, failed = passed + (line[0] == '+'), failed + (line[0] != '+')
