@@ -82,7 +82,8 @@ class Function:
 
     def misfit(self, line):
         """An error that only says that the proof was written for other code: a name that is gone, facts that are more or fewer."""
-        return 'that can be named from here' in line or ': error: `%s-spec`: ' % self.name.replace('_', '-') in line
+        gone = 'that can be named from here' in line or ' has no field ' in line
+        return gone or ': error: `%s-spec`: ' % self.name.replace('_', '-') in line
 
 
 def functions(folder, crate):
