@@ -144,7 +144,7 @@ def attempt(room, crate, tried, below):
     # a function that was not changed is proved, or waits for one that it calls
     for line in re.findall(r'^fn .*', said, re.M):
         name = re.match(r'fn (?:\w+::)*(\w+): ', line).group(1)
-        if name not in changed and not re.search(': (proved$|not proved; it calls )', line):
+        if name not in changed and not re.search(r': proved$|: not proved; it calls |: no proof: expected [^;]*; it calls ', line):
             told.append('-%s: changed by no edit of the round: %s' % (crate, line))
     for function, path in fitting:
         fact = function.refusal(said)
