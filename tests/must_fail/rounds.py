@@ -102,9 +102,14 @@ def rounds(found):
     return [[(function, function.edits[turn]) for function in found.values() if turn < len(function.edits)] for turn in range(count)]
 
 
+def shared(folder, name):
+    """The edits of the export that hands on to a call over lent memory: the two have one contract."""
+    return glob.glob('%s/bufpool/must-fail/%s/*.edit' % (folder, name.replace('lent_', 'bufpool_', 1))) if name.startswith('lent_') else []
+
+
 def named(folder, crate, found):
     """A line on the crate: whether each public function has two edits, and each folder of edits is a function's."""
-    few = [name for name, function in found.items() if function.public and len(function.edits) < 2]
+    few = [name for name, function in found.items() if function.public and len(function.edits + shared(folder, name)) < 2]
     stray = [name for name in map(os.path.basename, glob.glob('%s/%s/must-fail/*' % (folder, crate)))
              if name not in found and not name.endswith('.edit')]
     yield '%s%s: each public function has two edits%s' % ('-' if few or stray else '+', crate, ''.join('; not ' + name for name in few) +
