@@ -92,6 +92,8 @@ def functions(folder, crate):
     for path in sorted(glob.glob('crates/%s/src/**/*.rt' % crate, recursive=True)):
         text = open(path, encoding='utf8').read()
         for head in HEAD.finditer(text):
+            if head.group(2) in found:
+                raise ValueError('crates/%s has two functions %s, and a folder of edits names one' % (crate, head.group(2)))
             found[head.group(2)] = Function(folder, crate, path, text, head)
     return found
 
@@ -102,14 +104,9 @@ def rounds(found):
     return [[(function, function.edits[turn]) for function in found.values() if turn < len(function.edits)] for turn in range(count)]
 
 
-def shared(folder, name):
-    """The edits of the export that hands on to a call over lent memory: the two have one contract."""
-    return glob.glob('%s/bufpool/must-fail/%s/*.edit' % (folder, name.replace('lent_', 'bufpool_', 1))) if name.startswith('lent_') else []
-
-
 def named(folder, crate, found):
     """A line on the crate: whether each public function has two edits, and each folder of edits is a function's."""
-    few = [name for name, function in found.items() if function.public and len(function.edits + shared(folder, name)) < 2]
+    few = [name for name, function in found.items() if function.public and len(function.edits) < 2]
     stray = [name for name in map(os.path.basename, glob.glob('%s/%s/must-fail/*' % (folder, crate)))
              if name not in found and not name.endswith('.edit')]
     yield '%s%s: each public function has two edits%s' % ('-' if few or stray else '+', crate, ''.join('; not ' + name for name in few) +
