@@ -24,7 +24,7 @@ use Rattle.bufmodel.proofs.SizesLaws.{rows-say, sizes-say, sized-page}
 use Rattle.bufmodel.proofs.BooksLaws.{books-say}
 use Rattle.bufmodel.proofs.GoodLaws.{Good, good-sized, good-sound}
 use Rattle.bufmodel.proofs.OutcomeLaws.{refusal-past, refusal-at, refusal-none, outcome-number}
-use Rattle.bufscan.specs.Buffers.{Fitting}
+use Rattle.bufbooks.specs.Buffers.{Fitting}
 use Rattle.bufbooks.specs.Lent.{topRead, controlRead, check}
 
 -- ---- the two places

@@ -1,1 +1,5 @@
+pub mod SizesLaws
+pub mod GuessesLaws
+pub mod BuffersLaws
+pub mod BooksLaws
 pub mod LentLaws

@@ -7,11 +7,11 @@ ghost use Rattle.bufmodel.specs.Memory.{memory};
 ghost use Rattle.bufmodel.specs.Lent.{controlWords};
 ghost use Rattle.bufmodel.specs.Outcome.{checked};
 ghost use Rattle.bufbooks.specs.Lent.{topRead, controlRead};
+use crate::books::books_ok;
+use crate::sizes::sizes_ok;
 use bufmodel::control::Control;
 use bufmodel::refusal::BOOKS;
 use bufmodel::refusal::SIZES;
-use bufsizes::sizes::sizes_ok;
-use bufsound::books::books_ok;
 use buftag::link::NONE;
 
 pub const CONTROL_WORDS: usize = 5;

@@ -1,1 +1,5 @@
-pub mod CallLaws
+pub mod BufferLaws
+pub mod FlushLaws
+pub mod CheckpointLaws
+pub mod PeekLaws
+pub mod FileLaws

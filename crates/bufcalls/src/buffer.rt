@@ -14,6 +14,15 @@ ghost use Rattle.bufmodel.specs.Outcome.{place, refusalOf, checked};
 ghost use Rattle.bufmodel.specs.Answer.{acceptedAt};
 ghost use Rattle.bufmodel.specs.Calls.{bufferPlaces, unpin, read, write};
 use bufbooks::lent::refusal;
+use bufmem::page::page_position;
+use bufmem::page::read_page;
+use bufmem::page::write_page;
+use bufmem::state::is_buffer;
+use bufmem::state::put_state;
+use bufmem::state::state_of;
+use bufmem::word::is_pinned;
+use bufmem::word::make_dirty;
+use bufmem::word::pin_less;
 use bufmodel::answer::Accepted;
 use bufmodel::control::Control;
 use bufmodel::refusal::EARLIER;
@@ -22,16 +31,7 @@ use bufmodel::refusal::NO_BYTES;
 use bufmodel::refusal::NOT_INSERTED;
 use bufmodel::refusal::NOT_PINNED;
 use bufmodel::refusal::RANGE;
-use bufpage::page::page_position;
-use bufpage::page::read_page;
-use bufpage::page::write_page;
-use bufstate::state::is_buffer;
-use bufstate::state::put_state;
-use bufstate::state::state_of;
 use buftag::number::BufferNumber;
-use bufword::word::is_pinned;
-use bufword::word::make_dirty;
-use bufword::word::pin_less;
 
 // The places 1, 2, 7 and 8: 0 if none refuses.
 pub fn buffer_refusal(

@@ -5,10 +5,10 @@ ghost use mathlib.Core.List.{[]};
 ghost use Rattle.bufmodel.specs.Memory.{memory};
 ghost use Rattle.bufmodel.specs.Answer.{acceptedAt};
 ghost use Rattle.bufmodel.specs.Calls.{logInserted, logFlushed};
+use bufcalls::log::log_flushed;
+use bufcalls::log::log_inserted;
 use bufmodel::answer::Accepted;
 use bufmodel::control::Control;
-use bufstart::log::log_flushed;
-use bufstart::log::log_inserted;
 
 // The log is inserted up to a position.
 pub fn log_inserted_to(

@@ -1,5 +1,4 @@
 -- Laws of the pool's definitions, each module after those that it uses.
-
 -- parts of a memory: places and outcomes, positions, rows, words
 pub mod OutcomeLaws
 pub mod PositionLaws

@@ -1,2 +1,4 @@
+pub mod SweepLaws
+pub mod BackLaws
 pub mod ExchangeLaws
 pub mod WholeLaws

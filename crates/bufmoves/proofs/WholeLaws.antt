@@ -18,7 +18,7 @@ use Rattle.bufmodel.proofs.SizesLaws.{rows-say, sized-page}
 use Rattle.bufmodel.proofs.RowsLaws.{place-in}
 use Rattle.bufmodel.proofs.HeldLaws.{full-used}
 use Rattle.bufmodel.proofs.GoodLaws.{Good}
-use Rattle.bufback.specs.Back.{Backed}
+use Rattle.bufmoves.specs.Back.{Backed}
 use Rattle.bufmoves.specs.Exchange.{Within, Chained, Lodged}
 
 -- ---- the parts that are lent

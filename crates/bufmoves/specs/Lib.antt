@@ -1,2 +1,4 @@
+pub mod Sweep
+pub mod Back
 pub mod Exchange
 pub mod Free

@@ -7,9 +7,10 @@ ghost use Rattle.bufmodel.specs.Moves.{release, loadAt};
 ghost use Rattle.bufmoves.specs.Exchange.{Chained, Lodged};
 use crate::free::pop_free;
 use crate::free::push_free;
+use bufmem::page::page_from_store;
+use bufmem::state::put_state;
+use bufmem::word::loaded_word;
 use bufmodel::control::Control;
-use bufpage::page::page_from_store;
-use bufstate::state::put_state;
 use buftag::chain::insert;
 use buftag::chain::remove;
 use buftag::name::PageName;
@@ -17,7 +18,6 @@ use buftag::names::no_name;
 use buftag::names::put_name;
 use buftag::names::stored;
 use buftag::number::BufferNumber;
-use bufword::word::loaded_word;
 
 // A buffer gives up its page: it leaves its chain, has a name of zeros and word 0, and is put on top of the free list.
 pub fn release_buffer(

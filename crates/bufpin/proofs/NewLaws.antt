@@ -22,7 +22,7 @@ use Rattle.bufmodel.specs.Pin.{pinFree, pinSwept, pinNew}
 use Rattle.bufmodel.proofs.GoodLaws.{Good}
 use Rattle.bufmodel.proofs.FreeListLaws.{top-none}
 use Rattle.bufmodel.proofs.LoadLaws.{load-is}
-use Rattle.bufvictim.specs.Victim.{loadedAt}
+use Rattle.bufpin.specs.Victim.{loadedAt}
 
 -- the free list is empty where its top leads to no buffer
 pub top-ends : (m : Memory) → Good m → (l : Link) → l ≡ linkOf (m .control .top) → OneOf (1 ∷ 2 ∷ 3 ∷ []) (tagOf the-type l)

@@ -27,11 +27,11 @@ use Rattle.bufmodel.proofs.GoodLaws.{Good, checked-good, checked-early}
 use Rattle.bufmodel.proofs.AnswerLaws.{end-at, pinned-refused}
 use Rattle.bufmodel.proofs.HeldLaws.{pinned-full}
 use Rattle.bufmodel.proofs.FreeListLaws.{top-full}
-use Rattle.bufpeek.specs.declared.name.Sought as name
-use Rattle.bufpeek.specs.Name.{sought}
-use Rattle.bufpeek.proofs.NameLaws.{name-refused, name-at}
+use Rattle.bufmem.specs.declared.name.Sought as name
+use Rattle.bufmem.specs.Name.{sought}
+use Rattle.bufmem.proofs.NameLaws.{name-refused, name-at}
 use Rattle.bufpin.specs.Pin.{heldAt, heldWords}
-use Rattle.bufvictim.proofs.SweptLaws.{swept-stuck}
+use Rattle.bufpin.proofs.SweptLaws.{swept-stuck}
 use Rattle.bufpin.proofs.NewLaws.{new-swept}
 
 -- ---- the pin

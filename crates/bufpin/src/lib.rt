@@ -1,3 +1,5 @@
 // Pin, by value. It checks first, in the table's order, and changes nothing where it refuses.
 
+pub mod ends;
 pub mod pin;
+pub mod victim;

@@ -14,27 +14,27 @@ ghost use Rattle.bufmodel.specs.Books.{sound};
 ghost use Rattle.bufmodel.specs.Answer.{pinnedAt};
 ghost use Rattle.bufmodel.specs.Pin.{pinNew, pin};
 ghost use Rattle.bufpin.specs.Pin.{heldAt, heldWords};
+use crate::ends::PinEnd;
+use crate::ends::pin_refused;
+use crate::victim::pin_swept;
 use bufbooks::lent::refusal;
+use bufmem::name::Sought;
+use bufmem::name::seek;
+use bufmem::state::put_state;
+use bufmem::state::state_of;
+use bufmem::word::MAX_PINS;
+use bufmem::word::pin_more;
+use bufmem::word::pins_of;
 use bufmodel::answer::Pinned;
 use bufmodel::control::Control;
 use bufmodel::refusal::PIN_COUNT;
 use bufmoves::exchange::load_page;
-use bufpeek::name::Sought;
-use bufpeek::name::seek;
-use bufstate::state::put_state;
-use bufstate::state::state_of;
 use buftag::link::Link;
 use buftag::link::read_link;
 use buftag::lookup::Held;
 use buftag::lookup::look_up;
 use buftag::name::PageName;
 use buftag::number::BufferNumber;
-use bufvictim::ends::PinEnd;
-use bufvictim::ends::refused;
-use bufvictim::victim::pin_swept;
-use bufword::word::MAX_PINS;
-use bufword::word::pin_more;
-use bufword::word::pins_of;
 
 // A page that is not held comes into the top of the free list, or into a victim.
 fn pin_new(
@@ -120,7 +120,7 @@ fn pin_held(control: Control, states: &mut [u32], buffer: BufferNumber) -> PinEn
 {
     let w = state_of(states, buffer);
     if pins_of(w) == MAX_PINS {
-        return refused(control, PIN_COUNT);
+        return pin_refused(control, PIN_COUNT);
     }
     put_state(states, buffer, pin_more(w));
     PinEnd {
@@ -174,11 +174,11 @@ pub fn pin_page(
         store,
     );
     if k != 0 {
-        return refused(control, k);
+        return pin_refused(control, k);
     }
     let sought = seek(rows, name);
     match sought {
-        Sought::Refused(n) => refused(control, n),
+        Sought::Refused(n) => pin_refused(control, n),
         Sought::At(g) => {
             let Held::At(buffer) = look_up(heads, chain, names, name) else {
                 return pin_new(

@@ -1,0 +1,3 @@
+pub mod WordsLaws
+pub mod ExportLaws
+pub mod CallLaws

@@ -1,12 +1,20 @@
-// Write-back, for C: flush and checkpoint.
+// Flush and checkpoint.
 
 ghost use mathlib.Core.Path.{_≡_};
 ghost use mathlib.Core.List.{[]};
 ghost use Rattle.bufmodel.specs.Lent.{called};
-ghost use Rattle.lentwords.specs.Lent.{lent, ends};
+ghost use Rattle.bufpool.specs.Lent.{lent, ends};
 ghost use Rattle.bufmodel.specs.Calls.{flush, checkpoint};
-use lentback::back::lent_checkpoint;
-use lentback::back::lent_flush;
+use crate::answer::put_written;
+use crate::answer::refuse;
+use crate::control::keep_control;
+use bufbooks::lent::ANSWER_WORDS;
+use bufbooks::lent::CONTROL_WORDS;
+use bufbooks::lent::read_control;
+use bufcalls::checkpoint::checkpoint_pool;
+use bufcalls::flush::flush_buffer;
+use bufmodel::refusal::SIZES;
+use buftag::number::BufferNumber;
 
 // Writes a pinned page back if it is dirty: answers how many were written.
 #[no_mangle]
@@ -31,8 +39,14 @@ pub extern "C" fn bufpool_flush(
         (lent (now (control .entry)) (now (states .entry)) (now (names .entry)) (now (pool .entry)) (now (free .entry))
         (now (heads .entry)) (now (chain .entry)) (now (rows .entry)) (now (store .entry))) [] (now (answer .entry)) ⌝ }
 {
-    lent_flush(
-        control,
+    if answer.len() != ANSWER_WORDS {
+        return SIZES;
+    }
+    if control.len() != CONTROL_WORDS {
+        return refuse(answer);
+    }
+    let end = flush_buffer(
+        read_control(control),
         states,
         names,
         pool,
@@ -41,9 +55,12 @@ pub extern "C" fn bufpool_flush(
         chain,
         rows,
         store,
-        buffer,
-        answer,
-    )
+        BufferNumber(buffer as usize),
+    );
+    let answered = end.answer;
+    let r = put_written(answer, answered);
+    keep_control(control, end.control, r);
+    r
 }
 
 // Writes every dirty page back: answers how many were written.
@@ -68,8 +85,14 @@ pub extern "C" fn bufpool_checkpoint(
         (lent (now (control .entry)) (now (states .entry)) (now (names .entry)) (now (pool .entry)) (now (free .entry))
         (now (heads .entry)) (now (chain .entry)) (now (rows .entry)) (now (store .entry))) [] (now (answer .entry)) ⌝ }
 {
-    lent_checkpoint(
-        control,
+    if answer.len() != ANSWER_WORDS {
+        return SIZES;
+    }
+    if control.len() != CONTROL_WORDS {
+        return refuse(answer);
+    }
+    let end = checkpoint_pool(
+        read_control(control),
         states,
         names,
         pool,
@@ -78,6 +101,9 @@ pub extern "C" fn bufpool_checkpoint(
         chain,
         rows,
         store,
-        answer,
-    )
+    );
+    let answered = end.answer;
+    let r = put_written(answer, answered);
+    keep_control(control, end.control, r);
+    r
 }

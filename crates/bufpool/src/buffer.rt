@@ -1,13 +1,20 @@
-// Calls on a pinned buffer, for C: unpin, read and write.
+// Unpin, read and write.
 
 ghost use mathlib.Core.Path.{_≡_};
 ghost use mathlib.Core.List.{[]};
 ghost use Rattle.bufmodel.specs.Lent.{called};
-ghost use Rattle.lentwords.specs.Lent.{lent, ends};
+ghost use Rattle.bufpool.specs.Lent.{lent, ends};
 ghost use Rattle.bufmodel.specs.Calls.{unpin, read, write};
-use lentbuffer::buffer::lent_read;
-use lentbuffer::buffer::lent_unpin;
-use lentbuffer::buffer::lent_write;
+use crate::answer::put_accepted;
+use crate::answer::refuse;
+use bufbooks::lent::ANSWER_WORDS;
+use bufbooks::lent::CONTROL_WORDS;
+use bufbooks::lent::read_control;
+use bufcalls::buffer::read_buffer;
+use bufcalls::buffer::unpin_buffer;
+use bufcalls::buffer::write_buffer;
+use bufmodel::refusal::SIZES;
+use buftag::number::BufferNumber;
 
 // Gives back one pin.
 #[no_mangle]
@@ -32,8 +39,14 @@ pub extern "C" fn bufpool_unpin(
         (lent (now (control .entry)) (now (states .entry)) (now (names .entry)) (now (pool .entry)) (now (free .entry))
         (now (heads .entry)) (now (chain .entry)) (now (rows .entry)) (now (store .entry))) [] (now (answer .entry)) ⌝ }
 {
-    lent_unpin(
-        control,
+    if answer.len() != ANSWER_WORDS {
+        return SIZES;
+    }
+    if control.len() != CONTROL_WORDS {
+        return refuse(answer);
+    }
+    let answered = unpin_buffer(
+        read_control(control),
         states,
         names,
         pool,
@@ -42,9 +55,9 @@ pub extern "C" fn bufpool_unpin(
         chain,
         rows,
         store,
-        buffer,
-        answer,
-    )
+        BufferNumber(buffer as usize),
+    );
+    put_accepted(answer, answered)
 }
 
 // Fills `out` from a pinned page.
@@ -72,8 +85,14 @@ pub extern "C" fn bufpool_read(
         (lent (now (control .entry)) (now (states .entry)) (now (names .entry)) (now (pool .entry)) (now (free .entry))
         (now (heads .entry)) (now (chain .entry)) (now (rows .entry)) (now (store .entry))) (now (out .entry)) (now (answer .entry)) ⌝ }
 {
-    lent_read(
-        control,
+    if answer.len() != ANSWER_WORDS {
+        return SIZES;
+    }
+    if control.len() != CONTROL_WORDS {
+        return refuse(answer);
+    }
+    let answered = read_buffer(
+        read_control(control),
         states,
         names,
         pool,
@@ -82,11 +101,11 @@ pub extern "C" fn bufpool_read(
         chain,
         rows,
         store,
-        buffer,
-        from,
+        BufferNumber(buffer as usize),
+        from as usize,
         out,
-        answer,
-    )
+    );
+    put_accepted(answer, answered)
 }
 
 // Writes bytes into a pinned page, with their log position.
@@ -115,8 +134,14 @@ pub extern "C" fn bufpool_write(
         (lent (now (control .entry)) (now (states .entry)) (now (names .entry)) (now (pool .entry)) (now (free .entry))
         (now (heads .entry)) (now (chain .entry)) (now (rows .entry)) (now (store .entry))) (now (bytes .entry)) (now (answer .entry)) ⌝ }
 {
-    lent_write(
-        control,
+    if answer.len() != ANSWER_WORDS {
+        return SIZES;
+    }
+    if control.len() != CONTROL_WORDS {
+        return refuse(answer);
+    }
+    let answered = write_buffer(
+        read_control(control),
         states,
         names,
         pool,
@@ -125,10 +150,10 @@ pub extern "C" fn bufpool_write(
         chain,
         rows,
         store,
-        buffer,
-        from,
+        BufferNumber(buffer as usize),
+        from as usize,
         bytes,
         position,
-        answer,
-    )
+    );
+    put_accepted(answer, answered)
 }

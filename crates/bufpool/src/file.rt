@@ -1,13 +1,22 @@
-// Calls on a file, for C: extend and drop.
+// Extend and drop.
 
 ghost use mathlib.Core.Path.{_≡_};
 ghost use mathlib.Core.List.{[]};
 ghost use Rattle.buftag.specs.Name.{fileOf};
 ghost use Rattle.bufmodel.specs.Lent.{called};
-ghost use Rattle.lentwords.specs.Lent.{lent, ends};
+ghost use Rattle.bufpool.specs.Lent.{lent, ends};
 ghost use Rattle.bufmodel.specs.Calls.{extend, dropFile};
-use lentfile::file::lent_drop;
-use lentfile::file::lent_extend;
+use crate::answer::put_accepted;
+use crate::answer::put_extended;
+use crate::answer::refuse;
+use crate::control::keep_control;
+use bufbooks::lent::ANSWER_WORDS;
+use bufbooks::lent::CONTROL_WORDS;
+use bufbooks::lent::read_control;
+use bufcalls::file::drop_file;
+use bufcalls::file::extend_file;
+use bufmodel::refusal::SIZES;
+use buftag::name::file_name;
 
 // Gives a file its next block, of zeros: answers its number.
 #[no_mangle]
@@ -35,8 +44,15 @@ pub extern "C" fn bufpool_extend(
         (lent (now (control .entry)) (now (states .entry)) (now (names .entry)) (now (pool .entry)) (now (free .entry))
         (now (heads .entry)) (now (chain .entry)) (now (rows .entry)) (now (store .entry))) [] (now (answer .entry)) ⌝ }
 {
-    lent_extend(
-        control,
+    if answer.len() != ANSWER_WORDS {
+        return SIZES;
+    }
+    if control.len() != CONTROL_WORDS {
+        return refuse(answer);
+    }
+    let file = file_name(tablespace, database, relation, fork);
+    let answered = extend_file(
+        read_control(control),
         states,
         names,
         pool,
@@ -45,12 +61,9 @@ pub extern "C" fn bufpool_extend(
         chain,
         rows,
         store,
-        tablespace,
-        database,
-        relation,
-        fork,
-        answer,
-    )
+        file,
+    );
+    put_extended(answer, answered)
 }
 
 // Empties a file's buffers and takes its blocks.
@@ -79,8 +92,15 @@ pub extern "C" fn bufpool_drop(
         (lent (now (control .entry)) (now (states .entry)) (now (names .entry)) (now (pool .entry)) (now (free .entry))
         (now (heads .entry)) (now (chain .entry)) (now (rows .entry)) (now (store .entry))) [] (now (answer .entry)) ⌝ }
 {
-    lent_drop(
-        control,
+    if answer.len() != ANSWER_WORDS {
+        return SIZES;
+    }
+    if control.len() != CONTROL_WORDS {
+        return refuse(answer);
+    }
+    let file = file_name(tablespace, database, relation, fork);
+    let end = drop_file(
+        read_control(control),
         states,
         names,
         pool,
@@ -89,10 +109,10 @@ pub extern "C" fn bufpool_drop(
         chain,
         rows,
         store,
-        tablespace,
-        database,
-        relation,
-        fork,
-        answer,
-    )
+        file,
+    );
+    let answered = end.answer;
+    let r = put_accepted(answer, answered);
+    keep_control(control, end.control, r);
+    r
 }

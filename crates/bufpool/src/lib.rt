@@ -1,7 +1,9 @@
-// The pool for programs in C: the twelve calls over lent memory, each handed on to the crate that has it.
+// The pool for programs in C: the twelve calls over lent memory.
 
+pub mod answer;
 pub mod back;
 pub mod buffer;
+pub mod control;
 pub mod file;
 pub mod log;
 pub mod page;

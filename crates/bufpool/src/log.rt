@@ -1,12 +1,19 @@
-// The log positions, for C.
+// The log positions.
 
 ghost use mathlib.Core.Path.{_≡_};
 ghost use mathlib.Core.List.{[]};
 ghost use Rattle.bufmodel.specs.Lent.{called};
-ghost use Rattle.lentwords.specs.Lent.{lent, ends};
+ghost use Rattle.bufpool.specs.Lent.{lent, ends};
 ghost use Rattle.bufmodel.specs.Calls.{logInserted, logFlushed};
-use lentstart::log::lent_log_flushed;
-use lentstart::log::lent_log_inserted;
+use crate::answer::put_accepted;
+use crate::answer::refuse;
+use crate::control::keep_control;
+use bufbooks::lent::ANSWER_WORDS;
+use bufbooks::lent::CONTROL_WORDS;
+use bufbooks::lent::read_control;
+use bufcalls::log::log_flushed;
+use bufcalls::log::log_inserted;
+use bufmodel::refusal::SIZES;
 
 // The log is inserted up to a position.
 #[no_mangle]
@@ -31,8 +38,14 @@ pub extern "C" fn bufpool_log_inserted(
         (lent (now (control .entry)) (now (states .entry)) (now (names .entry)) (now (pool .entry)) (now (free .entry))
         (now (heads .entry)) (now (chain .entry)) (now (rows .entry)) (now (store .entry))) [] (now (answer .entry)) ⌝ }
 {
-    lent_log_inserted(
-        control,
+    if answer.len() != ANSWER_WORDS {
+        return SIZES;
+    }
+    if control.len() != CONTROL_WORDS {
+        return refuse(answer);
+    }
+    let end = log_inserted(
+        read_control(control),
         states,
         names,
         pool,
@@ -42,8 +55,11 @@ pub extern "C" fn bufpool_log_inserted(
         rows,
         store,
         position,
-        answer,
-    )
+    );
+    let answered = end.answer;
+    let r = put_accepted(answer, answered);
+    keep_control(control, end.control, r);
+    r
 }
 
 // The log is flushed up to a position.
@@ -69,8 +85,14 @@ pub extern "C" fn bufpool_log_flushed(
         (lent (now (control .entry)) (now (states .entry)) (now (names .entry)) (now (pool .entry)) (now (free .entry))
         (now (heads .entry)) (now (chain .entry)) (now (rows .entry)) (now (store .entry))) [] (now (answer .entry)) ⌝ }
 {
-    lent_log_flushed(
-        control,
+    if answer.len() != ANSWER_WORDS {
+        return SIZES;
+    }
+    if control.len() != CONTROL_WORDS {
+        return refuse(answer);
+    }
+    let end = log_flushed(
+        read_control(control),
         states,
         names,
         pool,
@@ -80,6 +102,9 @@ pub extern "C" fn bufpool_log_flushed(
         rows,
         store,
         position,
-        answer,
-    )
+    );
+    let answered = end.answer;
+    let r = put_accepted(answer, answered);
+    keep_control(control, end.control, r);
+    r
 }

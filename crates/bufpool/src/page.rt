@@ -1,14 +1,23 @@
-// Calls on a page, for C: pin and peek.
+// Pin and peek.
 
 ghost use mathlib.Core.Path.{_≡_};
 ghost use mathlib.Core.List.{[]};
 ghost use Rattle.buftag.specs.Name.{nameOf};
 ghost use Rattle.bufmodel.specs.Lent.{called};
-ghost use Rattle.lentwords.specs.Lent.{lent, ends};
+ghost use Rattle.bufpool.specs.Lent.{lent, ends};
 ghost use Rattle.bufmodel.specs.Pin.{pin};
 ghost use Rattle.bufmodel.specs.Calls.{peek};
-use lentpage::page::lent_peek;
-use lentpage::page::lent_pin;
+use crate::answer::put_peeked;
+use crate::answer::put_pinned;
+use crate::answer::refuse;
+use crate::control::keep_control;
+use bufbooks::lent::ANSWER_WORDS;
+use bufbooks::lent::CONTROL_WORDS;
+use bufbooks::lent::read_control;
+use bufcalls::peek::peek_at;
+use bufmodel::refusal::SIZES;
+use bufpin::pin::pin_page;
+use buftag::name::page_name;
 
 // Pins a page: answers its buffer, hit or loaded, whether a page was written back, and the probes.
 #[no_mangle]
@@ -37,8 +46,15 @@ pub extern "C" fn bufpool_pin(
         (lent (now (control .entry)) (now (states .entry)) (now (names .entry)) (now (pool .entry)) (now (free .entry))
         (now (heads .entry)) (now (chain .entry)) (now (rows .entry)) (now (store .entry))) [] (now (answer .entry)) ⌝ }
 {
-    lent_pin(
-        control,
+    if answer.len() != ANSWER_WORDS {
+        return SIZES;
+    }
+    if control.len() != CONTROL_WORDS {
+        return refuse(answer);
+    }
+    let name = page_name(tablespace, database, relation, fork, block);
+    let end = pin_page(
+        read_control(control),
         states,
         names,
         pool,
@@ -47,13 +63,12 @@ pub extern "C" fn bufpool_pin(
         chain,
         rows,
         store,
-        tablespace,
-        database,
-        relation,
-        fork,
-        block,
-        answer,
-    )
+        name,
+    );
+    let answered = end.answer;
+    let r = put_pinned(answer, answered);
+    keep_control(control, end.control, r);
+    r
 }
 
 // Where a page lies: 1 for the pool or 0 for the store, and a byte offset.
@@ -83,8 +98,15 @@ pub extern "C" fn bufpool_peek(
         (lent (now (control .entry)) (now (states .entry)) (now (names .entry)) (now (pool .entry)) (now (free .entry))
         (now (heads .entry)) (now (chain .entry)) (now (rows .entry)) (now (store .entry))) [] (now (answer .entry)) ⌝ }
 {
-    lent_peek(
-        control,
+    if answer.len() != ANSWER_WORDS {
+        return SIZES;
+    }
+    if control.len() != CONTROL_WORDS {
+        return refuse(answer);
+    }
+    let name = page_name(tablespace, database, relation, fork, block);
+    let answered = peek_at(
+        read_control(control),
         states,
         names,
         pool,
@@ -93,11 +115,7 @@ pub extern "C" fn bufpool_peek(
         chain,
         rows,
         store,
-        tablespace,
-        database,
-        relation,
-        fork,
-        block,
-        answer,
-    )
+        name,
+    );
+    put_peeked(answer, answered)
 }

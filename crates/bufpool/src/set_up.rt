@@ -1,11 +1,18 @@
-// Set up, for C.
+// Set up.
 
 ghost use mathlib.Core.Path.{_≡_};
 ghost use mathlib.Core.List.{[]};
 ghost use Rattle.bufmodel.specs.Lent.{called};
-ghost use Rattle.lentwords.specs.Lent.{lent, ends};
+ghost use Rattle.bufpool.specs.Lent.{lent, ends};
 ghost use Rattle.bufmodel.specs.Calls.{setUp};
-use lentstart::set_up::lent_set_up;
+use crate::answer::put_accepted;
+use crate::answer::refuse;
+use crate::control::keep_control;
+use bufbooks::lent::ANSWER_WORDS;
+use bufbooks::lent::CONTROL_WORDS;
+use bufbooks::lent::read_control;
+use bufcalls::set_up::set_up_pool;
+use bufmodel::refusal::SIZES;
 
 // Sets up an empty pool.
 #[no_mangle]
@@ -31,8 +38,14 @@ pub extern "C" fn bufpool_set_up(
         (lent (now (control .entry)) (now (states .entry)) (now (names .entry)) (now (pool .entry)) (now (free .entry))
         (now (heads .entry)) (now (chain .entry)) (now (rows .entry)) (now (store .entry))) [] (now (answer .entry)) ⌝ }
 {
-    lent_set_up(
-        control,
+    if answer.len() != ANSWER_WORDS {
+        return SIZES;
+    }
+    if control.len() != CONTROL_WORDS {
+        return refuse(answer);
+    }
+    let end = set_up_pool(
+        read_control(control),
         states,
         names,
         pool,
@@ -41,8 +54,11 @@ pub extern "C" fn bufpool_set_up(
         chain,
         rows,
         store,
-        page_size,
+        page_size as usize,
         position,
-        answer,
-    )
+    );
+    let answered = end.answer;
+    let r = put_accepted(answer, answered);
+    keep_control(control, end.control, r);
+    r
 }

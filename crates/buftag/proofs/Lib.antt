@@ -12,3 +12,5 @@ pub mod MoveLaws
 pub mod LeaveSteps
 pub mod LeaveLaws
 pub mod TestLaws
+pub mod BudgetLaws
+pub mod CheckLaws

@@ -3,3 +3,5 @@ pub mod Names
 pub mod Link
 pub mod Lookup
 pub mod Chain
+pub mod Budget
+pub mod Check

@@ -1,5 +1,4 @@
 -- The proof of demand 3, each module after those that it uses.
-
 -- the relation between memory and ledger, its laws, and laws of what the ledger is made of
 pub mod Kept
 pub mod KeptLaws

@@ -7,7 +7,7 @@ use Rattle.bufmodel.specs.Word.{pinned}
 use Rattle.bufmodel.specs.Memory.{Memory, memory, buffers, wordOf}
 use Rattle.bufmodel.proofs.GoodLaws.{Good}
 use Rattle.bufmodel.proofs.GoodLaws.{checked-early, passed-good}
-use Rattle.bufcalls.proofs.CallLaws.{buffer-outside, buffer-unpinned, buffer-pinned}
+use Rattle.bufcalls.proofs.BufferLaws.{buffer-outside, buffer-unpinned, buffer-pinned}
 use Rattle.bufcalls.proofs.buffer.buffer_refusal.Statement.{statement}
 use Rattle.bufcalls.proofs.buffer.buffer_refusal.Tie as tie
 

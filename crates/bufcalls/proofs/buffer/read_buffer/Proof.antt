@@ -6,7 +6,7 @@ use native.Mathlib.Omega.{arith}
 use mathlib.Core.Path.{sym, _∙_}
 use Prim.Native.Nat.{ℕ, _+_, _≤_}
 use Rattle.bufmodel.specs.Memory.{Memory, memory}
-use Rattle.bufcalls.proofs.CallLaws.{Held, buffer-held, held-pool, buffer-early, read-refused, read-outside, read-done}
+use Rattle.bufcalls.proofs.BufferLaws.{Held, buffer-held, held-pool, buffer-early, read-refused, read-outside, read-done}
 use Rattle.bufcalls.proofs.buffer.read_buffer.Statement.{statement}
 use Rattle.bufcalls.proofs.buffer.read_buffer.Tie as tie
 

@@ -4,7 +4,7 @@ use mathlib.Core.Path.{ap, _∙_}
 use Prim.Native.Nat.{ℕ}
 use Rattle.bufmodel.specs.Word.{pinned, pinLess}
 use Rattle.bufmodel.specs.Memory.{Memory, memory}
-use Rattle.bufcalls.proofs.CallLaws.{Held, buffer-held, unpin-refused, unpin-done}
+use Rattle.bufcalls.proofs.BufferLaws.{Held, buffer-held, unpin-refused, unpin-done}
 use Rattle.bufcalls.proofs.buffer.unpin_buffer.Statement.{statement}
 use Rattle.bufcalls.proofs.buffer.unpin_buffer.Tie as tie
 

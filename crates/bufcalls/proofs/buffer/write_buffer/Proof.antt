@@ -4,7 +4,7 @@ use mathlib.Core.Path.{ap, _∙_}
 use Prim.Native.Nat.{ℕ}
 use Rattle.bufmodel.specs.Word.{makeDirty}
 use Rattle.bufmodel.specs.Memory.{Memory, memory}
-use Rattle.bufcalls.proofs.CallLaws.{
+use Rattle.bufcalls.proofs.BufferLaws.{
   Held,
   buffer-held,
   held-page,

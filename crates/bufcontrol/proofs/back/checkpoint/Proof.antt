@@ -51,18 +51,18 @@ use Rattle.bufmodel.specs.Answer.{writtenAt}
 use Rattle.bufmodel.specs.Calls.{checkpoint}
 use Rattle.bufcontrol.proofs.SizeLaws.{checkpoint-size}
 use Rattle.bufmodel.specs.declared.control.Control.{Control}
-use Rattle.bufflush.specs.declared.ends.Flushed.{Flushed}
+use Rattle.bufcalls.specs.declared.ends.Flushed.{Flushed}
 use Rattle.bufmodel.specs.declared.answer.Written.{Written}
 use Rattle.bufmodel.proofs.control.Control as T
 use Rattle.bufmodel.proofs.control.Control.Laws as T′
-use Rattle.bufflush.proofs.ends.Flushed as L
-use Rattle.bufflush.proofs.ends.Flushed.Laws as L′
+use Rattle.bufcalls.proofs.ends.Flushed as L
+use Rattle.bufcalls.proofs.ends.Flushed.Laws as L′
 use Rattle.bufmodel.proofs.answer.Written as E
 use Rattle.bufmodel.proofs.answer.Written.Laws as E′
-use Rattle.bufflush.proofs.checkpoint.checkpoint_pool as core
-use Rattle.bufflush.proofs.checkpoint.checkpoint_pool.Symbol as core-def
-use Rattle.bufflush.proofs.checkpoint.checkpoint_pool.Symbol.{name as #core}
-use Rattle.bufflush.proofs.checkpoint.checkpoint_pool.Met as core-thm
+use Rattle.bufcalls.proofs.checkpoint.checkpoint_pool as core
+use Rattle.bufcalls.proofs.checkpoint.checkpoint_pool.Symbol as core-def
+use Rattle.bufcalls.proofs.checkpoint.checkpoint_pool.Symbol.{name as #core}
+use Rattle.bufcalls.proofs.checkpoint.checkpoint_pool.Met as core-thm
 use Rattle.bufcontrol.proofs.StoredLaws.{mach, back, is-back, hand-fits, top-fits, inserted-fits, flushed-fits, stored}
 use Rattle.bufcontrol.proofs.WalkLaws.{_▹_, slice, shared, twice, says-both}
 use Rattle.bufcontrol.proofs.back.checkpoint.Key.{name as #checkpoint}
@@ -318,5 +318,5 @@ checkpoint-spec 𝓤 H 𝓜 𝓖 𝓡 =
     entered 𝓤 H (tripleOf 𝓤 H (𝓖 .A) f.signature (f.spec 𝓤 H (𝓖 .A) (𝓜 .mem) (𝓡 .run)))
     (tables 𝓤 H 𝓜 𝓡 code.env .C) (tables 𝓤 H 𝓜 𝓡 code.env .Λ) #checkpoint code.function (code.unfolded 𝓤 H 𝓜 𝓡)
     (meets 𝓤 H (𝓖 .A) (givenOf 𝓤 H 𝓜 𝓖) (𝓜 .mem) (𝓡 .run) (tablesOf 𝓤 H 𝓜 (tables 𝓤 H 𝓜 𝓡 code.env))
-    (cited 𝓤 H (Core 𝓤 H (𝓖 .A) (𝓜 .mem) (𝓡 .run)) 𝓜 𝓡 code.env #core core-def.routine code.calls-bufflush·checkpoint·checkpoint-pool
+    (cited 𝓤 H (Core 𝓤 H (𝓖 .A) (𝓜 .mem) (𝓡 .run)) 𝓜 𝓡 code.env #core core-def.routine code.calls-bufcalls·checkpoint·checkpoint-pool
     (core-thm.met 𝓤 H 𝓜 𝓖 𝓡)))

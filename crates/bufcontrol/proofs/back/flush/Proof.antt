@@ -51,21 +51,21 @@ use Rattle.bufmodel.specs.Answer.{writtenAt}
 use Rattle.bufmodel.specs.Calls.{flush}
 use Rattle.bufcontrol.proofs.SizeLaws.{flush-size}
 use Rattle.bufmodel.specs.declared.control.Control.{Control}
-use Rattle.bufflush.specs.declared.ends.Flushed.{Flushed}
+use Rattle.bufcalls.specs.declared.ends.Flushed.{Flushed}
 use Rattle.bufmodel.specs.declared.answer.Written.{Written}
 use Rattle.buftag.specs.declared.number.BufferNumber.{BufferNumber}
 use Rattle.bufmodel.proofs.control.Control as T
 use Rattle.bufmodel.proofs.control.Control.Laws as T′
-use Rattle.bufflush.proofs.ends.Flushed as L
-use Rattle.bufflush.proofs.ends.Flushed.Laws as L′
+use Rattle.bufcalls.proofs.ends.Flushed as L
+use Rattle.bufcalls.proofs.ends.Flushed.Laws as L′
 use Rattle.bufmodel.proofs.answer.Written as E
 use Rattle.bufmodel.proofs.answer.Written.Laws as E′
 use Rattle.buftag.proofs.number.BufferNumber as B
 use Rattle.buftag.proofs.number.BufferNumber.Laws as B′
-use Rattle.bufflush.proofs.flush.flush_buffer as core
-use Rattle.bufflush.proofs.flush.flush_buffer.Symbol as core-def
-use Rattle.bufflush.proofs.flush.flush_buffer.Symbol.{name as #core}
-use Rattle.bufflush.proofs.flush.flush_buffer.Met as core-thm
+use Rattle.bufcalls.proofs.flush.flush_buffer as core
+use Rattle.bufcalls.proofs.flush.flush_buffer.Symbol as core-def
+use Rattle.bufcalls.proofs.flush.flush_buffer.Symbol.{name as #core}
+use Rattle.bufcalls.proofs.flush.flush_buffer.Met as core-thm
 use Rattle.bufcontrol.proofs.StoredLaws.{mach, back, is-back, hand-fits, top-fits, inserted-fits, flushed-fits, stored}
 use Rattle.bufcontrol.proofs.WalkLaws.{_▹_, slice, shared, twice, says-both}
 use Rattle.bufcontrol.proofs.back.flush.Key.{name as #flush}
@@ -333,5 +333,5 @@ flush-spec 𝓤 H 𝓜 𝓖 𝓡 =
     entered 𝓤 H (tripleOf 𝓤 H (𝓖 .A) f.signature (f.spec 𝓤 H (𝓖 .A) (𝓜 .mem) (𝓡 .run)))
     (tables 𝓤 H 𝓜 𝓡 code.env .C) (tables 𝓤 H 𝓜 𝓡 code.env .Λ) #flush code.function (code.unfolded 𝓤 H 𝓜 𝓡)
     (meets 𝓤 H (𝓖 .A) (givenOf 𝓤 H 𝓜 𝓖) (𝓜 .mem) (𝓡 .run) (tablesOf 𝓤 H 𝓜 (tables 𝓤 H 𝓜 𝓡 code.env))
-    (cited 𝓤 H (Core 𝓤 H (𝓖 .A) (𝓜 .mem) (𝓡 .run)) 𝓜 𝓡 code.env #core core-def.routine code.calls-bufflush·flush·flush-buffer
+    (cited 𝓤 H (Core 𝓤 H (𝓖 .A) (𝓜 .mem) (𝓡 .run)) 𝓜 𝓡 code.env #core core-def.routine code.calls-bufcalls·flush·flush-buffer
     (core-thm.met 𝓤 H 𝓜 𝓖 𝓡)))

@@ -52,18 +52,18 @@ use Rattle.bufmodel.specs.Answer.{acceptedAt}
 use Rattle.bufmodel.specs.Calls.{logFlushed}
 use Rattle.bufcontrol.proofs.SizeLaws.{flushed-size}
 use Rattle.bufmodel.specs.declared.control.Control.{Control}
-use Rattle.bufstart.specs.declared.ends.Logged.{Logged}
+use Rattle.bufcalls.specs.declared.ends.Logged.{Logged}
 use Rattle.bufmodel.specs.declared.answer.Accepted.{Accepted}
 use Rattle.bufmodel.proofs.control.Control as T
 use Rattle.bufmodel.proofs.control.Control.Laws as T′
-use Rattle.bufstart.proofs.ends.Logged as L
-use Rattle.bufstart.proofs.ends.Logged.Laws as L′
+use Rattle.bufcalls.proofs.ends.Logged as L
+use Rattle.bufcalls.proofs.ends.Logged.Laws as L′
 use Rattle.bufmodel.proofs.answer.Accepted as E
 use Rattle.bufmodel.proofs.answer.Accepted.Laws as E′
-use Rattle.bufstart.proofs.log.log_flushed as core
-use Rattle.bufstart.proofs.log.log_flushed.Symbol as core-def
-use Rattle.bufstart.proofs.log.log_flushed.Symbol.{name as #core}
-use Rattle.bufstart.proofs.log.log_flushed.Met as core-thm
+use Rattle.bufcalls.proofs.log.log_flushed as core
+use Rattle.bufcalls.proofs.log.log_flushed.Symbol as core-def
+use Rattle.bufcalls.proofs.log.log_flushed.Symbol.{name as #core}
+use Rattle.bufcalls.proofs.log.log_flushed.Met as core-thm
 use Rattle.bufcontrol.proofs.StoredLaws.{mach, back, is-back, hand-fits, top-fits, inserted-fits, flushed-fits, stored}
 use Rattle.bufcontrol.proofs.WalkLaws.{_▹_, slice, shared, twice, says-both}
 use Rattle.bufcontrol.proofs.log.log_flushed_to.Key.{name as #log-flushed-to}
@@ -310,5 +310,5 @@ log-flushed-to-spec 𝓤 H 𝓜 𝓖 𝓡 =
     entered 𝓤 H (tripleOf 𝓤 H (𝓖 .A) f.signature (f.spec 𝓤 H (𝓖 .A) (𝓜 .mem) (𝓡 .run)))
     (tables 𝓤 H 𝓜 𝓡 code.env .C) (tables 𝓤 H 𝓜 𝓡 code.env .Λ) #log-flushed-to code.function (code.unfolded 𝓤 H 𝓜 𝓡)
     (meets 𝓤 H (𝓖 .A) (givenOf 𝓤 H 𝓜 𝓖) (𝓜 .mem) (𝓡 .run) (tablesOf 𝓤 H 𝓜 (tables 𝓤 H 𝓜 𝓡 code.env))
-    (cited 𝓤 H (Core 𝓤 H (𝓖 .A) (𝓜 .mem) (𝓡 .run)) 𝓜 𝓡 code.env #core core-def.routine code.calls-bufstart·log·log-flushed
+    (cited 𝓤 H (Core 𝓤 H (𝓖 .A) (𝓜 .mem) (𝓡 .run)) 𝓜 𝓡 code.env #core core-def.routine code.calls-bufcalls·log·log-flushed
     (core-thm.met 𝓤 H 𝓜 𝓖 𝓡)))

@@ -51,13 +51,13 @@ use Rattle.bufmodel.specs.Answer.{pinnedAt}
 use Rattle.bufmodel.specs.Pin.{pin}
 use Rattle.bufcontrol.proofs.SizeLaws.{pin-size}
 use Rattle.bufmodel.specs.declared.control.Control.{Control}
-use Rattle.bufvictim.specs.declared.ends.PinEnd.{PinEnd}
+use Rattle.bufpin.specs.declared.ends.PinEnd.{PinEnd}
 use Rattle.bufmodel.specs.declared.answer.Pinned.{Pinned}
 use Rattle.buftag.specs.declared.name.PageName.{PageName}
 use Rattle.bufmodel.proofs.control.Control as T
 use Rattle.bufmodel.proofs.control.Control.Laws as T′
-use Rattle.bufvictim.proofs.ends.PinEnd as L
-use Rattle.bufvictim.proofs.ends.PinEnd.Laws as L′
+use Rattle.bufpin.proofs.ends.PinEnd as L
+use Rattle.bufpin.proofs.ends.PinEnd.Laws as L′
 use Rattle.bufmodel.proofs.answer.Pinned as E
 use Rattle.bufmodel.proofs.answer.Pinned.Laws as E′
 use Rattle.buftag.proofs.name.PageName as B

@@ -17,8 +17,8 @@ state-of-requires c κs = search needs
 pins-of-requires : tie.Need-pins-of-requires
 pins-of-requires c κs = search needs
 
-refused-requires : tie.Need-refused-requires
-refused-requires c κs = search needs
+pin-refused-requires : tie.Need-pin-refused-requires
+pin-refused-requires c κs = search needs
 
 same-length : tie.Need-same-length
 same-length c = search needs
@@ -31,7 +31,7 @@ returns c =
     let w = getD (now (s .args .states)) (s .args .buffer .0) 0 in
     let read = p .pins-of .ensures ∙ ap pins (p .before .state-of .ensures) in
     let e = eq-eqb (pins w) maxPins (sym read ∙ c .before .if1 .taken) in
-    rw (c .refused .ensures) (refl, (rw e, rw e))
+    rw (c .pin-refused .ensures) (refl, (rw e, rw e))
 
 pin-more-requires : tie.Need-pin-more-requires
 pin-more-requires c κs =
@@ -67,7 +67,7 @@ pin-held-spec =
     (tie.spec
     state-of-requires
     pins-of-requires
-    refused-requires
+    pin-refused-requires
     same-length
     returns
     pin-more-requires

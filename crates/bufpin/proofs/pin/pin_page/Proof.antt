@@ -12,10 +12,10 @@ use Rattle.bufmodel.specs.Pin.{heldIn}
 use Rattle.bufmodel.proofs.SizesLaws.{rows-say}
 use Rattle.bufmodel.proofs.GoodLaws.{Good, good-sized, good-sound}
 use Rattle.bufmodel.proofs.HeldLaws.{held-at}
-use Rattle.bufpeek.specs.declared.name.Sought as name
-use Rattle.bufpeek.specs.Name.{sought}
+use Rattle.bufmem.specs.declared.name.Sought as name
+use Rattle.bufmem.specs.Name.{sought}
 use Rattle.bufmodel.proofs.GoodLaws.{passed-good}
-use Rattle.bufpeek.proofs.NameLaws.{name-at, looked-up}
+use Rattle.bufmem.proofs.NameLaws.{name-at, looked-up}
 use Rattle.bufpin.proofs.PinLaws.{pin-early, pin-nameless, pin-held, pin-new}
 use Rattle.bufpin.proofs.pin.pin_page.Statement.{statement}
 use Rattle.bufpin.proofs.pin.pin_page.Tie as tie
@@ -56,8 +56,8 @@ held c =
 refusal-requires : tie.Need-refusal-requires
 refusal-requires c κs = search needs
 
-refused-requires : tie.Need-refused-requires
-refused-requires c κs = search needs
+pin-refused-requires : tie.Need-pin-refused-requires
+pin-refused-requires c κs = search needs
 
 same-length : tie.Need-same-length
 same-length c = search needs
@@ -84,7 +84,7 @@ returns : tie.Need-returns
 returns c =
     let i = c .before in
     let s = i .before .before .before .before .before .before .before .before .before .before .before .before .before .before in
-    rw (c .refused .ensures) (pin-early (whole s) (s .args .name) (i .if1 .taken) (i .before .refusal .ensures))
+    rw (c .pin-refused .ensures) (pin-early (whole s) (s .args .name) (i .if1 .taken) (i .before .refusal .ensures))
 
 seek-requires : tie.Need-seek-requires
 seek-requires c κs =
@@ -94,8 +94,8 @@ seek-requires c κs =
 enum-known-sought : tie.Need-enum-known-sought
 enum-known-sought c = search needs
 
-refused-requires-2 : tie.Need-refused-requires-2
-refused-requires-2 c κs = search needs
+pin-refused-requires-2 : tie.Need-pin-refused-requires-2
+pin-refused-requires-2 c κs = search needs
 
 enum-known-sought-2 : tie.Need-enum-known-sought-2
 enum-known-sought-2 c = search needs
@@ -194,7 +194,7 @@ returns-3 c =
     let at-seek = t .before .before .before in
     let at-if1 = at-seek .before in
     let s = at-if1 .before .before .before .before .before .before .before .before .before .before .before .before .before .before in
-    rw (c .refused2 .ensures)
+    rw (c .pin-refused2 .ensures)
     (pin-nameless (whole s) (s .args .name) (good at-if1) (sym (at-seek .seek .ensures) ∙ t .before .sought .given .1))
 
 same-length-22 : tie.Need-same-length-22
@@ -237,7 +237,7 @@ pin-page-spec =
     tie.close
     (tie.spec
     refusal-requires
-    refused-requires
+    pin-refused-requires
     same-length
     same-length-2
     same-length-3
@@ -248,7 +248,7 @@ pin-page-spec =
     returns
     seek-requires
     enum-known-sought
-    refused-requires-2
+    pin-refused-requires-2
     enum-known-sought-2
     look-up-requires
     enum-known-buffer

@@ -1,12 +1,36 @@
 use borrow.Author.Needs.{needs}
+use Rattle.bufpool.proofs.ExportLaws.{export-answer, export-control, call-read, export-made}
+use Rattle.bufpool.proofs.CallLaws.{checkpoint-early, checkpoint-answers}
 use Rattle.bufpool.proofs.back.bufpool_checkpoint.Statement.{statement}
 use Rattle.bufpool.proofs.back.bufpool_checkpoint.Tie as tie
 
-lent-checkpoint-requires : tie.Need-lent-checkpoint-requires
-lent-checkpoint-requires c κs = search needs
+returns : tie.Need-returns
+returns c = export-answer _ _ _ _ (c .if1 .taken)
+
+refuse-requires : tie.Need-refuse-requires
+refuse-requires c κs = search needs
 
 same-length : tie.Need-same-length
 same-length c = search needs
+
+returns-2 : tie.Need-returns-2
+returns-2 c =
+    let at-refuse = c .before .before in
+    let at-if2 = at-refuse .before .before in
+    let at-if1 = at-if2 .before in
+    rw (at-refuse .refuse .ensures .0, at-refuse .refuse .ensures .1) (export-control _ _ _ _ (at-if1 .if1 .left) (at-if2 .if2 .taken))
+
+read-control-requires : tie.Need-read-control-requires
+read-control-requires c κs = search needs
+
+checkpoint-pool-requires : tie.Need-checkpoint-pool-requires
+checkpoint-pool-requires c κs = search needs
+
+put-written-requires : tie.Need-put-written-requires
+put-written-requires c κs = search needs
+
+keep-control-requires : tie.Need-keep-control-requires
+keep-control-requires c κs = search needs
 
 same-length-2 : tie.Need-same-length-2
 same-length-2 c = search needs
@@ -17,16 +41,37 @@ same-length-3 c = search needs
 same-length-4 : tie.Need-same-length-4
 same-length-4 c = search needs
 
-returns : tie.Need-returns
-returns c = c .before .before .before .before .before .before .before .before .lent-checkpoint .ensures
+same-length-5 : tie.Need-same-length-5
+same-length-5 c = search needs
+
+returns-3 : tie.Need-returns-3
+returns-3 c =
+    let at-keep-control = c .before .before in
+    let at-put-written = at-keep-control .before .before .before .before in
+    let at-checkpoint-pool = at-put-written .before .before .before .before .before .before in
+    let at-read-control = at-checkpoint-pool .before .before .before in
+    let at-if2 = at-read-control .before .before in
+    let at-if1 = at-if2 .before in
+    let p = at-put-written .put-written .ensures in
+    let u = at-checkpoint-pool .checkpoint-pool .ensures in
+    let read = call-read _ _ _ (checkpoint-early) _ (at-read-control .read-control .ensures) in
+    rw (at-keep-control .keep-control .ensures)
+    (export-made _ _ _ _ (at-if1 .if1 .left) (at-if2 .if2 .left) read (checkpoint-answers _) (u .0) (p .0) (p .1) (u .1))
 
 pub bufpool-checkpoint-spec : {M : Type 1} → statement M
 bufpool-checkpoint-spec =
     tie.close
     (tie.spec
-    lent-checkpoint-requires
+    returns
+    refuse-requires
     same-length
+    returns-2
+    read-control-requires
+    checkpoint-pool-requires
+    put-written-requires
+    keep-control-requires
     same-length-2
     same-length-3
     same-length-4
-    returns)
+    same-length-5
+    returns-3)

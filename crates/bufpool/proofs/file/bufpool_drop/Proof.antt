@@ -1,12 +1,39 @@
 use borrow.Author.Needs.{needs}
+use Rattle.bufpool.proofs.ExportLaws.{export-answer, export-control, call-read, export-made}
+use Rattle.bufpool.proofs.CallLaws.{drop-early, drop-answers}
 use Rattle.bufpool.proofs.file.bufpool_drop.Statement.{statement}
 use Rattle.bufpool.proofs.file.bufpool_drop.Tie as tie
 
-lent-drop-requires : tie.Need-lent-drop-requires
-lent-drop-requires c κs = search needs
+returns : tie.Need-returns
+returns c = export-answer _ _ _ _ (c .if1 .taken)
+
+refuse-requires : tie.Need-refuse-requires
+refuse-requires c κs = search needs
 
 same-length : tie.Need-same-length
 same-length c = search needs
+
+returns-2 : tie.Need-returns-2
+returns-2 c =
+    let at-refuse = c .before .before in
+    let at-if2 = at-refuse .before .before in
+    let at-if1 = at-if2 .before in
+    rw (at-refuse .refuse .ensures .0, at-refuse .refuse .ensures .1) (export-control _ _ _ _ (at-if1 .if1 .left) (at-if2 .if2 .taken))
+
+file-name-requires : tie.Need-file-name-requires
+file-name-requires c κs = search needs
+
+read-control-requires : tie.Need-read-control-requires
+read-control-requires c κs = search needs
+
+drop-file-requires : tie.Need-drop-file-requires
+drop-file-requires c κs = search needs
+
+put-accepted-requires : tie.Need-put-accepted-requires
+put-accepted-requires c κs = search needs
+
+keep-control-requires : tie.Need-keep-control-requires
+keep-control-requires c κs = search needs
 
 same-length-2 : tie.Need-same-length-2
 same-length-2 c = search needs
@@ -29,15 +56,37 @@ same-length-7 c = search needs
 same-length-8 : tie.Need-same-length-8
 same-length-8 c = search needs
 
-returns : tie.Need-returns
-returns c = c .before .before .before .before .before .before .before .before .before .before .before .before .before .lent-drop .ensures
+same-length-9 : tie.Need-same-length-9
+same-length-9 c = search needs
+
+returns-3 : tie.Need-returns-3
+returns-3 c =
+    let at-keep-control = c .before .before in
+    let at-put-accepted = at-keep-control .before .before .before .before in
+    let at-drop-file = at-put-accepted .before .before .before .before .before .before .before .before .before .before .before in
+    let at-read-control = at-drop-file .before .before .before .before .before .before .before in
+    let at-file-name = at-read-control .before .before in
+    let at-if2 = at-file-name .before in
+    let at-if1 = at-if2 .before in
+    let p = at-put-accepted .put-accepted .ensures in
+    let u = at-drop-file .drop-file .ensures in
+    let read = call-read _ _ _ (drop-early _) _ (at-read-control .read-control .ensures) in
+    rw (at-keep-control .keep-control .ensures, ← at-file-name .file-name .ensures)
+    (export-made _ _ _ _ (at-if1 .if1 .left) (at-if2 .if2 .left) read (drop-answers _ _) (u .0) (p .0) (p .1) (u .1))
 
 pub bufpool-drop-spec : {M : Type 1} → statement M
 bufpool-drop-spec =
     tie.close
     (tie.spec
-    lent-drop-requires
+    returns
+    refuse-requires
     same-length
+    returns-2
+    file-name-requires
+    read-control-requires
+    drop-file-requires
+    put-accepted-requires
+    keep-control-requires
     same-length-2
     same-length-3
     same-length-4
@@ -45,4 +94,5 @@ bufpool-drop-spec =
     same-length-6
     same-length-7
     same-length-8
-    returns)
+    same-length-9
+    returns-3)

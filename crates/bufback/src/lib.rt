@@ -1,3 +1,0 @@
-// Write-back of a page, in log order.
-
-pub mod back;

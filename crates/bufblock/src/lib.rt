@@ -1,3 +1,0 @@
-// Blocks of bytes.
-
-pub mod block;

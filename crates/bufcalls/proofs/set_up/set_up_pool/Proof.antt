@@ -1,0 +1,150 @@
+use borrow.Author.Needs.{needs}
+use borrow.Author.Tests.{not-true, not-false}
+use denote.Ref.{now}
+use lib.IntN.{ℤ, pos}
+use lib.ListN.{length, replicate}
+use mathlib.Core.Bool.{true, false, not}
+use mathlib.Core.List.{List, []}
+use mathlib.Core.Path.{_≡_, sym, _∙_, ap}
+use native.Mathlib.Omega.{arith}
+use Prim.Native.Nat.{ℕ}
+use Rattle.buftag.specs.Link.{none}
+use Rattle.bufmodel.specs.Memory.{Memory, memory}
+use Rattle.bufmodel.specs.Sizes.{sized, sizedFor}
+use Rattle.bufmodel.specs.Outcome.{refused, done, zeros}
+use Rattle.bufmodel.specs.Calls.{freeLinks, fresh, setUp}
+use Rattle.bufmodel.proofs.SizesLaws.{sizes-say}
+use Rattle.bufmodel.proofs.OutcomeLaws.{refusal-at, refusal-past, refusal-none, outcome-refused, outcome-done}
+use Rattle.bufmodel.proofs.AnswerLaws.{accepted-refused, accepted-done}
+use Rattle.bufcalls.proofs.set_up.set_up_pool.Statement.{statement}
+use Rattle.bufcalls.proofs.set_up.set_up_pool.Tie as tie
+
+module _ (m : Memory) (p at : ℕ) where
+  -- sizes that do not fit
+  unfit : sizedFor p m ≡ false → setUp m p at ≡ refused 1 [] m
+  unfolding setUp
+  unfit e = let f = refusal-at 1 [] (ap not e) in rw f (outcome-refused [] m _ 1 (λ z. omega arith))
+
+  -- sizes that fit: each part was filled to its own length
+  fit : sizedFor p m ≡ true → {states names : List ℕ} {free heads chain : List ℤ}
+      → states ≡ replicate (length (m .states)) 0
+      → names ≡ replicate (length (m .names)) 0
+      → free ≡ freeLinks 0 (length (m .free))
+      → heads ≡ replicate (length (m .heads)) none
+      → chain ≡ replicate (length (m .chain)) none
+      → setUp m p at
+      ≡ done zeros []
+      (memory (record { size = p; hand = 0; top = pos 0; inserted = at; flushed = at }) states names (m .pool) free heads chain
+      (m .rows) (m .store))
+  unfolding setUp fresh
+  fit e s n f h k =
+      let z = sizes-say p m .holds e in
+      rw (s, n, f, h, k, z .names, z .free, z .chain) (outcome-done [] m _ (refusal-past 1 [] (ap not e) ∙ refusal-none))
+
+abbrev lent : tie.Start → Memory
+lent s =
+    let a = s .args in
+    memory (a .control) (now (a .states)) (now (a .names)) (now (a .pool)) (now (a .free)) (now (a .heads)) (now (a .chain)) (now (a .rows))
+    (now (a .store))
+
+abbrev entry : tie.After-sizes-ok → tie.Start
+entry c = c .before .before .before .before .before .before .before .before .before .before .before
+
+-- what the test of the sizes said
+passed : (c : tie.Else1) → sizedFor (entry (c .before) .args .size) (lent (entry (c .before))) ≡ true
+unfolding sized sizedFor
+passed c = sym (c .before .sizes-ok .ensures) ∙ not-false _ (c .if1 .left)
+
+sizes-ok-requires : tie.Need-sizes-ok-requires
+sizes-ok-requires c κs = search needs
+
+same-length : tie.Need-same-length
+same-length c = search needs
+
+same-length-2 : tie.Need-same-length-2
+same-length-2 c = search needs
+
+same-length-3 : tie.Need-same-length-3
+same-length-3 c = search needs
+
+same-length-4 : tie.Need-same-length-4
+same-length-4 c = search needs
+
+same-length-5 : tie.Need-same-length-5
+same-length-5 c = search needs
+
+returns : tie.Need-returns
+unfolding sized sizedFor
+returns c =
+    let s = entry (c .before) in
+    accepted-refused (λ z. omega arith)
+    (unfit (lent s) (s .args .size) (s .args .position) (sym (c .before .sizes-ok .ensures) ∙ not-true _ (c .if1 .taken)))
+
+clear-words-requires : tie.Need-clear-words-requires
+clear-words-requires c κs = search needs
+
+clear-words-requires-2 : tie.Need-clear-words-requires-2
+clear-words-requires-2 c κs = search needs
+
+link-all-requires : tie.Need-link-all-requires
+link-all-requires c κs =
+    let e = c .before .before .before .before .before .before .before .before .before in
+    let s = entry (e .before) in
+    let z = sizes-say (s .args .size) (lent s) .holds (passed e) in
+    (omega (arith, z .free, z .least), omega (arith, z .free, z .most))
+
+clear-links-requires : tie.Need-clear-links-requires
+clear-links-requires c κs = search needs
+
+clear-links-requires-2 : tie.Need-clear-links-requires-2
+clear-links-requires-2 c κs = search needs
+
+same-length-6 : tie.Need-same-length-6
+same-length-6 c = search needs
+
+same-length-7 : tie.Need-same-length-7
+same-length-7 c = search needs
+
+same-length-8 : tie.Need-same-length-8
+same-length-8 c = search needs
+
+same-length-9 : tie.Need-same-length-9
+same-length-9 c = search needs
+
+same-length-10 : tie.Need-same-length-10
+same-length-10 c = search needs
+
+returns-2 : tie.Need-returns-2
+returns-2 c =
+    let h = c .before .before .before .before in
+    let f = h .before .before .before in
+    let n = f .before .before .before .before in
+    let w = n .before .before .before .before in
+    let e = w .before .before in
+    let s = entry (e .before) in
+    accepted-done
+    (fit (lent s) (s .args .size) (s .args .position) (passed e) (w .clear-words .ensures) (n .clear-words2 .ensures)
+    (f .link-all .ensures) (h .clear-links .ensures) (c .before .clear-links2 .ensures))
+
+pub set-up-pool-spec : {M : Type 1} → statement M
+set-up-pool-spec =
+    tie.close
+    (tie.spec
+    sizes-ok-requires
+    same-length
+    same-length-2
+    same-length-3
+    same-length-4
+    same-length-5
+    returns
+    clear-words-requires
+    clear-words-requires-2
+    link-all-requires
+    clear-links-requires
+    clear-links-requires-2
+    same-length-6
+    same-length-7
+    same-length-8
+    same-length-9
+    same-length-10
+    returns-2)

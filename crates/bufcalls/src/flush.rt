@@ -1,0 +1,70 @@
+// Flush: the page of a pinned buffer is written back if it is dirty.
+
+ghost use mathlib.Core.Path.{_≡_};
+ghost use Rattle.bufmodel.specs.Memory.{memory};
+ghost use Rattle.bufmodel.specs.Answer.{writtenAt};
+ghost use Rattle.bufmodel.specs.Calls.{flush};
+use crate::buffer::buffer_refusal;
+use crate::ends::Flushed;
+use bufmem::flag::one_if;
+use bufmem::state::state_of;
+use bufmem::word::is_dirty;
+use bufmodel::answer::Written;
+use bufmodel::control::Control;
+use bufmoves::back::write_back;
+use buftag::number::BufferNumber;
+
+// Writes the page back if it is dirty.
+pub fn flush_buffer(
+    control: Control,
+    states: &mut [u32],
+    names: &[u32],
+    pool: &[u8],
+    free: &[i32],
+    heads: &[i32],
+    chain: &[i32],
+    rows: &[u32],
+    store: &mut [u8],
+    buffer: BufferNumber,
+) -> Flushed
+    ensures { λ r.
+        ⌜ r .answer
+        ≡ writtenAt
+        (flush
+        (memory control (now (states .entry)) (now (names .entry)) (now (pool .entry)) (now (free .entry)) (now (heads .entry))
+        (now (chain .entry)) (now (rows .entry)) (now (store .entry))) (buffer .0) .refusal)
+        (flush
+        (memory control (now (states .entry)) (now (names .entry)) (now (pool .entry)) (now (free .entry)) (now (heads .entry))
+        (now (chain .entry)) (now (rows .entry)) (now (store .entry))) (buffer .0) .answer) ⌝ }
+    ensures { λ r.
+        ⌜ memory (r .control) (now (states .exit)) (now (names .entry)) (now (pool .entry)) (now (free .entry))
+        (now (heads .entry)) (now (chain .entry)) (now (rows .entry)) (now (store .exit))
+        ≡ flush
+        (memory control (now (states .entry)) (now (names .entry)) (now (pool .entry)) (now (free .entry)) (now (heads .entry))
+        (now (chain .entry)) (now (rows .entry)) (now (store .entry))) (buffer .0) .after ⌝ }
+{
+    let k = buffer_refusal(
+        control,
+        states,
+        names,
+        pool,
+        free,
+        heads,
+        chain,
+        rows,
+        store,
+        buffer,
+    );
+    if k != 0 {
+        return Flushed {
+            control: control,
+            answer: Written::Refused(k),
+        };
+    }
+    let n = one_if(is_dirty(state_of(states, buffer)));
+    let after = write_back(control, states, names, pool, rows, store, buffer);
+    Flushed {
+        control: after,
+        answer: Written::Pages(n),
+    }
+}

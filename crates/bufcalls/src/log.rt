@@ -1,0 +1,126 @@
+// The log's positions.
+
+ghost use mathlib.Core.Path.{_≡_};
+ghost use mathlib.Core.List.{[]};
+ghost use Rattle.bufmodel.specs.Memory.{memory};
+ghost use Rattle.bufmodel.specs.Answer.{acceptedAt};
+ghost use Rattle.bufmodel.specs.Calls.{logInserted, logFlushed};
+use crate::ends::Logged;
+use bufbooks::lent::refusal;
+use bufmodel::answer::Accepted;
+use bufmodel::control::Control;
+use bufmodel::refusal::FLUSHED_BEYOND;
+use bufmodel::refusal::LOG_SHORTER;
+use bufmoves::back::flushed_to;
+
+// The log is inserted up to a position.
+pub fn log_inserted(
+    control: Control,
+    states: &[u32],
+    names: &[u32],
+    pool: &[u8],
+    free: &[i32],
+    heads: &[i32],
+    chain: &[i32],
+    rows: &[u32],
+    store: &[u8],
+    position: u64,
+) -> Logged
+    ensures { λ r.
+        ⌜ r .answer
+        ≡ acceptedAt
+        (logInserted
+        (memory control (now (states .entry)) (now (names .entry)) (now (pool .entry)) (now (free .entry)) (now (heads .entry))
+        (now (chain .entry)) (now (rows .entry)) (now (store .entry))) position .refusal) [] ⌝ }
+    ensures { λ r.
+        ⌜ memory (r .control) (now (states .entry)) (now (names .entry)) (now (pool .entry)) (now (free .entry))
+        (now (heads .entry)) (now (chain .entry)) (now (rows .entry)) (now (store .entry))
+        ≡ logInserted
+        (memory control (now (states .entry)) (now (names .entry)) (now (pool .entry)) (now (free .entry)) (now (heads .entry))
+        (now (chain .entry)) (now (rows .entry)) (now (store .entry))) position .after ⌝ }
+{
+    let k = refusal(
+        control,
+        states,
+        names,
+        pool,
+        free,
+        heads,
+        chain,
+        rows,
+        store,
+    );
+    if k != 0 {
+        return Logged {
+            control: control,
+            answer: Accepted::Refused(k),
+        };
+    }
+    if position < control.inserted {
+        return Logged {
+            control: control,
+            answer: Accepted::Refused(LOG_SHORTER),
+        };
+    }
+    let mut after = control;
+    after.inserted = position;
+    Logged {
+        control: after,
+        answer: Accepted::Done,
+    }
+}
+
+// The log is flushed up to a position, or further.
+pub fn log_flushed(
+    control: Control,
+    states: &[u32],
+    names: &[u32],
+    pool: &[u8],
+    free: &[i32],
+    heads: &[i32],
+    chain: &[i32],
+    rows: &[u32],
+    store: &[u8],
+    position: u64,
+) -> Logged
+    ensures { λ r.
+        ⌜ r .answer
+        ≡ acceptedAt
+        (logFlushed
+        (memory control (now (states .entry)) (now (names .entry)) (now (pool .entry)) (now (free .entry)) (now (heads .entry))
+        (now (chain .entry)) (now (rows .entry)) (now (store .entry))) position .refusal) [] ⌝ }
+    ensures { λ r.
+        ⌜ memory (r .control) (now (states .entry)) (now (names .entry)) (now (pool .entry)) (now (free .entry))
+        (now (heads .entry)) (now (chain .entry)) (now (rows .entry)) (now (store .entry))
+        ≡ logFlushed
+        (memory control (now (states .entry)) (now (names .entry)) (now (pool .entry)) (now (free .entry)) (now (heads .entry))
+        (now (chain .entry)) (now (rows .entry)) (now (store .entry))) position .after ⌝ }
+{
+    let k = refusal(
+        control,
+        states,
+        names,
+        pool,
+        free,
+        heads,
+        chain,
+        rows,
+        store,
+    );
+    if k != 0 {
+        return Logged {
+            control: control,
+            answer: Accepted::Refused(k),
+        };
+    }
+    if position > control.inserted {
+        return Logged {
+            control: control,
+            answer: Accepted::Refused(FLUSHED_BEYOND),
+        };
+    }
+    Logged {
+        control: flushed_to(control, position),
+        answer: Accepted::Done,
+    }
+}

@@ -1,2 +1,0 @@
-pub mod FlushLaws
-pub mod CheckpointLaws

@@ -1,0 +1,6 @@
+pub mod PackLaws
+pub mod PositionLaws
+pub mod RowsLaws
+pub mod PlaceLaws
+pub mod FillLaws
+pub mod NameLaws

@@ -1,0 +1,50 @@
+use borrow.Author.Needs.{needs}
+use denote.Ref.{now}
+use native.Mathlib.Nat.{add-sub-cancel-left}
+use lib.ListN.{length}
+use mathlib.Core.Path.{_∙_}
+use Rattle.bufmodel.specs.Position.{paste, written}
+use Rattle.bufmem.proofs.page.write_bytes.Statement.{statement}
+use Rattle.bufmem.proofs.page.write_bytes.Tie as tie
+
+add-e : tie.Need-add-e
+add-e c = search needs
+
+sub-copy-bytes : tie.Need-sub-copy-bytes
+sub-copy-bytes c = search needs
+
+part-copy-bytes-start : tie.Need-part-copy-bytes-start
+part-copy-bytes-start c = search needs
+
+part-copy-bytes-end : tie.Need-part-copy-bytes-end
+part-copy-bytes-end c = search needs
+
+copy-bytes-requires : tie.Need-copy-bytes-requires
+copy-bytes-requires c κs = search needs
+
+put-position-requires : tie.Need-put-position-requires
+put-position-requires c κs = search needs
+
+same-length : tie.Need-same-length
+same-length c = search needs
+
+returns : tie.Need-returns
+unfolding written paste
+returns c =
+    let b = c .before .before in
+    let d = b .before .before .before .before in
+    let a = d .before .before .before .before .args in
+    b .put-position .ensures ∙ rw (d .copy-bytes .ensures, add-sub-cancel-left (a .from) (length (now (a .bytes))))
+
+pub write-bytes-spec : {M : Type 1} → statement M
+write-bytes-spec =
+    tie.close
+    (tie.spec
+    add-e
+    sub-copy-bytes
+    part-copy-bytes-start
+    part-copy-bytes-end
+    copy-bytes-requires
+    put-position-requires
+    same-length
+    returns)

@@ -1,3 +1,0 @@
-// A buffer's page, in the pool's bytes.
-
-pub mod page;

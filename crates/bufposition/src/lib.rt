@@ -1,3 +1,0 @@
-// Log positions in lent memory.
-
-pub mod position;

@@ -1,2 +1,0 @@
-pub mod RowsLaws
-pub mod PlaceLaws

@@ -1,3 +1,0 @@
-// The check of the books.
-
-pub mod books;

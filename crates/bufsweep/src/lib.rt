@@ -1,3 +1,0 @@
-// The clock sweep.
-
-pub mod sweep;

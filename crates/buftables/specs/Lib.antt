@@ -1,2 +1,0 @@
-pub mod Hashes
-pub mod Guesses

@@ -1,0 +1,37 @@
+-- Lists walked to their end with a budget: what is left of it.
+use mathlib.Core.Bool.{Bool, false, cond}
+use mathlib.Core.List.{List}
+use Prim.Native.Nat.{ℕ, zero, suc}
+use lib.Dec.{eqb, ltb}
+use lib.IntN.{ℤ}
+use lib.ListN.{length}
+use Rattle.buftag.specs.declared.link.Link.{Link}
+use Rattle.buftag.specs.declared.link.Link.the-variants.{To, End, Off, Bad}
+use Rattle.buftag.specs.declared.budget.Walked.{Walked}
+use Rattle.buftag.specs.declared.budget.Walked.the-variants.{Left, Wrong}
+use Rattle.buftag.specs.Link.{linkAt}
+
+-- from a link on, each place takes one from the budget and lies within the memory
+unfoldable pub spend : List ℤ → ℕ → Link → Walked
+spend ls zero (To i) = Wrong
+spend ls zero End = Left 0
+spend ls zero Off = Wrong
+spend ls zero Bad = Wrong
+spend ls (suc k) (To i) = let on = spend ls k (linkAt ls i) in cond (ltb i (length ls)) on Wrong
+spend ls (suc k) End = Left (suc k)
+spend ls (suc k) Off = Wrong
+spend ls (suc k) Bad = Wrong
+
+abbrev pub onward : Walked → (ℕ → Walked) → Walked
+onward (Left m) f = f m
+onward Wrong f = Wrong
+
+-- the lists that start at heads 0 to b − 1, one after the other
+unfoldable pub spendAll : List ℤ → List ℤ → ℕ → ℕ → Walked
+spendAll heads ls zero k = Left k
+spendAll heads ls (suc b) k = onward (spendAll heads ls b k) (λ m. spend ls m (linkAt heads b))
+
+-- nothing is left
+abbrev pub spent : Walked → Bool
+spent (Left m) = eqb m 0
+spent Wrong = false

@@ -1,4 +1,0 @@
-pub mod BackLaws
-pub mod SweptLaws
-pub mod TakenLaws
-pub mod VictimLaws

@@ -1,3 +1,0 @@
-// An answer's result and words.
-
-pub mod answer;

@@ -1,3 +1,0 @@
-// Write-back over lent memory.
-
-pub mod back;

@@ -1,3 +1,0 @@
-// Calls on a pinned buffer, over lent memory.
-
-pub mod buffer;

@@ -1,3 +1,0 @@
-// Calls on a file, over lent memory.
-
-pub mod file;

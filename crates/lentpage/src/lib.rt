@@ -1,3 +1,0 @@
-// Calls on a page, over lent memory.
-
-pub mod page;
