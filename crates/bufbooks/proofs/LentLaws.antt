@@ -25,7 +25,8 @@ use Rattle.bufmodel.proofs.BooksLaws.{books-say}
 use Rattle.bufmodel.proofs.GoodLaws.{Good, good-sized, good-sound}
 use Rattle.bufmodel.proofs.OutcomeLaws.{refusal-past, refusal-at, refusal-none, outcome-number}
 use Rattle.bufbooks.specs.Buffers.{Fitting}
-use Rattle.bufbooks.specs.Lent.{topRead, controlRead, check}
+use Rattle.bufmem.specs.Control.{topRead, controlRead}
+use Rattle.bufbooks.specs.Lent.{check}
 
 -- ---- the two places
 module _ (m : Memory) where

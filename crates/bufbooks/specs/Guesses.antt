@@ -6,7 +6,7 @@ use Rattle.buftag.specs.declared.name.FileName.{FileName}
 use Rattle.bufmodel.specs.Rows.{fileAt}
 
 abbrev pub slotOf : FileName → ℕ
-slotOf f = (f .relation + 21 * f .fork) % 64
+slotOf f = (f .relation % 64 + 21 * f .fork) % 64
 
 -- the table with each of the first rows, rising, in its file's slot
 unfoldable pub guessesOf : List ℕ → ℕ → List ℕ → List ℕ

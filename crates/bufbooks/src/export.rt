@@ -4,10 +4,10 @@ ghost use mathlib.Core.Path.{_≡_};
 ghost use mathlib.Core.List.{[]};
 ghost use Rattle.bufmodel.specs.Lent.{called};
 ghost use Rattle.bufbooks.specs.Lent.{check};
-use crate::lent::ANSWER_WORDS;
-use crate::lent::CONTROL_WORDS;
-use crate::lent::read_control;
 use crate::lent::refusal;
+use bufmem::control::ANSWER_WORDS;
+use bufmem::control::CONTROL_WORDS;
+use bufmem::control::read_control;
 use bufmodel::refusal::SIZES;
 
 // 0, or the number of the first place that refuses: 1 sizes and rows, 2 the books.

@@ -13,7 +13,7 @@ use buftag::name::FileName;
 pub fn slot_of(file: FileName) -> usize
     ensures { λ r. ⌜ r ≡ slotOf file ⌝ }
 {
-    (file.relation as usize + 21 * file.fork as usize) % 64
+    ((file.relation % 64) as usize + 21 * file.fork as usize) % 64
 }
 
 // Of the files that share a slot, the last one has it.

@@ -73,7 +73,7 @@ module _ (m : Memory) (n : PageName) where
 
     pub buffer-in : {b : BufferNumber} → lookUp (m .heads) (m .chain) (m .names) n ≡ held.the-variants.At b
         → b .0 * size m + size m ≤ length (m .pool)
-    buffer-in {b} h = block-in (size m) (buffers m) (b .0) (m .pool) (g .sizes .pool) (held-at m g n b (sym (looked-up m g n) ∙ h) .0)
+    buffer-in {b} h = block-in (size m) (buffers m) (b .0) (m .pool) (g .sizes .pool) (held-at m n b (sym (looked-up m g n) ∙ h) .0)
 
 -- ---- the part that an answer tells of: the bytes of one block, within the pool or the store; none where the call is refused
 abbrev pub Told : Memory → List ℕ → peeked.Peeked → Type 0
@@ -95,7 +95,7 @@ module _ (m : Memory) where
         → Tells (done (partOf m n h) [] m)
     unfolding part partAt partIn partOf offsetOf peekedAt
     tells-held g e (held.the-variants.At b) q =
-        (block-in (size m) (buffers m) (b .0) (m .pool) (g .sizes .pool) (held-at m g n b q .0), refl)
+        (block-in (size m) (buffers m) (b .0) (m .pool) (g .sizes .pool) (held-at m n b q .0), refl)
     tells-held g {at} e held.the-variants.Nowhere q =
         let l = place-in (m .rows) (g .sizes .rows) n e in
         rw e (block-in (size m) (storeBlocks (m .rows)) at (m .store) (g .sizes .store) l, refl)

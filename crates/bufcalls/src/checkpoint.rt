@@ -10,7 +10,7 @@ ghost use Rattle.bufmodel.specs.Moves.{writeUpTo};
 ghost use Rattle.bufmodel.specs.Answer.{writtenAt};
 ghost use Rattle.bufmodel.specs.Calls.{checkpoint};
 ghost use Rattle.bufcalls.specs.Checkpoint.{Stored};
-use crate::ends::Flushed;
+use crate::ends::WrittenEnd;
 use bufbooks::lent::refusal;
 use bufmem::word::is_dirty;
 use bufmodel::answer::Written;
@@ -69,7 +69,7 @@ pub fn checkpoint_pool(
     chain: &[i32],
     rows: &[u32],
     store: &mut [u8],
-) -> Flushed
+) -> WrittenEnd
     ensures { λ r.
         ⌜ r .answer
         ≡ writtenAt
@@ -98,14 +98,14 @@ pub fn checkpoint_pool(
         store,
     );
     if k != 0 {
-        return Flushed {
+        return WrittenEnd {
             control: control,
             answer: Written::Refused(k),
         };
     }
     let n = count_dirty(states);
     let after = write_all(control, states, names, pool, rows, store);
-    Flushed {
+    WrittenEnd {
         control: after,
         answer: Written::Pages(n),
     }

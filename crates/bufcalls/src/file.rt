@@ -4,7 +4,6 @@ ghost use mathlib.Core.Path.{_≡_};
 ghost use mathlib.Core.Bool.{true};
 ghost use mathlib.Core.List.{[]};
 ghost use lib.ListN.{length};
-ghost use Rattle.bufmodel.specs.declared.answer.Accepted.the-variants.{Refused};
 ghost use Rattle.bufmodel.specs.Memory.{memory};
 ghost use Rattle.bufmodel.specs.Sizes.{sized};
 ghost use Rattle.bufmodel.specs.Books.{sound};
@@ -14,6 +13,8 @@ ghost use Rattle.bufmodel.specs.Calls.{extend, dropFile};
 ghost use Rattle.buftag.specs.Names.{nameWords};
 ghost use Prim.Native.Nat.{_*_, _<_};
 ghost use Rattle.bufcalls.specs.File.{heldOf, pinnedOf};
+use crate::ends::AcceptedEnd;
+use crate::ends::refused;
 use bufbooks::lent::refusal;
 use bufmem::block::clear_block;
 use bufmem::rows::Row;
@@ -163,22 +164,6 @@ fn release_file(
     after
 }
 
-// What a drop leaves: the control record, and the answer.
-pub struct Dropped {
-    pub control: Control,
-    pub answer: Accepted,
-}
-
-// A refused drop hands the control record back.
-fn drop_refused(control: Control, k: u32) -> Dropped
-    ensures { λ r. ⌜ r ≡ record { control = control; answer = Refused k } ⌝ }
-{
-    Dropped {
-        control: control,
-        answer: Accepted::Refused(k),
-    }
-}
-
 // A file's buffers are emptied, and it has no blocks.
 pub fn drop_file(
     control: Control,
@@ -191,7 +176,7 @@ pub fn drop_file(
     rows: &mut [u32],
     store: &[u8],
     file: FileName,
-) -> Dropped
+) -> AcceptedEnd
     ensures { λ r.
         ⌜ r .answer
         ≡ acceptedAt
@@ -217,13 +202,13 @@ pub fn drop_file(
         store,
     );
     if k != 0 {
-        return drop_refused(control, k);
+        return refused(control, k);
     }
     let Row::At(row) = find_row(rows, file) else {
-        return drop_refused(control, NO_FILE);
+        return refused(control, NO_FILE);
     };
     if any_pinned(states, names, file) {
-        return drop_refused(control, FILE_PINNED);
+        return refused(control, FILE_PINNED);
     }
     let after = release_file(
         control,
@@ -238,7 +223,7 @@ pub fn drop_file(
         file,
     );
     set_blocks(rows, row, 0);
-    Dropped {
+    AcceptedEnd {
         control: after,
         answer: Accepted::Done,
     }

@@ -5,7 +5,7 @@ ghost use Rattle.bufmodel.specs.Memory.{memory};
 ghost use Rattle.bufmodel.specs.Answer.{writtenAt};
 ghost use Rattle.bufmodel.specs.Calls.{flush};
 use crate::buffer::buffer_refusal;
-use crate::ends::Flushed;
+use crate::ends::WrittenEnd;
 use bufmem::flag::one_if;
 use bufmem::state::state_of;
 use bufmem::word::is_dirty;
@@ -26,7 +26,7 @@ pub fn flush_buffer(
     rows: &[u32],
     store: &mut [u8],
     buffer: BufferNumber,
-) -> Flushed
+) -> WrittenEnd
     ensures { λ r.
         ⌜ r .answer
         ≡ writtenAt
@@ -56,14 +56,14 @@ pub fn flush_buffer(
         buffer,
     );
     if k != 0 {
-        return Flushed {
+        return WrittenEnd {
             control: control,
             answer: Written::Refused(k),
         };
     }
     let n = one_if(is_dirty(state_of(states, buffer)));
     let after = write_back(control, states, names, pool, rows, store, buffer);
-    Flushed {
+    WrittenEnd {
         control: after,
         answer: Written::Pages(n),
     }

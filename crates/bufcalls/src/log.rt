@@ -5,7 +5,8 @@ ghost use mathlib.Core.List.{[]};
 ghost use Rattle.bufmodel.specs.Memory.{memory};
 ghost use Rattle.bufmodel.specs.Answer.{acceptedAt};
 ghost use Rattle.bufmodel.specs.Calls.{logInserted, logFlushed};
-use crate::ends::Logged;
+use crate::ends::AcceptedEnd;
+use crate::ends::refused;
 use bufbooks::lent::refusal;
 use bufmodel::answer::Accepted;
 use bufmodel::control::Control;
@@ -25,7 +26,7 @@ pub fn log_inserted(
     rows: &[u32],
     store: &[u8],
     position: u64,
-) -> Logged
+) -> AcceptedEnd
     ensures { λ r.
         ⌜ r .answer
         ≡ acceptedAt
@@ -51,20 +52,14 @@ pub fn log_inserted(
         store,
     );
     if k != 0 {
-        return Logged {
-            control: control,
-            answer: Accepted::Refused(k),
-        };
+        return refused(control, k);
     }
     if position < control.inserted {
-        return Logged {
-            control: control,
-            answer: Accepted::Refused(LOG_SHORTER),
-        };
+        return refused(control, LOG_SHORTER);
     }
     let mut after = control;
     after.inserted = position;
-    Logged {
+    AcceptedEnd {
         control: after,
         answer: Accepted::Done,
     }
@@ -82,7 +77,7 @@ pub fn log_flushed(
     rows: &[u32],
     store: &[u8],
     position: u64,
-) -> Logged
+) -> AcceptedEnd
     ensures { λ r.
         ⌜ r .answer
         ≡ acceptedAt
@@ -108,18 +103,12 @@ pub fn log_flushed(
         store,
     );
     if k != 0 {
-        return Logged {
-            control: control,
-            answer: Accepted::Refused(k),
-        };
+        return refused(control, k);
     }
     if position > control.inserted {
-        return Logged {
-            control: control,
-            answer: Accepted::Refused(FLUSHED_BEYOND),
-        };
+        return refused(control, FLUSHED_BEYOND);
     }
-    Logged {
+    AcceptedEnd {
         control: flushed_to(control, position),
         answer: Accepted::Done,
     }

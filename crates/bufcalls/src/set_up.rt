@@ -8,7 +8,8 @@ ghost use Rattle.buftag.specs.Link.{none};
 ghost use Rattle.bufmodel.specs.Memory.{memory};
 ghost use Rattle.bufmodel.specs.Answer.{acceptedAt};
 ghost use Rattle.bufmodel.specs.Calls.{freeLinks, setUp};
-use crate::ends::Logged;
+use crate::ends::AcceptedEnd;
+use crate::ends::refused;
 use bufbooks::sizes::sizes_ok;
 use bufmodel::answer::Accepted;
 use bufmodel::control::Control;
@@ -62,7 +63,7 @@ pub fn set_up_pool(
     store: &[u8],
     size: usize,
     position: u64,
-) -> Logged
+) -> AcceptedEnd
     ensures { λ r.
         ⌜ r .answer
         ≡ acceptedAt
@@ -84,17 +85,14 @@ pub fn set_up_pool(
         flushed: position,
     };
     if !sizes_ok(fresh, states, names, pool, free, heads, chain, rows, store) {
-        return Logged {
-            control: control,
-            answer: Accepted::Refused(SIZES),
-        };
+        return refused(control, SIZES);
     }
     clear_words(states);
     clear_words(names);
     link_all(free);
     clear_links(heads);
     clear_links(chain);
-    Logged {
+    AcceptedEnd {
         control: fresh,
         answer: Accepted::Done,
     }

@@ -4,3 +4,4 @@ pub mod RowsLaws
 pub mod PlaceLaws
 pub mod FillLaws
 pub mod NameLaws
+pub mod ControlLaws

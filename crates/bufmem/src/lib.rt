@@ -1,6 +1,7 @@
-// The leaves over lent memory: state words, log positions, file rows, blocks of bytes, pages.
+// The leaves over lent memory: control words, state words, log positions, file rows, blocks of bytes, pages.
 
 pub mod block;
+pub mod control;
 pub mod flag;
 pub mod name;
 pub mod page;

@@ -1,28 +1,11 @@
 // Log positions of pages: 8 bytes, the high word before the low one.
 
 ghost use mathlib.Core.Path.{_≡_};
-ghost use Prim.Native.Nat.{_+_, _^_, _≤_, _<_};
+ghost use Prim.Native.Nat.{_+_, _≤_};
 ghost use lib.ListN.{length, drop};
-ghost use Rattle.bufhash.specs.Bytes.{wordAt};
 ghost use Rattle.bufmodel.specs.Position.{position, positionBytes, paste};
 use bufhash::bytes::put_word;
-
-fn wide(byte: u8) -> u64
-    ensures { λ r. ⌜ (r ≡ byte) × (r < 256) ⌝ }
-{
-    byte as u64
-}
-
-// The word whose four bytes stand from a place on, the lowest first.
-fn word_at(bytes: &[u8], at: usize) -> u64
-    requires { ⌜ at + 4 ≤ length (now bytes) ⌝ }
-    ensures { λ r. ⌜ (r ≡ wordAt (now (bytes .entry)) at) × (r < 2 ^ 32) ⌝ }
-{
-    wide(bytes[at])
-        + wide(bytes[at + 1]) * 256
-        + wide(bytes[at + 2]) * 65536
-        + wide(bytes[at + 3]) * 16777216
-}
+use bufhash::bytes::word_at;
 
 // The position whose eight bytes stand from a place on.
 pub fn position_at(bytes: &[u8], at: usize) -> u64

@@ -12,7 +12,14 @@ use buftag::name::FileName;
 use buftag::name::same_file;
 use buftag::number::BlockNumber;
 
+// The words of a row, and where its relation, its block count and its capacity stand.
 pub const ROW_WORDS: usize = 6;
+
+const RELATION_WORD: usize = 2;
+
+const BLOCKS_WORD: usize = 4;
+
+const CAPACITY_WORD: usize = 5;
 
 // What a search for a file answers: its row, or that there is none.
 pub enum Row {
@@ -39,7 +46,7 @@ pub fn is_file(rows: &[u32], row: usize, file: FileName) -> bool
     requires { ⌜ row * rowWords + rowWords ≤ length (now rows) ⌝ }
     ensures { λ r. ⌜ r ≡ sameFile (fileAt (now (rows .entry)) row) file ⌝ }
 {
-    if rows[row * ROW_WORDS + 2] != file.relation {
+    if rows[row * ROW_WORDS + RELATION_WORD] != file.relation {
         return false;
     }
     same_file(file_at(rows, row), file)
@@ -50,7 +57,7 @@ pub fn blocks_at(rows: &[u32], row: usize) -> u32
     requires { ⌜ row * rowWords + rowWords ≤ length (now rows) ⌝ }
     ensures { λ r. ⌜ r ≡ blocksAt (now (rows .entry)) row ⌝ }
 {
-    rows[row * ROW_WORDS + 4]
+    rows[row * ROW_WORDS + BLOCKS_WORD]
 }
 
 // Whether a row's file has a block.
@@ -66,7 +73,7 @@ pub fn capacity_at(rows: &[u32], row: usize) -> u32
     requires { ⌜ row * rowWords + rowWords ≤ length (now rows) ⌝ }
     ensures { λ r. ⌜ r ≡ capacityAt (now (rows .entry)) row ⌝ }
 {
-    rows[row * ROW_WORDS + 5]
+    rows[row * ROW_WORDS + CAPACITY_WORD]
 }
 
 // Gives a row's file another number of blocks.
@@ -74,7 +81,7 @@ pub fn set_blocks(rows: &mut [u32], row: usize, blocks: u32)
     requires { ⌜ row * rowWords + rowWords ≤ length (now rows) ⌝ }
     ensures { λ _. ⌜ now (rows .exit) ≡ setBlocks (now (rows .entry)) row blocks ⌝ }
 {
-    rows[row * ROW_WORDS + 4] = blocks;
+    rows[row * ROW_WORDS + BLOCKS_WORD] = blocks;
 }
 
 // The row of a file. Two rows in a turn of the loop: a buffer whose row was guessed wrong is looked for here, in every call.

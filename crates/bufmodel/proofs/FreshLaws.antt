@@ -111,7 +111,7 @@ module _ (m : Memory) (p at : ℕ) where
         names = rw n (length-replicate (nameWords * buffers m) 0);
         pool = rw n (s .pool);
         free = rw n (length-freeLinks 0 (buffers m));
-        chain = rw n (length-replicate (buffers m) none);
+        chain = rw n (length-replicate (length (m .chain)) none ∙ s .chain);
         rows = s .rows;
         store = s .store;
       }
@@ -133,12 +133,12 @@ module _ (m : Memory) (p at : ℕ) where
   unfolding fresh times
   fresh-chains =
       let b = length-replicate (length (m .heads)) none in
-      let n = length-replicate (buffers m) none in
+      let n = length-replicate (length (m .chain)) none in
       record {
         each = λ i h.
             rw (getD-replicate (length (m .heads)) i none (pos 0) (omega arith))
             (record { list = []; linked = done; once = λ k l. rw (fresh-idle k) });
-        idle = λ i h e. ap linkOf (getD-replicate (buffers m) i none (pos 0) (omega arith));
+        idle = λ i h e. ap linkOf (getD-replicate (length (m .chain)) i none (pos 0) (omega arith));
       }
 
   fresh-books : 1 ≤ buffers m → BooksSound (fresh m p at)

@@ -1,12 +1,12 @@
 -- Which buffer has a page, in memory that passes the places 1 and 2.
 use Prim.Native.Nat.{ℕ, _<_}
-use mathlib.Core.Path.{_≡_, sym, ap, _∙_}
+use mathlib.Core.Path.{_≡_, ap, _∙_}
 use mathlib.Core.Bool.{Bool, true, false, not, _&&_}
 use mathlib.Core.Logic.{⊎-elim}
 use borrow.Author.Tests.{not-true}
 use Rattle.laws.specs.First.{Found, found, missing, first}
-use Rattle.laws.proofs.Tests.{and-true, and-left, and-right, true-or-false, never}
-use Rattle.laws.proofs.First.{first-found, first-only}
+use Rattle.laws.proofs.Tests.{and-left, and-right, true-or-false, never}
+use Rattle.laws.proofs.First.{first-found}
 use Rattle.buftag.specs.declared.name.PageName.{PageName}
 use Rattle.buftag.specs.declared.number.BufferNumber.{BufferNumber}
 use Rattle.buftag.specs.declared.lookup.Held.the-variants.{At, Nowhere}
@@ -20,7 +20,6 @@ use Rattle.bufmodel.specs.Memory.{Memory, buffers, wordOf, nameOf}
 use Rattle.bufmodel.specs.Books.{emptyAt}
 use Rattle.bufmodel.specs.Pin.{heldIn}
 use Rattle.bufmodel.proofs.WordLaws.{empty-zero, zero-clean, zero-unpinned}
-use Rattle.bufmodel.proofs.GoodLaws.{Good}
 
 -- ---- a buffer is empty or in use
 module _ (m : Memory) (i : ℕ) where
@@ -64,9 +63,6 @@ module _ (m : Memory) (n : PageName) where
   abbrev has : ℕ → Bool
   has i = used (m .states) i && sameName (nameOf m i) n
 
-  has-of : (i : ℕ) → emptyAt m i ≡ false → nameOf m i ≡ n → has i ≡ true
-  has-of i e q = and-true (full-used m i e) (says-same-name (nameOf m i) n .shown q)
-
   has-says : (i : ℕ) → has i ≡ true → (emptyAt m i ≡ false) × (nameOf m i ≡ n)
   has-says i h = (
     used-full m i (and-left (used (m .states) i) (sameName (nameOf m i) n) h),
@@ -78,19 +74,10 @@ module _ (m : Memory) (n : PageName) where
   unfolding heldIn
   held-none e i f q = held-nowhere (m .states) (m .names) n e i (full-used m i f) q
 
-module _ (m : Memory) (k : Good m) (n : PageName) where
   -- the buffer that it names does
   pub held-at : (b : BufferNumber) → heldIn m n ≡ At b → (b .0 < buffers m) × (emptyAt m (b .0) ≡ false) × (nameOf m (b .0) ≡ n)
   unfolding heldIn held
   held-at b e =
-      let w = first-found (has m n) (buffers m) (at-found (first (buffers m) (has m n)) e) in
-      let q = has-says m n (b .0) (w .1) in
+      let w = first-found has (buffers m) (at-found (first (buffers m) has) e) in
+      let q = has-says (b .0) (w .1) in
       (w .0, q .0, q .1)
-
-  -- a buffer that does is the one it names, since names are distinct
-  pub held-of : (i : ℕ) → i < buffers m → emptyAt m i ≡ false → nameOf m i ≡ n → heldIn m n ≡ At (record { 0 = i })
-  unfolding heldIn held
-  held-of i l f q =
-      ap heldOf
-      (first-only (has m n) (buffers m) i l (has-of m n i f q) (λ j b h.
-      let w = has-says m n j h in k .books .distinct j i (full-used m j (w .0)) (full-used m i f) (w .1 ∙ sym q)))

@@ -8,36 +8,9 @@ use lib.Dec.{ltb}
 use lib.ListN.{length, getD, take, replicate, length-append, length-take, length-drop}
 use borrow.Author.Tests.{ltb-true}
 use Rattle.laws.proofs.Lists.{take-listed, getD-replicate-all}
-use Rattle.buftag.specs.declared.name.PageName.{PageName}
 use Rattle.bufhash.specs.Bytes.{wordBytes, wordAt}
-use Rattle.buftag.specs.Name.{nameOf}
-use Rattle.buftag.proofs.NameLaws.{name-of-bytes}
+use Rattle.bufhash.proofs.BytesLaws.{word-of-bytes, word-lt, bytes-of-word}
 use Rattle.bufmodel.specs.Position.{position, positionBytes, paste, written}
-
--- ---- the bytes of a word, and back
--- as the first word of a name
-word-of-bytes : (w : ℕ) → w < 2 ^ 32 → wordAt (wordBytes w) 0 ≡ w
-word-of-bytes w h =
-    let zero : 0 < 2 ^ 32 = omega arith in
-    ap (λ (n : PageName). n .file .tablespace)
-    (name-of-bytes (nameOf w 0 0 0 0)
-    (record { file = record { tablespace = h; database = zero; relation = zero; fork = zero }; block = zero }))
-
-module _ {a b c d : ℕ} (ha : a < 256) (hb : b < 256) (hc : c < 256) (hd : d < 256) where
-  word-lt : a + b * 256 + c * 65536 + d * 16777216 < 2 ^ 32
-  word-lt = omega arith
-
-  bytes-of-word : wordBytes (a + b * 256 + c * 65536 + d * 16777216) ≡ a ∷ b ∷ c ∷ d ∷ []
-  bytes-of-word =
-      let w = a + b * 256 + c * 65536 + d * 16777216 in
-      let e : w / 256 ≡ b + c * 256 + d * 65536 = omega arith in
-      let f : w / 65536 ≡ c + d * 256 = omega arith in
-      let g : w / 16777216 ≡ d = omega arith in
-      let first : w % 256 ≡ a = omega arith in
-      let second : w / 256 % 256 ≡ b = rw e (omega arith) in
-      let third : w / 65536 % 256 ≡ c = rw f (omega arith) in
-      let fourth : w / 16777216 % 256 ≡ d = rw g (omega arith) in
-      rw (first, second, third, fourth)
 
 -- ---- the bytes of a position, and back
 pub position-of-bytes : (p : ℕ) (rest : List ℕ) → p < 2 ^ 64 → position (positionBytes p ++ rest) ≡ p

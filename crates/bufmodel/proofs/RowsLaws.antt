@@ -10,8 +10,8 @@ use lib.Dec.{ltb}
 use borrow.Author.Tests.{lt-ltb, ltb-true, le-ltb, eq-eqb}
 use Rattle.laws.specs.First.{Found, found, missing}
 use Rattle.laws.specs.Sum.{sum}
-use Rattle.laws.proofs.Tests.{and-true, never, lt-or-le, eq-or-ne}
-use Rattle.laws.proofs.First.{found-same, found-missing, first-found, first-missing, first-only, first-same, cond-found}
+use Rattle.laws.proofs.Tests.{and-true, lt-or-le, eq-or-ne}
+use Rattle.laws.proofs.First.{found-same, found-missing, first-found, first-only, first-same, cond-found}
 use Rattle.laws.proofs.Sum.{sum-grows, sum-same}
 use Rattle.buftag.specs.declared.name.FileName.{FileName}
 use Rattle.buftag.specs.declared.name.PageName.{PageName}
@@ -29,12 +29,6 @@ module _ (rows : List ℕ) where
   row-found f {r} e =
       let w = first-found (λ s. sameFile (fileAt rows s) f) (files rows) e in
       (w .0, says-same-file (fileAt rows r) f .holds (w .1))
-
-  -- where none is found, no row is of that file
-  pub row-missing : (f : FileName) → rowOf rows f ≡ missing → (r : ℕ) → r < files rows → fileAt rows r ≡ f → ⊥
-  unfolding rowOf
-  row-missing f e r l q =
-      never (says-same-file (fileAt rows r) f .shown q) (first-missing (λ s. sameFile (fileAt rows s) f) (files rows) e r l)
 
   -- rows differ in their first four numbers: rows of one file are one
   pub row-same : RowsSound rows → (r s : ℕ) → r < files rows → s < files rows → fileAt rows r ≡ fileAt rows s → r ≡ s

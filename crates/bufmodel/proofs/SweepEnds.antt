@@ -12,10 +12,10 @@ use lib.Seq.{getD-set-same, getD-set-other}
 use Rattle.laws.specs.First.{Found, found, missing}
 use Rattle.laws.proofs.Tests.{eq-or-ne, true-or-false, lt-or-le}
 use Rattle.bufmodel.specs.Word.{usage, pinned, maxUsage, useLess}
-use Rattle.bufmodel.specs.Sweep.{Swept, swept, next, Sweeps, passes, stops, lowers, takes, sweep, sweepAll}
+use Rattle.bufmodel.specs.Sweep.{Swept, swept, next, Sweeps, passes, stops, lowers, takes, sweepAll}
 use Rattle.bufmodel.proofs.WordLaws.{pinned-same}
 use Rattle.bufmodel.proofs.LessUsedLaws.{less-pins, less-usage}
-use Rattle.bufmodel.proofs.SweepLaws.{next-end, next-on, next-lt, sweep-of, sweep-is, sweeps-same}
+use Rattle.bufmodel.proofs.SweepLaws.{next-end, next-on, next-lt, sweep-is, sweeps-same}
 
 -- ---- the hand comes to buffer k after d more probes
 pub data Ahead (n hand k d : ℕ) : Type 0 where
@@ -209,15 +209,6 @@ sweep-ends n run hand u words l h len few =
     (found (f .0), ends-later (omega (arith, mul-le-mul-right n (few (o .at) (o .below)))) (f .1)))
     (λ r. (missing, ends-later (omega arith) r))
     (open-or-stuck n words (n - suc run) run hand (omega arith) h)
-
--- the function does what the relation says
-pub sweep-relates : (fuel n run probes hand : ℕ) (words : List ℕ) → run < n → hand < n → length words ≡ n
-    → (u : ℕ) → ((i : ℕ) → i < n → usage (getD words i 0) ≤ u) → (u + 1) * n ≤ fuel
-    → (s : Swept) × Sweeps n run hand words s
-    × (sweep fuel n run probes hand words ≡ swept (s .victim) (s .words) (s .hand) (probes + s .probes))
-sweep-relates fuel n run probes hand words l h len u few enough =
-    let r = sweep-ends n run hand u words l h len few .1 in
-    (r .end, r .sweeps, sweep-of fuel probes (r .sweeps) (omega arith))
 
 -- ---- the sweep that the pool makes is as published, whatever is pinned
 pub sweepAll-relates : (words : List ℕ) (hand : ℕ) → hand < length words

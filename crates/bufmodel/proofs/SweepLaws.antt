@@ -6,11 +6,10 @@ use mathlib.Core.Bool.{true, false}
 use mathlib.Core.Logic.{_≢_, ⊎-elim}
 use mathlib.Core.List.{List}
 use lib.ListN.{length, getD, set, length-set}
-use lib.Seq.{getD-set-other}
 use borrow.Author.Tests.{eq-eqb, ne-eqb}
 use Rattle.laws.specs.First.{found, missing}
 use Rattle.laws.proofs.First.{found-same, found-missing}
-use Rattle.laws.proofs.Tests.{eq-or-ne, never}
+use Rattle.laws.proofs.Tests.{eq-or-ne}
 use Rattle.bufmodel.specs.Word.{usage, pinned, useLess}
 use Rattle.bufmodel.specs.Sweep.{Swept, swept, next, Sweeps, passes, stops, lowers, takes, sweep}
 use Rattle.bufmodel.proofs.LessUsedLaws.{LessUsed, used-same, used-then, used-less, set-less}
@@ -117,14 +116,3 @@ sweeps-from {n} {hand} h len (takes e z) =
       hand-lt = omega (arith, next-lt n hand h);
       taken = λ v q. rw (sym (found-same q)) (omega arith, e, z);
     }
-
--- a pinned buffer's word is not touched
-pub sweeps-pinned : {n run hand : ℕ} {words : List ℕ} {s : Swept} → Sweeps n run hand words s
-    → (i : ℕ) → pinned (getD words i 0) ≡ true → getD (s .words) i 0 ≡ getD words i 0
-sweeps-pinned (passes e l r) i p = sweeps-pinned r i p
-sweeps-pinned (stops e q) i p = refl
-sweeps-pinned (lowers {hand} {words} e l r) i p =
-    let other : i ≢ hand = λ q. never p (ap (λ (k : ℕ). pinned (getD words k 0)) q ∙ e) in
-    let same = getD-set-other words hand i (useLess (getD words hand 0)) 0 other in
-    sweeps-pinned r i (ap pinned same ∙ p) ∙ same
-sweeps-pinned (takes e z) i p = refl

@@ -30,10 +30,6 @@ module _ (p u f : ℕ) (hp : p < 2 ^ 18) (hu : u < 2 ^ 4) where
   unfolding flags pack
   flags-pack = omega arith
 
-  pub pack-lt : f < 2 ^ 10 → pack p u f < 2 ^ 32
-  unfolding pack
-  pack-lt hf = omega arith
-
 pub pack-fields : (w : ℕ) → pack (pins w) (usage w) (flags w) ≡ w
 unfolding pack pins usage flags
 pack-fields w = omega arith

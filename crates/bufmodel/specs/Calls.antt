@@ -52,7 +52,7 @@ fresh m p at =
       pool = m .pool;
       free = freeLinks 0 (buffers m);
       heads = replicate (length (m .heads)) none;
-      chain = replicate (buffers m) none;
+      chain = replicate (length (m .chain)) none;
       rows = m .rows;
       store = m .store;
     }

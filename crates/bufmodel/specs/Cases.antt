@@ -6,6 +6,7 @@ use lib.ListN.{getD, replicate}
 use lib.IntN.{pos}
 use Rattle.buftag.specs.declared.name.FileName.{FileName}
 use Rattle.buftag.specs.Name.{fileOf, nameOf, nameBytes}
+use Rattle.buftag.specs.Names.{nameWords}
 use Rattle.buftag.specs.Link.{none, linkOf, members}
 use Rattle.bufmodel.specs.Position.{position, positionBytes}
 use Rattle.bufmodel.specs.Memory.{Memory}
@@ -20,7 +21,7 @@ bench =
     record {
       control = record { size = 0; hand = 9; top = pos 9; inserted = 7; flushed = 8 };
       states = replicate 3 7;
-      names = replicate 15 7;
+      names = replicate (nameWords * 3) 7;
       pool = replicate 3072 7;
       free = replicate 3 none;
       heads = replicate 3 none;

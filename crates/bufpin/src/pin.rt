@@ -14,7 +14,7 @@ ghost use Rattle.bufmodel.specs.Books.{sound};
 ghost use Rattle.bufmodel.specs.Answer.{pinnedAt};
 ghost use Rattle.bufmodel.specs.Pin.{pinNew, pin};
 ghost use Rattle.bufpin.specs.Pin.{heldAt, heldWords};
-use crate::ends::PinEnd;
+use crate::ends::PinnedEnd;
 use crate::ends::pin_refused;
 use crate::victim::pin_swept;
 use bufbooks::lent::refusal;
@@ -49,7 +49,7 @@ fn pin_new(
     store: &mut [u8],
     name: PageName,
     g: usize,
-) -> PinEnd
+) -> PinnedEnd
     requires { ⌜ (sized
         (memory control (now states) (now names) (now pool) (now free) (now heads) (now chain) (now rows) (now store)) ≡ true)
         × (sound
@@ -99,7 +99,7 @@ fn pin_new(
         BufferNumber(i),
         g,
     );
-    PinEnd {
+    PinnedEnd {
         control: after,
         answer: Pinned::At {
             buffer: BufferNumber(i),
@@ -111,7 +111,7 @@ fn pin_new(
 }
 
 // A page that is held has one pin more, unless it has the most.
-fn pin_held(control: Control, states: &mut [u32], buffer: BufferNumber) -> PinEnd
+fn pin_held(control: Control, states: &mut [u32], buffer: BufferNumber) -> PinnedEnd
     requires { ⌜ (buffer .0 < length (now states)) × (soundWord (getD (now states) (buffer .0) 0) ≡ true)
         × (empty (getD (now states) (buffer .0) 0) ≡ false) ⌝ }
     ensures { λ r. ⌜ r .control ≡ control ⌝ }
@@ -123,7 +123,7 @@ fn pin_held(control: Control, states: &mut [u32], buffer: BufferNumber) -> PinEn
         return pin_refused(control, PIN_COUNT);
     }
     put_state(states, buffer, pin_more(w));
-    PinEnd {
+    PinnedEnd {
         control: control,
         answer: Pinned::At {
             buffer: buffer,
@@ -145,7 +145,7 @@ pub fn pin_page(
     rows: &[u32],
     store: &mut [u8],
     name: PageName,
-) -> PinEnd
+) -> PinnedEnd
     ensures { λ r.
         ⌜ r .answer
         ≡ pinnedAt

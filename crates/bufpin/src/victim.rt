@@ -17,7 +17,7 @@ ghost use Rattle.bufmodel.specs.Moves.{writeBack, release, load};
 ghost use Rattle.bufmodel.specs.Answer.{pinnedAt};
 ghost use Rattle.bufmodel.specs.Pin.{pinSwept};
 ghost use Rattle.bufpin.specs.Victim.{loadedAt};
-use crate::ends::PinEnd;
+use crate::ends::PinnedEnd;
 use crate::ends::pin_refused;
 use bufmem::state::state_of;
 use bufmem::word::is_dirty;
@@ -47,7 +47,7 @@ fn pin_victim(
     g: usize,
     victim: BufferNumber,
     probes: u64,
-) -> PinEnd
+) -> PinnedEnd
     requires { ⌜ (sized
         (memory control (now states) (now names) (now pool) (now free) (now heads) (now chain) (now rows) (now store)) ≡ true)
         × (sound
@@ -81,7 +81,7 @@ fn pin_victim(
         victim,
         g,
     );
-    PinEnd {
+    PinnedEnd {
         control: after,
         answer: Pinned::At {
             buffer: victim,
@@ -105,7 +105,7 @@ pub fn pin_swept(
     store: &mut [u8],
     name: PageName,
     g: usize,
-) -> PinEnd
+) -> PinnedEnd
     requires { ⌜ (sized
         (memory control (now states) (now names) (now pool) (now free) (now heads) (now chain) (now rows) (now store)) ≡ true)
         × (sound

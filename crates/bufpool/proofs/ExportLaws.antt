@@ -13,7 +13,7 @@ use Rattle.bufmodel.specs.Outcome.{Outcome, checked, refused, zeros}
 use Rattle.bufmodel.specs.Lent.{Lent, Called, controlWords, answerWords, wordsOf, opened, closed, ended, called}
 use Rattle.bufmodel.proofs.GoodLaws.{Good, passed-good}
 use Rattle.bufmodel.proofs.LentLaws.{words-of-control}
-use Rattle.bufbooks.specs.Lent.{controlRead}
+use Rattle.bufmem.specs.Control.{controlRead}
 use Rattle.bufbooks.proofs.LentLaws.{read-opened, read-good}
 use Rattle.bufpool.specs.Lent.{lent, ends, keptWords}
 

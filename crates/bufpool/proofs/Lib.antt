@@ -1,3 +1,3 @@
-pub mod WordsLaws
+pub mod AnswerLaws
 pub mod ExportLaws
 pub mod CallLaws

@@ -8,11 +8,11 @@ ghost use Rattle.bufmodel.specs.Calls.{flush, checkpoint};
 use crate::answer::put_written;
 use crate::answer::refuse;
 use crate::control::keep_control;
-use bufbooks::lent::ANSWER_WORDS;
-use bufbooks::lent::CONTROL_WORDS;
-use bufbooks::lent::read_control;
 use bufcalls::checkpoint::checkpoint_pool;
 use bufcalls::flush::flush_buffer;
+use bufmem::control::ANSWER_WORDS;
+use bufmem::control::CONTROL_WORDS;
+use bufmem::control::read_control;
 use bufmodel::refusal::SIZES;
 use buftag::number::BufferNumber;
 

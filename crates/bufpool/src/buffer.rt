@@ -7,12 +7,12 @@ ghost use Rattle.bufpool.specs.Lent.{lent, ends};
 ghost use Rattle.bufmodel.specs.Calls.{unpin, read, write};
 use crate::answer::put_accepted;
 use crate::answer::refuse;
-use bufbooks::lent::ANSWER_WORDS;
-use bufbooks::lent::CONTROL_WORDS;
-use bufbooks::lent::read_control;
 use bufcalls::buffer::read_buffer;
 use bufcalls::buffer::unpin_buffer;
 use bufcalls::buffer::write_buffer;
+use bufmem::control::ANSWER_WORDS;
+use bufmem::control::CONTROL_WORDS;
+use bufmem::control::read_control;
 use bufmodel::refusal::SIZES;
 use buftag::number::BufferNumber;
 

@@ -10,11 +10,11 @@ use crate::answer::put_accepted;
 use crate::answer::put_extended;
 use crate::answer::refuse;
 use crate::control::keep_control;
-use bufbooks::lent::ANSWER_WORDS;
-use bufbooks::lent::CONTROL_WORDS;
-use bufbooks::lent::read_control;
 use bufcalls::file::drop_file;
 use bufcalls::file::extend_file;
+use bufmem::control::ANSWER_WORDS;
+use bufmem::control::CONTROL_WORDS;
+use bufmem::control::read_control;
 use bufmodel::refusal::SIZES;
 use buftag::name::file_name;
 

@@ -8,11 +8,11 @@ ghost use Rattle.bufmodel.specs.Calls.{logInserted, logFlushed};
 use crate::answer::put_accepted;
 use crate::answer::refuse;
 use crate::control::keep_control;
-use bufbooks::lent::ANSWER_WORDS;
-use bufbooks::lent::CONTROL_WORDS;
-use bufbooks::lent::read_control;
 use bufcalls::log::log_flushed;
 use bufcalls::log::log_inserted;
+use bufmem::control::ANSWER_WORDS;
+use bufmem::control::CONTROL_WORDS;
+use bufmem::control::read_control;
 use bufmodel::refusal::SIZES;
 
 // The log is inserted up to a position.

@@ -8,10 +8,10 @@ ghost use Rattle.bufmodel.specs.Calls.{setUp};
 use crate::answer::put_accepted;
 use crate::answer::refuse;
 use crate::control::keep_control;
-use bufbooks::lent::ANSWER_WORDS;
-use bufbooks::lent::CONTROL_WORDS;
-use bufbooks::lent::read_control;
 use bufcalls::set_up::set_up_pool;
+use bufmem::control::ANSWER_WORDS;
+use bufmem::control::CONTROL_WORDS;
+use bufmem::control::read_control;
 use bufmodel::refusal::SIZES;
 
 // Sets up an empty pool.

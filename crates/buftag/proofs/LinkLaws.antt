@@ -102,10 +102,6 @@ module _ {ls : List ℤ} where
         sum-ones (length ls),
       )
 
-  -- a list that begins is one step, and the list behind it
-  pub links-first : {l : Link} {i : ℕ} {xs : List ℕ} → Links ls l (i ∷ xs) → (l ≡ To i) × (i < length ls) × Links ls (linkAt ls i) xs
-  links-first (step h r) = (refl, h, r)
-
   -- its first place does not stand in it again
   pub links-fresh : {l : Link} {i : ℕ} {xs : List ℕ} → Links ls l (i ∷ xs) → times i xs ≡ 0
   links-fresh {i = i} {xs = xs} r = omega (arith, links-once r i, times-self i xs)

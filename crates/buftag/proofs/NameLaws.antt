@@ -2,7 +2,7 @@
 use mathlib.Core.Path.{_≡_, sym, _∙_, ap}
 use mathlib.Core.List.{List, [], _∷_, _++_}
 use Prim.Native.Nat.{ℕ, suc, _+_, _*_, _/_, _%_, _^_, _≤_, _<_}
-use native.Mathlib.Nat.{mod-lt, mod-eq-of-lt, div-add-mod, div-div-eq-div-mul}
+use native.Mathlib.Nat.{mod-lt}
 use native.Mathlib.Omega.{arith}
 use lib.ListN.{length, getD, drop, drop-of-length-le}
 use lib.Seq.{sets, drop-cons}
@@ -13,7 +13,8 @@ use Rattle.buftag.specs.declared.name.FileName.{FileName}
 use Rattle.buftag.specs.declared.name.PageName.{PageName}
 use Rattle.bufhash.specs.Bytes.{wordBytes, wordAt}
 use Rattle.bufhash.specs.Fnv.{fnv, fnvStart}
-use Rattle.buftag.specs.Name.{fileOf, nameOf, fileBytes, nameBytes, nameOfBytes, hashOf, bucketOf, sameFile, sameName, Fits}
+use Rattle.buftag.specs.Name.{fileOf, nameOf, nameSize, fileBytes, nameBytes, nameOfBytes, hashOf, bucketOf, sameFile, sameName, Fits}
+use Rattle.bufhash.proofs.BytesLaws.{word-of-bytes, bytes-of-word}
 use Rattle.bufhash.proofs.FnvLaws.{fnv-append}
 
 -- ---- equality
@@ -53,62 +54,37 @@ unfolding bucketOf
 bucket-lt n buckets h = mod-lt _ h
 
 -- ---- bytes and back
--- a word is the word of its bytes
-word-back : (w : ℕ) → w < 2 ^ 32 → w % 256 + w / 256 % 256 * 256 + w / 65536 % 256 * 65536 + w / 16777216 % 256 * 16777216 ≡ w
-word-back w h =
-    let e : w / 256 / 256 ≡ w / 65536 = div-div-eq-div-mul w 256 256 in
-    let f : w / 65536 / 256 ≡ w / 16777216 = div-div-eq-div-mul w 65536 256 in
-    let a : 256 * (w / 256) + w % 256 ≡ w = div-add-mod w 256 in
-    let b : 256 * (w / 65536) + w / 256 % 256 ≡ w / 256 = rw e at (div-add-mod (w / 256) 256) in
-    let c : 256 * (w / 16777216) + w / 65536 % 256 ≡ w / 65536 = rw f at (div-add-mod (w / 65536) 256) in
-    let d : w / 16777216 % 256 ≡ w / 16777216 = mod-eq-of-lt (omega arith) in
-    omega arith
-
 -- a name is the name of its bytes
 pub name-of-bytes : (n : PageName) → Fits n → nameOfBytes (nameBytes n) ≡ n
 name-of-bytes n f =
-    name-parts (word-back (n .file .tablespace) (f .file .tablespace)) (word-back (n .file .database) (f .file .database))
-    (word-back (n .file .relation) (f .file .relation)) (word-back (n .file .fork) (f .file .fork)) (word-back (n .block .0) (f .block))
+    name-parts (word-of-bytes (n .file .tablespace) (f .file .tablespace)) (word-of-bytes (n .file .database) (f .file .database))
+    (word-of-bytes (n .file .relation) (f .file .relation)) (word-of-bytes (n .file .fork) (f .file .fork)) (word-of-bytes (n .block .0) (f .block))
 
--- four bytes are the bytes of their word
-bytes-back : (a b c d : ℕ) → a < 256 → b < 256 → c < 256 → d < 256
-    → wordBytes (a + b * 256 + c * 65536 + d * 16777216) ≡ a ∷ b ∷ c ∷ d ∷ []
-bytes-back a b c d ha hb hc hd =
-    let w = a + b * 256 + c * 65536 + d * 16777216 in
-    let p : w % 256 ≡ a = omega arith in
-    let q : w / 256 ≡ b + c * 256 + d * 65536 = omega arith in
-    let r : w / 65536 ≡ c + d * 256 = omega arith in
-    let s : w / 16777216 ≡ d = omega arith in
-    let q′ : (b + c * 256 + d * 65536) % 256 ≡ b = omega arith in
-    let r′ : (c + d * 256) % 256 ≡ c = omega arith in
-    let s′ : d % 256 ≡ d = omega arith in
-    rw (p, q, r, s, q′, r′, s′)
-
-module _ (bs : List ℕ) (len : length bs ≡ 20) (bytes : (i : ℕ) → i < 20 → getD bs i 0 < 256) where
+module _ (bs : List ℕ) (len : length bs ≡ nameSize) (bytes : (i : ℕ) → i < nameSize → getD bs i 0 < 256) where
   -- from place k on there stand its byte and the bytes from the next place on
-  byte-first : (k j : ℕ) → k < 20 → j ≡ suc k → {rest : List ℕ} → rest ≡ drop j bs → getD bs k 0 ∷ rest ≡ drop k bs
+  byte-first : (k j : ℕ) → k < nameSize → j ≡ suc k → {rest : List ℕ} → rest ≡ drop j bs → getD bs k 0 ∷ rest ≡ drop k bs
   byte-first k j h n e = rw (e, n) (sym (drop-cons bs k 0 (omega arith)))
 
   -- and so a word's bytes and those from the fourth place after on
-  word-first : (at : ℕ) → at + 4 ≤ 20 → {rest : List ℕ} → rest ≡ drop (at + 4) bs → wordBytes (wordAt bs at) ++ rest ≡ drop at bs
+  word-first : (at : ℕ) → at + 4 ≤ nameSize → {rest : List ℕ} → rest ≡ drop (at + 4) bs → wordBytes (wordAt bs at) ++ rest ≡ drop at bs
   word-first at h {rest} e =
       let byte : (k : ℕ) → k < 4 → getD bs (at + k) 0 < 256 = λ k l. bytes (at + k) (omega arith) in
       ap (λ (l : List ℕ). l ++ rest)
-      (bytes-back _ _ _ _ (bytes at (omega arith)) (byte 1 (omega arith)) (byte 2 (omega arith)) (byte 3 (omega arith)))
+      (bytes-of-word (bytes at (omega arith)) (byte 1 (omega arith)) (byte 2 (omega arith)) (byte 3 (omega arith)))
       ∙ byte-first at (at + 1) (omega arith) (omega arith)
       (byte-first (at + 1) (at + 2) (omega arith) (omega arith)
       (byte-first (at + 2) (at + 3) (omega arith) (omega arith) (byte-first (at + 3) (at + 4) (omega arith) (omega arith) e)))
 
-  -- twenty bytes are the bytes of their name
+  -- so many bytes are the bytes of their name
   pub bytes-of-name : nameBytes (nameOfBytes bs) ≡ bs
   bytes-of-name =
       word-first 0 (omega arith)
       (word-first 4 (omega arith)
       (word-first 8 (omega arith)
-      (word-first 12 (omega arith) (word-first 16 (omega arith) (sym (drop-of-length-le bs {i = 20} (omega arith)))))))
+      (word-first 12 (omega arith) (word-first 16 (omega arith) (sym (drop-of-length-le bs {i = nameSize} (omega arith)))))))
 
--- the five words stored one after the other fill 20 bytes
-pub bytes-put : (out : List ℕ) (n : PageName) → length out ≡ 20
+-- the words stored one after the other fill the bytes of a name
+pub bytes-put : (out : List ℕ) (n : PageName) → length out ≡ nameSize
     → sets
     (sets
     (sets

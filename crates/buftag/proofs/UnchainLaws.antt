@@ -15,13 +15,10 @@ use Rattle.laws.proofs.Times.{absent, without-self, without-other, times-gone, 
 use Rattle.laws.proofs.Lists.{getD-map-in}
 use Rattle.buftag.specs.declared.link.Link.{Link}
 use Rattle.buftag.specs.declared.link.Link.the-variants.{End}
-use Rattle.buftag.specs.Name.{bucketOf}
-use Rattle.buftag.specs.Names.{nameAt}
 use Rattle.buftag.specs.Link.{none, numberAt, linkOf, linkAt, isTo, Links, done, step, Holds}
 use Rattle.buftag.specs.Lookup.{used}
 use Rattle.buftag.specs.Chain.{inBucket, ChainsSound, past, unchainHeads, unchainChain}
 use Rattle.buftag.proofs.LinkLaws.{links-once, links-fresh}
-use Rattle.buftag.proofs.HoldsLaws.{other-out}
 use Rattle.buftag.proofs.ChainLaws.{Apart, apart-once}
 
 -- no list leads to a place that is not in it
@@ -87,13 +84,6 @@ module _ (chain : List ℤ) (i : ℕ) where
 
 module _ (words names words′ names′ : List ℕ) (heads chain : List ℤ) (i : ℕ) (apart : Apart i words names words′ names′)
     (within : i < length chain) (some : 0 < length heads) (sound : ChainsSound words names heads chain) where
-  -- the other buckets' lists are as they were
-  pub unchain-others : used words i ≡ true → (c : ℕ) → c ≢ bucketOf (nameAt names i) (length heads) → (xs : List ℕ) → c < length heads
-      → Links chain (linkAt heads c) xs → Links (unchainChain chain i) (linkAt (unchainHeads heads chain i) c) xs
-  unchain-others u c ne xs h r =
-      let out = other-out sound h r i ne in
-      rw (unchain-head chain i heads c h, links-not-to i r out) (unchain-kept chain i r out)
-
   unchain-each : used words′ i ≡ false → (c : ℕ) → c < length heads
       → Holds (unchainChain chain i) (linkAt (unchainHeads heads chain i) c) (inBucket words′ names′ (length heads) c)
   unchain-each after c h =

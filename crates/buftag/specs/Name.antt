@@ -31,6 +31,9 @@ pub record Fits (n : PageName) : Type 0 where
   pub block : n .block .0 < 2 ^ 32
 
 -- ---- as bytes: 20, in this order, with fork before block
+abbrev pub nameSize : ℕ
+nameSize = 20
+
 abbrev pub fileBytes : FileName → List ℕ
 fileBytes f = wordBytes (f .tablespace) ++ (wordBytes (f .database) ++ (wordBytes (f .relation) ++ wordBytes (f .fork)))
 

@@ -5,17 +5,16 @@ ghost use Prim.Native.Nat.{_<_};
 ghost use lib.ListN.{length};
 ghost use Rattle.bufhash.specs.Bytes.{wordBytes};
 ghost use Rattle.bufhash.specs.Fnv.{fnv, fnvStart};
-ghost use Rattle.buftag.specs.Name.{fileOf, nameOf, fileBytes, nameBytes, hashOf, bucketOf, sameFile, sameName, isFork};
+ghost use Rattle.buftag.specs.Name.{fileOf, nameOf, nameSize, fileBytes, nameBytes, hashOf, bucketOf, sameFile, sameName, isFork};
 use crate::number::BlockNumber;
 use bufhash::bytes::put_word;
 use bufhash::fnv::mix_word;
 
-// The forks of a file.
-pub const TABLE: u32 = 0;
+// The bytes of a name.
+pub const NAME_SIZE: usize = 20;
 
-pub const FREE_SPACE_MAP: u32 = 1;
-
-pub const VISIBILITY_MAP: u32 = 2;
+// The last of a file's forks: 0 table, 1 free space map, 2 visibility map.
+const VISIBILITY_MAP: u32 = 2;
 
 pub struct FileName {
     pub tablespace: u32,
@@ -112,9 +111,9 @@ pub fn same(a: PageName, b: PageName) -> bool
     same_file(file_a, file_b) & (a.block.0 == b.block.0)
 }
 
-// Fills 20 bytes with a name's.
+// Fills a slice with a name's bytes.
 pub fn put_bytes(out: &mut [u8], name: PageName)
-    requires { ⌜ length (now out) ≡ 20 ⌝ }
+    requires { ⌜ length (now out) ≡ nameSize ⌝ }
     ensures { λ _. ⌜ now (out .exit) ≡ nameBytes name ⌝ }
 {
     put_word(out, 0, name.file.tablespace);

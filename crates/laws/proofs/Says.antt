@@ -1,13 +1,13 @@
 -- A test with the statement that it decides: one law for each connective, so that the pair is put together as the test is.
 use Prim.Native.Nat.{ℕ, _≤_, _<_}
 use mathlib.Core.Path.{_≡_, refl, sym}
-use mathlib.Core.Bool.{Bool, true, false, not, _&&_, _||_, true≢false, cond}
+use mathlib.Core.Bool.{Bool, true, false, not, _&&_, _||_, true≢false}
 use mathlib.Core.Logic.{_⊎_, inl, inr, ⊎-elim}
 use lib.Dec.{eqb, leb, ltb}
 use borrow.Author.Tests.{eq-eqb, eqb-true, le-leb, leb-true, lt-ltb, ltb-true, not-true, not-false}
 use Rattle.laws.specs.Every.{all, any}
 use Rattle.laws.specs.Says.{Says}
-use Rattle.laws.proofs.Tests.{and-true, and-left, and-right, never, true-or-false}
+use Rattle.laws.proofs.Tests.{and-true, and-left, and-right, never}
 use Rattle.laws.proofs.Every.{all-false-at, all-at, all-of}
 
 pub says-eq : (a b : ℕ) → Says (eqb a b) (a ≡ b)
@@ -55,22 +55,6 @@ says-any n p P s =
           (r .0, r .1, s (r .0) (r .1) .holds (not-false _ (r .2)));
       shown = λ r. not-of _ (λ h. of-not _ (all-at (λ i. not (p i)) n h (r .0) (r .1)) (s (r .0) (r .1) .shown (r .2)));
     }
-
--- if a then b, else c
-pub says-cond : {a b c : Bool} {P Q R : Type 0} → Says a P → (P → Says b Q) → ((P → ⊥) → Says c R)
-    → Says (cond a b c) ((P → Q) × ((P → ⊥) → R))
-says-cond {a} {b} {c} {P} {Q} {R} s t u =
-    record {
-      holds = λ h. (λ p. t p .holds (rw (s .shown p) at h), λ f. u f .holds (rw (no f) at h));
-      shown = λ q. ⊎-elim (λ e. rw e (t (s .holds e) .shown (q .0 (s .holds e))))
-          (λ e. rw e (u (not-it e) .shown (q .1 (not-it e)))) (true-or-false a);
-    }
-  where
-    no : (P → ⊥) → a ≡ false
-    no f = not-true a (says-not s .shown f)
-
-    not-it : a ≡ false → P → ⊥
-    not-it e p = never (s .shown p) e
 
 -- another way to say it
 pub says-as : {b : Bool} {P Q : Type 0} → (P → Q) → (Q → P) → Says b P → Says b Q

@@ -78,7 +78,7 @@ module _ (m : Memory) (k : Good m) (n : PageName) (g : ℕ) (e : placeOf (m .row
   -- the one that the look-up names
   pub held-has : (b : BufferNumber) → heldIn m n ≡ At b → Has m (b .0) g
   held-has b h =
-      let p = held-at m k n b h in
+      let p = held-at m n b h in
       record { below = p .0; full = p .1; place = ap (placeOf (m .rows)) (p .2) ∙ e }
 
   -- none, where it names none

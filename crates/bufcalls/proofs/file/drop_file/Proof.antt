@@ -52,8 +52,8 @@ rowed c = c .before .before .before .before
 refusal-requires : tie.Need-refusal-requires
 refusal-requires c κs = search needs
 
-drop-refused-requires : tie.Need-drop-refused-requires
-drop-refused-requires c κs = search needs
+refused-requires : tie.Need-refused-requires
+refused-requires c κs = search needs
 
 same-length : tie.Need-same-length
 same-length c = search needs
@@ -77,7 +77,7 @@ returns : tie.Need-returns
 returns c =
     let i = c .before in
     let s = i .before .before .before .before .before .before .before .before .before .before .before .before .before in
-    rw (c .drop-refused .ensures)
+    rw (c .refused .ensures)
     (accepted-refused (i .if1 .taken) (drop-early (lent s) (s .args .file) (i .before .refusal .ensures) (i .if1 .taken)))
 
 find-row-requires : tie.Need-find-row-requires
@@ -89,8 +89,8 @@ enum-known-row c = search needs
 enum-told : tie.Need-enum-told
 enum-told c = search needs
 
-drop-refused-requires-2 : tie.Need-drop-refused-requires-2
-drop-refused-requires-2 c κs = search needs
+refused-requires-2 : tie.Need-refused-requires-2
+refused-requires-2 c κs = search needs
 
 same-length-7 : tie.Need-same-length-7
 same-length-7 c = search needs
@@ -116,15 +116,15 @@ returns-2 c =
     let e = t .before .before .before .before in
     let m = lent (start e) in
     let f = start e .args .file in
-    rw (c .drop-refused2 .ensures)
+    rw (c .refused2 .ensures)
     (accepted-refused (λ z. absurd (omega arith))
     (drop-missing m f (good e) (row-none (m .rows) f (t .before .before .find-row .ensures) (t .enum-told .given .1))))
 
 any-pinned-requires : tie.Need-any-pinned-requires
 any-pinned-requires c κs = good (c .before .before .before .before .before .before .before) .sizes .names
 
-drop-refused-requires-3 : tie.Need-drop-refused-requires-3
-drop-refused-requires-3 c κs = search needs
+refused-requires-3 : tie.Need-refused-requires-3
+refused-requires-3 c κs = search needs
 
 same-length-13 : tie.Need-same-length-13
 same-length-13 c = search needs
@@ -149,7 +149,7 @@ returns-3 c =
     let i = c .before in
     let k = i .before .before .before .before in
     let m = lent (start (passed k)) in
-    rw (c .drop-refused3 .ensures)
+    rw (c .refused3 .ensures)
     (accepted-refused (λ z. absurd (omega arith))
     (drop-pinned m (file k) (good (passed k)) (row-is k) (sym (i .before .any-pinned .ensures) ∙ i .if2 .taken)))
 
@@ -197,7 +197,7 @@ drop-file-spec =
     tie.close
     (tie.spec
     refusal-requires
-    drop-refused-requires
+    refused-requires
     same-length
     same-length-2
     same-length-3
@@ -208,7 +208,7 @@ drop-file-spec =
     find-row-requires
     enum-known-row
     enum-told
-    drop-refused-requires-2
+    refused-requires-2
     same-length-7
     same-length-8
     same-length-9
@@ -217,7 +217,7 @@ drop-file-spec =
     same-length-12
     returns-2
     any-pinned-requires
-    drop-refused-requires-3
+    refused-requires-3
     same-length-13
     same-length-14
     same-length-15

@@ -39,7 +39,7 @@ module _ (m : Memory) (p at : ℕ) where
   unfolding setUp fresh
   fit e s n f h k =
       let z = sizes-say p m .holds e in
-      rw (s, n, f, h, k, z .names, z .free, z .chain) (outcome-done [] m _ (refusal-past 1 [] (ap not e) ∙ refusal-none))
+      rw (s, n, f, h, k, z .names, z .free) (outcome-done [] m _ (refusal-past 1 [] (ap not e) ∙ refusal-none))
 
 abbrev lent : tie.Start → Memory
 lent s =
@@ -57,6 +57,9 @@ passed c = sym (c .before .sizes-ok .ensures) ∙ not-false _ (c .if1 .left)
 
 sizes-ok-requires : tie.Need-sizes-ok-requires
 sizes-ok-requires c κs = search needs
+
+refused-requires : tie.Need-refused-requires
+refused-requires c κs = search needs
 
 same-length : tie.Need-same-length
 same-length c = search needs
@@ -76,9 +79,11 @@ same-length-5 c = search needs
 returns : tie.Need-returns
 unfolding sized sizedFor
 returns c =
-    let s = entry (c .before) in
-    accepted-refused (λ z. omega arith)
-    (unfit (lent s) (s .args .size) (s .args .position) (sym (c .before .sizes-ok .ensures) ∙ not-true _ (c .if1 .taken)))
+    let i = c .before in
+    let s = entry (i .before) in
+    rw (c .refused .ensures)
+    (accepted-refused (λ z. omega arith)
+    (unfit (lent s) (s .args .size) (s .args .position) (sym (i .before .sizes-ok .ensures) ∙ not-true _ (i .if1 .taken))))
 
 clear-words-requires : tie.Need-clear-words-requires
 clear-words-requires c κs = search needs
@@ -131,6 +136,7 @@ set-up-pool-spec =
     tie.close
     (tie.spec
     sizes-ok-requires
+    refused-requires
     same-length
     same-length-2
     same-length-3

@@ -51,13 +51,13 @@ use Rattle.bufmodel.specs.Answer.{pinnedAt}
 use Rattle.bufmodel.specs.Pin.{pin}
 use Rattle.bufcontrol.proofs.SizeLaws.{pin-size}
 use Rattle.bufmodel.specs.declared.control.Control.{Control}
-use Rattle.bufpin.specs.declared.ends.PinEnd.{PinEnd}
+use Rattle.bufpin.specs.declared.ends.PinnedEnd.{PinnedEnd}
 use Rattle.bufmodel.specs.declared.answer.Pinned.{Pinned}
 use Rattle.buftag.specs.declared.name.PageName.{PageName}
 use Rattle.bufmodel.proofs.control.Control as T
 use Rattle.bufmodel.proofs.control.Control.Laws as T′
-use Rattle.bufpin.proofs.ends.PinEnd as L
-use Rattle.bufpin.proofs.ends.PinEnd.Laws as L′
+use Rattle.bufpin.proofs.ends.PinnedEnd as L
+use Rattle.bufpin.proofs.ends.PinnedEnd.Laws as L′
 use Rattle.bufmodel.proofs.answer.Pinned as E
 use Rattle.bufmodel.proofs.answer.Pinned.Laws as E′
 use Rattle.buftag.proofs.name.PageName as B
@@ -154,30 +154,30 @@ module _ {M : Type 1} (𝓤 : URA M) (H : Heap 𝓤) (A : Atoms 𝓤) (W : Given
       B.the-row ∷ []) args core-at) ∷ []) ∵ join ! $ frame ! $ done !
 
   -- what it ensures: its answer, and the memory that it leaves
-  abbrev Answered : PinEnd → Type 0
+  abbrev Answered : PinnedEnd → Type 0
   Answered r = r .answer ≡ pinnedAt (pin (memory h (states .now) (names .now) (pool .now) (free .now) (heads .now) (chain .now) (rows .now)
       (store .now)) name .refusal) (pin (memory h (states .now) (names .now) (pool .now) (free .now) (heads .now) (chain .now) (rows .now)
       (store .now)) name .answer)
 
-  abbrev Left : PinEnd → List ℕ → List ℕ → List ℕ → List ℤ → List ℤ → List ℤ → List ℕ → Type 0
+  abbrev Left : PinnedEnd → List ℕ → List ℕ → List ℕ → List ℤ → List ℤ → List ℤ → List ℕ → Type 0
   Left r Zstates Znames Zpool Zfree Zheads Zchain Zstore = memory (r .control) Zstates Znames Zpool Zfree Zheads Zchain (rows .now) Zstore ≡
       pin (memory h (states .now) (names .now) (pool .now) (free .now) (heads .now) (chain .now) (rows .now) (store .now)) name .after
 
-  is-record : (r : PinEnd) (w : Val) → Is L.the-row r (w ∷ []) → Is T.the-row (r .control) (mach (r .control) ∷ [])
+  is-record : (r : PinnedEnd) (w : Val) → Is L.the-row r (w ∷ []) → Is T.the-row (r .control) (mach (r .control) ∷ [])
   is-record r w is = LL.owed L.the-type L′.the-laws r _ is .0
 
-  is-answer : (r : PinEnd) (w : Val) → Is L.the-row r (w ∷ []) → Is E.the-row (r .answer) (mach-answer (r .answer) ∷ [])
+  is-answer : (r : PinnedEnd) (w : Val) → Is L.the-row r (w ∷ []) → Is E.the-row (r .answer) (mach-answer (r .answer) ∷ [])
   is-answer r w is = LL.owed L.the-type L′.the-laws r _ is .1 .0
 
   -- what is owned at exit
-  abbrev at-exit : PinEnd → List ℕ → List ℕ → List ℕ → List ℤ → List ℤ → List ℤ → List ℕ → List (Item 𝓤)
+  abbrev at-exit : PinnedEnd → List ℕ → List ℕ → List ℕ → List ℤ → List ℤ → List ℤ → List ℕ → List (Item 𝓤)
   at-exit r Zstates Znames Zpool Zfree Zheads Zchain Zstore = ‵ (fobs γ (T.the-row .coded .code (back h (r .control)))) ∷
       ‵ (fbor κ (Body (mem T.the-row) b o γ)) ∷ ‵ (flft κ q) ∷ tokens ∷ ‵ (finally u32 (states .name) Zstates) ∷
       ‵ (finally u32 (names .name) Znames) ∷ ‵ (finally u8 (pool .name) Zpool) ∷ ‵ (finally i32 (free .name) Zfree) ∷
       ‵ (finally i32 (heads .name) Zheads) ∷ ‵ (finally i32 (chain .name) Zchain) ∷ ‵ (finally u8 (store .name) Zstore) ∷ shared 7 κ7 u32
       rows ∷ []
 
-  exits : (r : PinEnd) (Zstates : List ℕ) (Znames : List ℕ) (Zpool : List ℕ) (Zfree : List ℤ) (Zheads : List ℤ) (Zchain : List ℤ)
+  exits : (r : PinnedEnd) (Zstates : List ℕ) (Znames : List ℕ) (Zpool : List ℕ) (Zfree : List ℤ) (Zheads : List ℤ) (Zchain : List ℤ)
       (Zstore : List ℕ) → Answered r → Left r Zstates Znames Zpool Zfree Zheads Zchain Zstore → length Zstates ≡ length (states .now) →
       length Znames ≡ length (names .now) → length Zpool ≡ length (pool .now) → length Zfree ≡ length (free .now) → length Zheads ≡ length
       (heads .now) → length Zchain ≡ length (chain .now) → length Zstore ≡ length (store .now) → Is E.the-row (r .answer)
@@ -277,7 +277,7 @@ module _ {M : Type 1} (𝓤 : URA M) (H : Heap 𝓤) (A : Atoms 𝓤) (W : Given
         (and-then ! (load ! (from ! (stop !)) (look ! 14 refl)) (and-then ! (load ! (from ! (stop !)) (look ! 10 refl))
         (and-then ! (load ! (from ! (stop !)) (look ! 42 refl)) (and-then ! (load ! (from ! (stop !)) (look ! 6 refl))
         (and-then ! (load ! (from ! (stop !)) (look ! 38 refl)) (no-more !))))))))))) (λ w.
-        use1 W (later (some (λ (r : PinEnd). (tokens ⊛ ‵ (L.the-row .own r (w ∷ []))) ⊛ raw
+        use1 W (later (some (λ (r : PinnedEnd). (tokens ⊛ ‵ (L.the-row .own r (w ∷ []))) ⊛ raw
         (ensured 𝓤 H A core.ended (core.clauses 𝓤 H A at-mem run) core-lfts args tt r)))) (id⊢ 𝓤 _) $ await ! tt $ pick ! (λ r.
         split ! $ move ! (1 ∷ []) $
         use1 W (some (λ (zs : Unit {0} × (List ℕ × (List ℕ × (List ℕ × (List ℤ ×

@@ -1,7 +1,7 @@
 use borrow.Author.Needs.{needs}
 use mathlib.Core.Path.{sym, _∙_, ap}
 use Rattle.bufmodel.specs.Answer.{pinnedNumber, pinnedWords}
-use Rattle.bufpool.proofs.WordsLaws.{pin-words}
+use Rattle.bufpool.proofs.AnswerLaws.{pin-words}
 use Rattle.bufpool.proofs.answer.put_pinned.Statement.{statement}
 use Rattle.bufpool.proofs.answer.put_pinned.Tie as tie
 

@@ -1,6 +1,6 @@
 use borrow.Author.Needs.{needs}
 use denote.Ref.{now}
-use Rattle.bufpool.proofs.WordsLaws.{four}
+use Rattle.bufpool.proofs.AnswerLaws.{four}
 use Rattle.bufpool.proofs.answer.put_words.Statement.{statement}
 use Rattle.bufpool.proofs.answer.put_words.Tie as tie
 

@@ -1,6 +1,6 @@
 use denote.Ref.{now}
 use lib.ListN.{length}
-use Rattle.buftag.specs.Name.{nameBytes}
+use Rattle.buftag.specs.Name.{nameSize, nameBytes}
 use mathlib.Core.Path.{refl, _∙_, ap}
 use borrow.Author.Tests.{eq-eqb, ne-eqb}
 use borrow.Author.Needs.{needs}
@@ -8,7 +8,7 @@ use Rattle.buftag.proofs.export.buftag_bytes.Statement.{statement}
 use Rattle.buftag.proofs.export.buftag_bytes.Tie as tie
 
 returns : tie.Need-returns
-returns c = rw (ne-eqb (length (now (c .before .before .args .out))) 20 (c .if1 .taken)) (refl, refl)
+returns c = rw (ne-eqb (length (now (c .before .before .args .out))) nameSize (c .if1 .taken)) (refl, refl)
 
 page-name-requires : tie.Need-page-name-requires
 page-name-requires c κs = search needs
@@ -22,7 +22,7 @@ same-length c = search needs
 returns-2 : tie.Need-returns-2
 returns-2 c =
     let s = c .before .before .before .before .before .before .before in
-    rw (eq-eqb (length (now (s .args .out))) 20 (c .before .before .before .before .before .if1 .left))
+    rw (eq-eqb (length (now (s .args .out))) nameSize (c .before .before .before .before .before .if1 .left))
     (refl, c .before .before .put-bytes .ensures ∙ ap nameBytes (c .before .before .before .page-name .ensures))
 
 pub buftag-bytes-spec : {M : Type 1} → statement M
