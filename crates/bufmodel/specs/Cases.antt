@@ -1,5 +1,5 @@
 -- The marked cases A to J of document 01 ("Pages on the bench"): one list, which one theorem covers.
-use Prim.Native.Nat.{ℕ}
+use Prim.Native.Nat.{ℕ, _*_}
 use mathlib.Core.Path.{_≡_, refl}
 use mathlib.Core.List.{List, [], _∷_, _++_}
 use lib.ListN.{getD, replicate}
