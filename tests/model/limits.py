@@ -16,6 +16,11 @@ def lent(n, b, rows, size, control=(7, 9, NO_TOP, 3, 4)):
     return Start(list(control), [7] * n, [7] * (NAME_WORDS * n), pool, [7] * n, [7] * b, [7] * n, list(rows), store)
 
 
+def files(*capacities):
+    """Rows that differ in their first word, without blocks."""
+    return [word for k, capacity in enumerate(capacities) for word in (k, *[0] * (ROW_WORDS - 2), capacity)]
+
+
 def set_ups():
     """Number by hand, start, page size, position, answer slice."""
     row, slice_ = [*KEY, 1, 1], (9, 8, 7, 6)
@@ -33,7 +38,7 @@ def set_ups():
                          ([*KEY, 9, 65536], 0), ([*KEY, 9, 65537], 1), ([*row, *MAP, 0, 65535], 0), ([*row, *MAP, 0, 65536], 1)]:
         yield number, lent(1, 2, rows, 1024), 1024, 2**64 - 1, slice_
     for count, number in [(64, 0), (65, 1)]:
-        yield number, lent(1, 1, [word for k in range(count) for word in (k, 0, 0, 0, 0, int(k == 9))], 1024), 1024, 1, slice_
+        yield number, lent(1, 1, files(*(int(k == 9) for k in range(count))), 1024), 1024, 1, slice_
     for length in [0, 1, CONTROL_WORDS - 1, CONTROL_WORDS + 1]:
         control = (1024, *[0] * CONTROL_WORDS)[:length]
         yield 1, lent(1, 1, row, 1024, control), 1024, 5, slice_
@@ -50,8 +55,6 @@ def checked_set_ups():
 
 def rows():
     """Rows that no store here is long enough for: the sum of capacities, 65,536 at most."""
-    def files(*capacities):
-        return [word for k, capacity in enumerate(capacities) for word in (k, 0, 0, 0, 0, capacity)]
     for number, some in [
             (0, files(65536)), (1, files(65537)), (0, files(1, 65535)), (1, files(2, 65535)), (1, files(65536, 0, 1)),
             (0, files(*[1024] * 64)), (1, files(*[1024] * 63, 1025)), (1, files(2**32 - 1)), (1, files(2**31, 2**31, 2**32 - 1)),
