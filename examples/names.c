@@ -1,4 +1,4 @@
-/* Prints page names as the pool keeps them: their 20 bytes, their hash, and their bucket among so many.
+/* Prints page names as the pool keeps them: their bytes, their hash, and their bucket among so many.
    The first page is document 01's case A; the others are given as tablespace,database,relation,fork,block. */
 #include <errno.h>
 #include <inttypes.h>

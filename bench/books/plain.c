@@ -9,7 +9,7 @@ check_fn plain_check;
 
 static uint32_t mix(uint32_t h, uint32_t w)
 {
-    for (int k = 0; k < 4; k++) {
+    for (int k = 0; k < WORD_BYTES; k++) {
         h = (h ^ (w & 255)) * 16777619u;
         w >>= 8;
     }
@@ -18,40 +18,42 @@ static uint32_t mix(uint32_t h, uint32_t w)
 
 static bool same_file(const uint32_t *row, const uint32_t *file)
 {
-    return row[2] == file[2] && row[0] == file[0] && row[1] == file[1] && row[3] == file[3];
+    return row[FILE_RELATION] == file[FILE_RELATION] && row[FILE_TABLESPACE] == file[FILE_TABLESPACE] &&
+           row[FILE_DATABASE] == file[FILE_DATABASE] && row[FILE_FORK] == file[FILE_FORK];
 }
 
 /* where the guess for a file's row stands */
 static size_t slot_of(const uint32_t *file)
 {
-    return (file[2] + 21 * file[3]) % 64;
+    return (file[FILE_RELATION] + 21 * file[FILE_FORK]) % 64;
 }
 
 /* the row of a file, or the number of rows if it has none */
 static size_t find_row(const uint32_t *rows, size_t files, size_t guess, const uint32_t *file)
 {
     size_t r = 0;
-    if (guess < files && same_file(rows + 6 * guess, file)) return guess;
-    while (r < files && !same_file(rows + 6 * r, file)) r++;
+    if (guess < files && same_file(rows + ROW_WORDS * guess, file)) return guess;
+    while (r < files && !same_file(rows + ROW_WORDS * r, file)) r++;
     return r;
 }
 
 static bool same_name(const uint32_t *a, const uint32_t *b)
 {
-    return a[0] == b[0] && a[1] == b[1] && a[2] == b[2] && a[3] == b[3] && a[4] == b[4];
+    return a[FILE_TABLESPACE] == b[FILE_TABLESPACE] && a[FILE_DATABASE] == b[FILE_DATABASE] && a[FILE_RELATION] == b[FILE_RELATION] &&
+           a[FILE_FORK] == b[FILE_FORK] && a[NAME_BLOCK] == b[NAME_BLOCK];
 }
 
 static bool rows_ok(const uint32_t *rows, size_t files, uint64_t *blocks)
 {
     uint64_t sum = 0;
     if (files > 64) return false;
-    for (size_t r = 0; r < files; r++) sum += rows[6 * r + 5];
+    for (size_t r = 0; r < files; r++) sum += rows[ROW_WORDS * r + ROW_CAPACITY];
     if (sum > 65536) return false;
     for (size_t r = 0; r < files; r++) {
-        const uint32_t *row = rows + 6 * r;
-        if (row[3] > 2 || row[4] > row[5]) return false;
+        const uint32_t *row = rows + ROW_WORDS * r;
+        if (row[FILE_FORK] > 2 || row[ROW_BLOCKS] > row[ROW_CAPACITY]) return false;
         for (size_t s = 0; s < r; s++)
-            if (same_file(rows + 6 * s, row)) return false;
+            if (same_file(rows + ROW_WORDS * s, row)) return false;
     }
     *blocks = sum;
     return true;
@@ -85,7 +87,7 @@ static bool is_found(const int32_t *chain, const uint32_t *names, size_t n, int3
 {
     for (size_t left = n; left > 0; left--) {
         if (at < 0 || (size_t)at >= n) return false;
-        if (same_name(names + 5 * (size_t)at, names + 5 * i)) return (size_t)at == i;
+        if (same_name(names + NAME_WORDS * (size_t)at, names + NAME_WORDS * i)) return (size_t)at == i;
         at = chain[at];
     }
     return false;
@@ -98,40 +100,41 @@ uint32_t plain_check(const uint64_t *control, size_t control_len, const uint32_t
 {
     uint32_t hashes[64], guesses[64] = {0};
     uint64_t blocks;
-    size_t files = rows_len / 6, used = 0, left;
+    size_t files = rows_len / ROW_WORDS, used = 0, left;
     (void)store;
     (void)answer;
 
-    if (answer_len != 4 || control_len != 5 || !size_ok(control[0])) return 1;
+    if (answer_len != ANSWER_WORDS || control_len != CONTROL_WORDS || !size_ok(control[CONTROL_SIZE])) return 1;
     if (n == 0 || n > 1024 || buckets < n || buckets > 4096) return 1;
-    if (names_len != 5 * n || pool_len != n * control[0] || free_len != n || chain_len != n) return 1;
-    if (rows_len % 6 != 0 || !rows_ok(rows, files, &blocks) || store_len != blocks * control[0]) return 1;
+    if (names_len != NAME_WORDS * n || pool_len != n * control[CONTROL_SIZE] || free_len != n || chain_len != n) return 1;
+    if (rows_len % ROW_WORDS != 0 || !rows_ok(rows, files, &blocks) || store_len != blocks * control[CONTROL_SIZE]) return 1;
 
-    if (control[1] >= n || control[4] > control[3]) return 2;
+    if (control[CONTROL_HAND] >= n || control[CONTROL_FLUSHED] > control[CONTROL_INSERTED]) return 2;
     for (size_t r = 0; r < files; r++) {
-        const uint32_t *row = rows + 6 * r;
-        hashes[r] = mix(mix(mix(mix(2166136261u, row[0]), row[1]), row[2]), row[3]);
+        const uint32_t *row = rows + ROW_WORDS * r;
+        hashes[r] = mix(mix(mix(mix(2166136261u, row[FILE_TABLESPACE]), row[FILE_DATABASE]), row[FILE_RELATION]), row[FILE_FORK]);
         guesses[slot_of(row)] = (uint32_t)r;
     }
     for (size_t i = 0; i < n; i++) {
         uint32_t w = states[i];
-        const uint32_t *name = names + 5 * i;
+        const uint32_t *name = names + NAME_WORDS * i;
         if (w == 0) {
-            if ((name[0] | name[1] | name[2] | name[3] | name[4]) != 0 || chain[i] != -1) return 2;
+            uint32_t file = name[FILE_TABLESPACE] | name[FILE_DATABASE] | name[FILE_RELATION] | name[FILE_FORK];
+            if ((file | name[NAME_BLOCK]) != 0 || chain[i] != -1) return 2;
             continue;
         }
-        if ((w >> 18 & 15) > 5 || (w >> 22 != 524 && w >> 22 != 590) || free[i] != -2) return 2;
+        if ((w >> 18 & 15) > MOST_USAGE || (w >> 22 != 524 && w >> 22 != 590) || free[i] != -2) return 2;
         if (w >> 23 & 1) {
-            const uint8_t *page = pool + i * control[0];
-            if (((uint64_t)word(page) << 32 | word(page + 4)) > control[3]) return 2;
+            const uint8_t *page = pool + i * control[CONTROL_SIZE];
+            if (((uint64_t)word(page) << 32 | word(page + 4)) > control[CONTROL_INSERTED]) return 2;
         }
         size_t r = find_row(rows, files, guesses[slot_of(name)], name);
-        if (r == files || name[4] >= rows[6 * r + 4]) return 2;
-        if (!is_found(chain, names, n, heads[mix(hashes[r], name[4]) % buckets], i)) return 2;
+        if (r == files || name[NAME_BLOCK] >= rows[ROW_WORDS * r + ROW_BLOCKS]) return 2;
+        if (!is_found(chain, names, n, heads[mix(hashes[r], name[NAME_BLOCK]) % buckets], i)) return 2;
         used++;
     }
     left = n - used;
-    uint64_t top = control[2];
+    uint64_t top = control[CONTROL_TOP];
     if (!list_ok(top == UINT64_MAX ? -1 : top > INT32_MAX ? -3 : (int32_t)top, free, n, &left) || left != 0) return 2;
     left = used;
     for (size_t b = 0; b < buckets; b++)

@@ -6,8 +6,6 @@
 
 enum { SPAN = 64, RUN = 16 };
 
-/* The four numbers of a row or of a name, as arguments. */
-#define FILE_OF(words) (words)[0], (words)[1], (words)[2], (words)[3]
 #define ANSWER(pool) (pool)->answer, BUFPOOL_ANSWER_WORDS
 
 static size_t buffers(const struct pool *pool)
@@ -23,7 +21,7 @@ static uint64_t inserted(const struct pool *pool)
 /* the kth page in runs of 16 blocks of a file; the pool is set back to the first of them */
 static void name_page(const struct pool *pool, size_t k, uint32_t *name)
 {
-    memcpy(name, pool->kept.rows + BUFPOOL_ROW_WORDS * (k / RUN % pool->files), 4 * sizeof *name);
+    memcpy(name, pool->kept.rows + BUFPOOL_ROW_WORDS * (k / RUN % pool->files), FILE_WORDS * sizeof *name);
     name[BUFPOOL_BLOCK] = (uint32_t)(k / RUN / pool->files * RUN + k % RUN);
 }
 
@@ -44,14 +42,14 @@ static size_t dirty_buffer(const struct pool *pool, size_t k)
 static uint32_t pin_held(const struct side *side, struct pool *pool, size_t k)
 {
     const uint32_t *name = pool->lent.names + BUFPOOL_NAME_WORDS * (k % buffers(pool));
-    return side->pin(BUFPOOL_LENT(&pool->lent), FILE_OF(name), name[BUFPOOL_BLOCK], ANSWER(pool));
+    return side->pin(BUFPOOL_LENT(&pool->lent), NAME_OF(name), ANSWER(pool));
 }
 
 static uint32_t pin_other(const struct side *side, struct pool *pool, size_t k)
 {
     uint32_t name[BUFPOOL_NAME_WORDS];
     name_other(pool, k, name);
-    return side->pin(BUFPOOL_LENT(&pool->lent), FILE_OF(name), name[BUFPOOL_BLOCK], ANSWER(pool));
+    return side->pin(BUFPOOL_LENT(&pool->lent), NAME_OF(name), ANSWER(pool));
 }
 
 static uint32_t unpin(const struct side *side, struct pool *pool, size_t k)
@@ -87,14 +85,14 @@ static uint32_t checkpoint(const struct side *side, struct pool *pool, size_t k)
 static uint32_t peek_held(const struct side *side, struct pool *pool, size_t k)
 {
     const uint32_t *name = pool->lent.names + BUFPOOL_NAME_WORDS * (k % buffers(pool));
-    return side->peek(BUFPOOL_LENT(&pool->lent), FILE_OF(name), name[BUFPOOL_BLOCK], ANSWER(pool));
+    return side->peek(BUFPOOL_LENT(&pool->lent), NAME_OF(name), ANSWER(pool));
 }
 
 static uint32_t peek_other(const struct side *side, struct pool *pool, size_t k)
 {
     uint32_t name[BUFPOOL_NAME_WORDS];
     name_other(pool, k, name);
-    return side->peek(BUFPOOL_LENT(&pool->lent), FILE_OF(name), name[BUFPOOL_BLOCK], ANSWER(pool));
+    return side->peek(BUFPOOL_LENT(&pool->lent), NAME_OF(name), ANSWER(pool));
 }
 
 static uint32_t extend(const struct side *side, struct pool *pool, size_t k)
@@ -132,7 +130,7 @@ const struct bench_case bench_cases[] = {
     {.name = "pin, free buffer", .call = pin_other, .batch = QUARTER, .empty = 1},
     {.name = "pin, clean victim", .call = pin_other, .dirty = DIRTY_NEXT, .batch = QUARTER},
     {.name = "pin, dirty victim", .call = pin_other, .dirty = DIRTY_HAND, .batch = QUARTER},
-    {.name = "pin, longest sweep", .call = pin_other, .usage = 5, .dirty = DIRTY_NEXT, .batch = ONE},
+    {.name = "pin, longest sweep", .call = pin_other, .usage = MOST_USAGE, .dirty = DIRTY_NEXT, .batch = ONE},
     {.name = "unpin", .call = unpin, .pins = 100000, .usage = 3, .dirty = DIRTY_NEXT, .batch = ANY_NUMBER},
     {.name = "read 64 bytes", .call = read_some, .pins = 1, .usage = 3, .dirty = DIRTY_NEXT, .batch = ANY_NUMBER},
     {.name = "write 64 bytes", .call = write_some, .pins = 1, .usage = 3, .dirty = DIRTY_NEXT, .batch = ANY_NUMBER},

@@ -7,7 +7,7 @@
 
 check_fn plain_check;
 
-enum { PIN = 1, PINS = 0x3FFFF, USE = 1 << 18, MAX_USE = 5 << 18, USES = 15 << 18 };
+enum { PIN = 1, PINS = 0x3FFFF, USE = 1 << 18, MAX_USE = MOST_USAGE << 18, USES = 15 << 18 };
 static const uint32_t DIRTY = 1u << 23 | 1u << 28, CLEAN = 0x83000000u;
 
 /* Parameters and arguments of lent memory. A call says what it changes: control, states, the table (names and links), pool, rows, store. */
@@ -24,7 +24,7 @@ static const uint32_t DIRTY = 1u << 23 | 1u << 28, CLEAN = 0x83000000u;
 
 static uint32_t refuse(uint64_t *answer, size_t answer_len, uint32_t number)
 {
-    if (answer_len == BUFPOOL_ANSWER_WORDS) memset(answer, 0, BUFPOOL_ANSWER_WORDS * sizeof *answer);
+    if (answer_len == ANSWER_WORDS) memset(answer, 0, ANSWER_WORDS * sizeof *answer);
     return number;
 }
 
@@ -40,14 +40,15 @@ static uint32_t accept(uint64_t *answer, uint64_t first, uint64_t second, uint64
 static uint32_t hash(const uint32_t *name)
 {
     uint32_t h = 2166136261u;
-    for (int i = 0; i < BUFPOOL_NAME_WORDS; i++)
+    for (int i = 0; i < NAME_WORDS; i++)
         for (int k = 0; k < 32; k += 8) h = (h ^ (name[i] >> k & 255)) * 16777619u;
     return h;
 }
 
 static bool same_file(const uint32_t *a, const uint32_t *b)
 {
-    return a[2] == b[2] && a[0] == b[0] && a[1] == b[1] && a[3] == b[3];
+    return a[FILE_RELATION] == b[FILE_RELATION] && a[FILE_TABLESPACE] == b[FILE_TABLESPACE] && a[FILE_DATABASE] == b[FILE_DATABASE] &&
+           a[FILE_FORK] == b[FILE_FORK];
 }
 
 static uint32_t get_word(const uint8_t *at)
@@ -69,9 +70,9 @@ static void put_position(uint8_t *page, uint64_t position)
 /* A file's row, and the first of its blocks in the store; the number of rows if there is none. */
 static size_t find_row(const uint32_t *rows, size_t rows_len, const uint32_t *file, uint64_t *start)
 {
-    size_t files = rows_len / BUFPOOL_ROW_WORDS, r = 0;
+    size_t files = rows_len / ROW_WORDS, r = 0;
     uint64_t before = 0;
-    for (; r < files && !same_file(rows + BUFPOOL_ROW_WORDS * r, file); r++) before += rows[BUFPOOL_ROW_WORDS * r + BUFPOOL_CAPACITY];
+    for (; r < files && !same_file(rows + ROW_WORDS * r, file); r++) before += rows[ROW_WORDS * r + ROW_CAPACITY];
     *start = before;
     return r;
 }
@@ -81,9 +82,9 @@ static uint32_t find_page(const uint32_t *rows, size_t rows_len, const uint32_t 
 {
     uint64_t start;
     size_t r = find_row(rows, rows_len, name, &start);
-    if (BUFPOOL_ROW_WORDS * r == rows_len) return BUFPOOL_NO_FILE;
-    if (name[BUFPOOL_BLOCK] >= rows[BUFPOOL_ROW_WORDS * r + BUFPOOL_BLOCKS]) return BUFPOOL_NO_BLOCK;
-    *place = start + name[BUFPOOL_BLOCK];
+    if (ROW_WORDS * r == rows_len) return BUFPOOL_NO_FILE;
+    if (name[NAME_BLOCK] >= rows[ROW_WORDS * r + ROW_BLOCKS]) return BUFPOOL_NO_BLOCK;
+    *place = start + name[NAME_BLOCK];
     return 0;
 }
 
@@ -91,8 +92,8 @@ static uint32_t find_page(const uint32_t *rows, size_t rows_len, const uint32_t 
 static int32_t find_held(int32_t at, const int32_t *chain, const uint32_t *names, const uint32_t *name)
 {
     for (; at >= 0; at = chain[at]) {
-        const uint32_t *own = names + BUFPOOL_NAME_WORDS * at;
-        if (own[BUFPOOL_BLOCK] == name[BUFPOOL_BLOCK] && same_file(own, name)) break;
+        const uint32_t *own = names + NAME_WORDS * at;
+        if (own[NAME_BLOCK] == name[NAME_BLOCK] && same_file(own, name)) break;
     }
     return at;
 }
@@ -100,7 +101,7 @@ static int32_t find_held(int32_t at, const int32_t *chain, const uint32_t *names
 /* The link that leads to a buffer takes its own link. */
 static void leave_chain(int32_t *heads, size_t buckets, int32_t *chain, const uint32_t *names, size_t i)
 {
-    int32_t *link = heads + hash(names + BUFPOOL_NAME_WORDS * i) % buckets;
+    int32_t *link = heads + hash(names + NAME_WORDS * i) % buckets;
     while (*link != (int32_t)i) link = chain + *link;
     *link = chain[i];
 }
@@ -109,13 +110,13 @@ static void leave_chain(int32_t *heads, size_t buckets, int32_t *chain, const ui
 static void write_back(uint64_t *control, uint32_t *states, const uint32_t *names, const uint8_t *pool, const uint32_t *rows,
                        size_t rows_len, uint8_t *store, size_t i)
 {
-    size_t size = control[BUFPOOL_PAGE_SIZE];
-    const uint32_t *name = names + BUFPOOL_NAME_WORDS * i;
+    size_t size = control[CONTROL_SIZE];
+    const uint32_t *name = names + NAME_WORDS * i;
     const uint8_t *page = pool + i * size;
     uint64_t start, position = get_position(page);
     find_row(rows, rows_len, name, &start);
-    if (control[BUFPOOL_FLUSHED] < position) control[BUFPOOL_FLUSHED] = position;
-    memcpy(store + (start + name[BUFPOOL_BLOCK]) * size, page, size);
+    if (control[CONTROL_FLUSHED] < position) control[CONTROL_FLUSHED] = position;
+    memcpy(store + (start + name[NAME_BLOCK]) * size, page, size);
     states[i] &= ~DIRTY;
 }
 
@@ -156,7 +157,7 @@ static bool in_page(uint64_t size, uint64_t from, uint64_t length)
 uint32_t plain_set_up(LENDS(MUT, MUT, MUT, const, const, const), uint64_t page_size, uint64_t position, ANSWERS)
 {
     /* no hand is as great: the check ends behind the sizes, with 1 or 2 */
-    const uint64_t sizes_only[BUFPOOL_CONTROL_WORDS] = {page_size, UINT64_MAX, 0, 0, 0};
+    const uint64_t sizes_only[CONTROL_WORDS] = {page_size, UINT64_MAX, 0, 0, 0};
     if (CHECK_WITH(sizes_only) == BUFPOOL_SIZES) return refuse(answer, answer_len, BUFPOOL_SIZES);
     memset(states, 0, n * sizeof *states);
     memset(names, 0, names_len * sizeof *names);
@@ -164,15 +165,15 @@ uint32_t plain_set_up(LENDS(MUT, MUT, MUT, const, const, const), uint64_t page_s
     memset(chain, 255, n * sizeof *chain);
     for (size_t i = 0; i + 1 < n; i++) free[i] = (int32_t)i + 1;
     free[n - 1] = -1;
-    control[BUFPOOL_PAGE_SIZE] = page_size;
-    control[BUFPOOL_HAND] = control[BUFPOOL_FREE_TOP] = 0;
-    control[BUFPOOL_INSERTED] = control[BUFPOOL_FLUSHED] = position;
+    control[CONTROL_SIZE] = page_size;
+    control[CONTROL_HAND] = control[CONTROL_TOP] = 0;
+    control[CONTROL_INSERTED] = control[CONTROL_FLUSHED] = position;
     return accept(answer, 0, 0, 0, 0);
 }
 
 uint32_t plain_pin(LENDS(MUT, MUT, MUT, MUT, const, MUT), FILE_NUMBERS, uint32_t block, ANSWERS)
 {
-    const uint32_t name[BUFPOOL_NAME_WORDS] = {tablespace, database, relation, fork, block};
+    const uint32_t name[NAME_WORDS] = {tablespace, database, relation, fork, block};
     uint64_t place, probes = 0, wrote = 0, top = 0;
     uint32_t refusal = CHECK_WITH(control);
     if (refusal == 0) refusal = find_page(rows, rows_len, name, &place);
@@ -185,18 +186,18 @@ uint32_t plain_pin(LENDS(MUT, MUT, MUT, MUT, const, MUT), FILE_NUMBERS, uint32_t
         states[held] = w + PIN + ((w & USES) < MAX_USE ? USE : 0);
         return accept(answer, (uint64_t)held, 1, 0, 0);
     }
-    size_t i = top = control[BUFPOOL_FREE_TOP], size = control[BUFPOOL_PAGE_SIZE];
+    size_t i = top = control[CONTROL_TOP], size = control[CONTROL_SIZE];
     if (top != BUFPOOL_FREE_NONE) {
-        control[BUFPOOL_FREE_TOP] = (uint64_t)(int64_t)free[i];
+        control[CONTROL_TOP] = (uint64_t)(int64_t)free[i];
         free[i] = -2;
     } else {
-        i = sweep(control + BUFPOOL_HAND, states, n, &probes);
+        i = sweep(control + CONTROL_HAND, states, n, &probes);
         if (i == n) return refuse(answer, answer_len, BUFPOOL_ALL_PINNED);
         wrote = (states[i] & DIRTY) != 0;
         if (wrote) write_back(control, states, names, pool, rows, rows_len, store, i);
         leave_chain(heads, buckets, chain, names, i);
     }
-    memcpy(names + BUFPOOL_NAME_WORDS * i, name, sizeof name);
+    memcpy(names + NAME_WORDS * i, name, sizeof name);
     chain[i] = *head;
     *head = (int32_t)i;
     memcpy(pool + i * size, store + place * size, size);
@@ -218,9 +219,9 @@ uint32_t plain_read(LENDS(const, const, const, const, const, const), uint64_t bu
 {
     uint32_t refusal = CHECK_WITH(control);
     if (refusal == 0) refusal = buffer_refusal(states, n, buffer);
-    if (refusal == 0 && !in_page(control[BUFPOOL_PAGE_SIZE], from, out_len)) refusal = BUFPOOL_RANGE;
+    if (refusal == 0 && !in_page(control[CONTROL_SIZE], from, out_len)) refusal = BUFPOOL_RANGE;
     if (refusal != 0) return refuse(answer, answer_len, refusal);
-    memcpy(out, pool + buffer * control[BUFPOOL_PAGE_SIZE] + from, out_len);
+    memcpy(out, pool + buffer * control[CONTROL_SIZE] + from, out_len);
     return accept(answer, 0, 0, 0, 0);
 }
 
@@ -230,10 +231,10 @@ uint32_t plain_write(LENDS(const, MUT, const, MUT, const, const), uint64_t buffe
     uint32_t refusal = CHECK_WITH(control);
     if (refusal == 0) refusal = buffer_refusal(states, n, buffer);
     if (refusal != 0) return refuse(answer, answer_len, refusal);
-    uint8_t *page = pool + buffer * control[BUFPOOL_PAGE_SIZE];
-    if (from < BUFPOOL_POSITION_BYTES || !in_page(control[BUFPOOL_PAGE_SIZE], from, bytes_len)) refusal = BUFPOOL_RANGE;
+    uint8_t *page = pool + buffer * control[CONTROL_SIZE];
+    if (from < BUFPOOL_POSITION_BYTES || !in_page(control[CONTROL_SIZE], from, bytes_len)) refusal = BUFPOOL_RANGE;
     else if (bytes_len == 0) refusal = BUFPOOL_NO_BYTES;
-    else if (position > control[BUFPOOL_INSERTED]) refusal = BUFPOOL_NOT_INSERTED;
+    else if (position > control[CONTROL_INSERTED]) refusal = BUFPOOL_NOT_INSERTED;
     else if (position < get_position(page)) refusal = BUFPOOL_EARLIER;
     if (refusal != 0) return refuse(answer, answer_len, refusal);
     memcpy(page + from, bytes, bytes_len);
@@ -267,26 +268,26 @@ uint32_t plain_checkpoint(LENDS(MUT, MUT, const, const, const, MUT), ANSWERS)
 
 uint32_t plain_peek(LENDS(const, const, const, const, const, const), FILE_NUMBERS, uint32_t block, ANSWERS)
 {
-    const uint32_t name[BUFPOOL_NAME_WORDS] = {tablespace, database, relation, fork, block};
+    const uint32_t name[NAME_WORDS] = {tablespace, database, relation, fork, block};
     uint64_t place;
     uint32_t refusal = CHECK_WITH(control);
     if (refusal == 0) refusal = find_page(rows, rows_len, name, &place);
     if (refusal != 0) return refuse(answer, answer_len, refusal);
     int32_t held = find_held(heads[hash(name) % buckets], chain, names, name);
-    if (held >= 0) return accept(answer, 1, (uint64_t)held * control[BUFPOOL_PAGE_SIZE], 0, 0);
-    return accept(answer, 0, place * control[BUFPOOL_PAGE_SIZE], 0, 0);
+    if (held >= 0) return accept(answer, 1, (uint64_t)held * control[CONTROL_SIZE], 0, 0);
+    return accept(answer, 0, place * control[CONTROL_SIZE], 0, 0);
 }
 
 uint32_t plain_extend(LENDS(const, const, const, const, MUT, MUT), FILE_NUMBERS, ANSWERS)
 {
-    const uint32_t file[4] = {tablespace, database, relation, fork};
+    const uint32_t file[FILE_WORDS] = {tablespace, database, relation, fork};
     uint64_t start;
     uint32_t refusal = CHECK_WITH(control);
     if (refusal != 0) return refuse(answer, answer_len, refusal);
-    size_t row = BUFPOOL_ROW_WORDS * find_row(rows, rows_len, file, &start), size = control[BUFPOOL_PAGE_SIZE];
+    size_t row = ROW_WORDS * find_row(rows, rows_len, file, &start), size = control[CONTROL_SIZE];
     if (row == rows_len) return refuse(answer, answer_len, BUFPOOL_NO_FILE);
-    uint32_t *blocks = rows + row + BUFPOOL_BLOCKS;
-    if (*blocks == rows[row + BUFPOOL_CAPACITY]) return refuse(answer, answer_len, BUFPOOL_FILE_FULL);
+    uint32_t *blocks = rows + row + ROW_BLOCKS;
+    if (*blocks == rows[row + ROW_CAPACITY]) return refuse(answer, answer_len, BUFPOOL_FILE_FULL);
     memset(store + (start + *blocks) * size, 0, size);
     return accept(answer, (*blocks)++, 0, 0, 0);
 }
@@ -295,47 +296,47 @@ uint32_t plain_extend(LENDS(const, const, const, const, MUT, MUT), FILE_NUMBERS,
 static bool any_pinned(const uint32_t *states, size_t n, const uint32_t *names, const uint32_t *file)
 {
     for (size_t i = 0; i < n; i++)
-        if ((states[i] & PINS) != 0 && same_file(names + BUFPOOL_NAME_WORDS * i, file)) return true;
+        if ((states[i] & PINS) != 0 && same_file(names + NAME_WORDS * i, file)) return true;
     return false;
 }
 
 uint32_t plain_drop(LENDS(MUT, MUT, MUT, const, MUT, const), FILE_NUMBERS, ANSWERS)
 {
-    const uint32_t file[4] = {tablespace, database, relation, fork};
+    const uint32_t file[FILE_WORDS] = {tablespace, database, relation, fork};
     uint64_t start;
     uint32_t refusal = CHECK_WITH(control);
     if (refusal != 0) return refuse(answer, answer_len, refusal);
-    size_t row = BUFPOOL_ROW_WORDS * find_row(rows, rows_len, file, &start);
+    size_t row = ROW_WORDS * find_row(rows, rows_len, file, &start);
     if (row == rows_len) return refuse(answer, answer_len, BUFPOOL_NO_FILE);
     if (any_pinned(states, n, names, file)) return refuse(answer, answer_len, BUFPOOL_FILE_PINNED);
     for (size_t i = 0; i < n; i++) {
-        uint32_t *name = names + BUFPOOL_NAME_WORDS * i;
+        uint32_t *name = names + NAME_WORDS * i;
         if (states[i] == 0 || !same_file(name, file)) continue;
         leave_chain(heads, buckets, chain, names, i);
-        memset(name, 0, BUFPOOL_NAME_WORDS * sizeof *name);
+        memset(name, 0, NAME_WORDS * sizeof *name);
         states[i] = 0;
         chain[i] = -1;
-        free[i] = (int32_t)control[BUFPOOL_FREE_TOP];
-        control[BUFPOOL_FREE_TOP] = i;
+        free[i] = (int32_t)control[CONTROL_TOP];
+        control[CONTROL_TOP] = i;
     }
-    rows[row + BUFPOOL_BLOCKS] = 0;
+    rows[row + ROW_BLOCKS] = 0;
     return accept(answer, 0, 0, 0, 0);
 }
 
 uint32_t plain_log_inserted(LENDS(MUT, const, const, const, const, const), uint64_t position, ANSWERS)
 {
     uint32_t refusal = CHECK_WITH(control);
-    if (refusal == 0 && position < control[BUFPOOL_INSERTED]) refusal = BUFPOOL_LOG_SHORTER;
+    if (refusal == 0 && position < control[CONTROL_INSERTED]) refusal = BUFPOOL_LOG_SHORTER;
     if (refusal != 0) return refuse(answer, answer_len, refusal);
-    control[BUFPOOL_INSERTED] = position;
+    control[CONTROL_INSERTED] = position;
     return accept(answer, 0, 0, 0, 0);
 }
 
 uint32_t plain_log_flushed(LENDS(MUT, const, const, const, const, const), uint64_t position, ANSWERS)
 {
     uint32_t refusal = CHECK_WITH(control);
-    if (refusal == 0 && position > control[BUFPOOL_INSERTED]) refusal = BUFPOOL_FLUSHED_BEYOND;
+    if (refusal == 0 && position > control[CONTROL_INSERTED]) refusal = BUFPOOL_FLUSHED_BEYOND;
     if (refusal != 0) return refuse(answer, answer_len, refusal);
-    if (position > control[BUFPOOL_FLUSHED]) control[BUFPOOL_FLUSHED] = position;
+    if (position > control[CONTROL_FLUSHED]) control[CONTROL_FLUSHED] = position;
     return accept(answer, 0, 0, 0, 0);
 }

@@ -22,31 +22,32 @@ static bool same(const uint32_t *a, const uint32_t *b, size_t words)
 static uint64_t capacities(void)
 {
     uint64_t sum = 0;
-    for (size_t r = 0; r < files; r++) sum += m.rows[6 * r + 5];
+    for (size_t r = 0; r < files; r++) sum += m.rows[ROW_WORDS * r + ROW_CAPACITY];
     return sum;
 }
 
 static bool rows_hold(void)
 {
-    if ((m.rows_len % 6 != 0 && SLIP != 27) || files > (SLIP == 1 ? 63 : 64)) return false;
+    if ((m.rows_len % ROW_WORDS != 0 && SLIP != 27) || files > (SLIP == 1 ? 63 : 64)) return false;
     if (capacities() > (SLIP == 2 ? 65537 : 65536)) return false;
     for (size_t r = 0; r < files; r++) {
-        const uint32_t *row = m.rows + 6 * r;
-        if (row[3] > (SLIP == 3 ? 3 : 2) || row[4] > row[5] + (SLIP == 4)) return false;
+        const uint32_t *row = m.rows + ROW_WORDS * r;
+        if (row[FILE_FORK] > (SLIP == 3 ? 3 : 2) || row[ROW_BLOCKS] > row[ROW_CAPACITY] + (SLIP == 4)) return false;
         for (size_t s = 0; s < r; s++)
-            if (SLIP != 5 && same(row, m.rows + 6 * s, 4)) return false;
+            if (SLIP != 5 && same(row, m.rows + ROW_WORDS * s, FILE_WORDS)) return false;
     }
     return true;
 }
 
 static bool sizes_hold(void)
 {
-    uint64_t p = m.control_len == 5 || (m.control_len == 6 && SLIP == 28) ? m.control[0] : 0;
+    uint64_t p = m.control_len == CONTROL_WORDS || (m.control_len == CONTROL_WORDS + 1 && SLIP == 28) ? m.control[CONTROL_SIZE] : 0;
     bool permitted = p == 1024 || p == 2048 || p == 4096 || p == 8192 || p == 16384 || (p == 32768 && SLIP != 6) ||
                      (p == 512 && SLIP == 21) || (p == 65536 && SLIP == 22);
     bool buckets = (n <= m.heads_len || (m.heads_len > 0 && SLIP == 25)) && m.heads_len <= (SLIP == 26 ? 4097 : 4096);
-    return (m.answer_len == 4 || SLIP == 23) && permitted && (n >= 1 || SLIP == 24) && n <= 1024 && buckets && m.names_len == 5 * n &&
-           m.pool_len == n * p && m.free_len == n && m.chain_len == n && rows_hold() && (m.store_len == capacities() * p || SLIP == 7);
+    return (m.answer_len == ANSWER_WORDS || SLIP == 23) && permitted && (n >= 1 || SLIP == 24) && n <= 1024 && buckets &&
+           m.names_len == NAME_WORDS * n && m.pool_len == n * p && m.free_len == n && m.chain_len == n && rows_hold() &&
+           (m.store_len == capacities() * p || SLIP == 7);
 }
 
 static bool empty(size_t i)
@@ -65,29 +66,29 @@ static bool word_holds(size_t i)
     if (empty(i)) return true;
     for (size_t k = 0; k < 5; k++)
         if (bit(i, others[k]) && SLIP != 8) return false;
-    return (m.states[i] >> 18 & 15) <= (SLIP == 9 ? 6 : 5) && (bit(i, 24) || SLIP == 29) && (bit(i, 25) || SLIP == 30) &&
+    return (m.states[i] >> 18 & 15) <= MOST_USAGE + (SLIP == 9) && (bit(i, 24) || SLIP == 29) && (bit(i, 25) || SLIP == 30) &&
            (bit(i, 31) || SLIP == 31) &&
            (bit(i, 23) == bit(i, 28) || SLIP == 10);
 }
 
 static bool name_holds(size_t i)
 {
-    static const uint32_t zeros[5];
-    const uint32_t *name = m.names + 5 * i;
-    if (empty(i)) return same(name, zeros, 5) || SLIP == 11;
+    static const uint32_t zeros[NAME_WORDS];
+    const uint32_t *name = m.names + NAME_WORDS * i;
+    if (empty(i)) return same(name, zeros, NAME_WORDS) || SLIP == 11;
     for (size_t j = 0; j < n; j++)
-        if (j != i && !empty(j) && same(name, m.names + 5 * j, 5) && SLIP != 12) return false;
+        if (j != i && !empty(j) && same(name, m.names + NAME_WORDS * j, NAME_WORDS) && SLIP != 12) return false;
     for (size_t r = 0; r < files; r++)
-        if (same(name, m.rows + 6 * r, 4)) return name[4] < m.rows[6 * r + 4] + (SLIP == 13);
+        if (same(name, m.rows + ROW_WORDS * r, FILE_WORDS)) return name[NAME_BLOCK] < m.rows[ROW_WORDS * r + ROW_BLOCKS] + (SLIP == 13);
     return SLIP == 33;
 }
 
 static bool page_holds(size_t i)
 {
-    const uint8_t *b = m.pool + i * m.control[0];
+    const uint8_t *b = m.pool + i * m.control[CONTROL_SIZE];
     uint64_t high = b[0] | b[1] << 8 | b[2] << 16 | (uint64_t)b[3] << 24, low = b[4] | b[5] << 8 | b[6] << 16 | (uint64_t)b[7] << 24;
     if (SLIP == 32) high &= 0xFFFFFFF;
-    return !bit(i, 23) || SLIP == 14 || (high << 32 | low) <= m.control[3];
+    return !bit(i, 23) || SLIP == 14 || (high << 32 | low) <= m.control[CONTROL_INSERTED];
 }
 
 /* how often each buffer stands in the list from a link on; whether the list ends at -1 and leads through buffers alone */
@@ -105,7 +106,7 @@ static bool count_list(int64_t at, const int32_t *links, unsigned *times)
 static bool free_holds(void)
 {
     unsigned times[1024];
-    uint64_t top = m.control[2];
+    uint64_t top = m.control[CONTROL_TOP];
     if (top != UINT64_MAX && top >= n) return false;
     if (!count_list(top == UINT64_MAX ? -1 : (int64_t)top, m.free, times)) return false;
     for (size_t i = 0; i < n; i++) {
@@ -128,10 +129,10 @@ static bool chain_holds(size_t b)
 
 static bool books_hold(void)
 {
-    uint64_t hand = SLIP == 36 ? (uint32_t)m.control[1] : m.control[1];
-    if (hand >= n + (SLIP == 17) || m.control[4] > m.control[3] + (SLIP == 18)) return false;
+    uint64_t hand = SLIP == 36 ? (uint32_t)m.control[CONTROL_HAND] : m.control[CONTROL_HAND];
+    if (hand >= n + (SLIP == 17) || m.control[CONTROL_FLUSHED] > m.control[CONTROL_INSERTED] + (SLIP == 18)) return false;
     if (!free_holds()) return false;
-    for (size_t i = 0; i < n; i++) bucket_of[i] = name_hash(m.names + 5 * i) % m.heads_len;
+    for (size_t i = 0; i < n; i++) bucket_of[i] = name_hash(m.names + NAME_WORDS * i) % m.heads_len;
     for (size_t i = 0; i < n; i++) {
         if (!word_holds(i) || !name_holds(i) || !page_holds(i)) return false;
         if (empty(i) && m.chain[i] != -1 && SLIP != 19) return false;
@@ -150,7 +151,7 @@ uint32_t judge(const uint64_t *control, size_t control_len, const uint32_t *stat
                         (int32_t *)free, (int32_t *)heads, (int32_t *)chain, (uint8_t *)pool, (uint8_t *)store,
                         control_len, answer_len, states_len, names_len, rows_len, free_len, heads_len, chain_len, pool_len, store_len};
     n = states_len;
-    files = rows_len / 6;
+    files = rows_len / ROW_WORDS;
     if (!sizes_hold()) return SLIP == 20 ? 2 : 1;
     return books_hold() ? 0 : 2;
 }

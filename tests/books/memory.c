@@ -23,8 +23,8 @@ uint32_t random_below(uint32_t n)
 uint32_t name_hash(const uint32_t *name)
 {
     uint32_t h = 2166136261u;
-    for (int i = 0; i < 5; i++)
-        for (int k = 0; k < 4; k++) h = (h ^ (name[i] >> 8 * k & 255)) * 16777619u;
+    for (int i = 0; i < NAME_WORDS; i++)
+        for (int k = 0; k < WORD_BYTES; k++) h = (h ^ (name[i] >> 8 * k & 255)) * 16777619u;
     return h;
 }
 
@@ -71,11 +71,11 @@ void memory_new(struct memory *m, const struct shape *most)
     size_t n = most->buffers + 1;
     memset(m, 0, sizeof *m);
     many = 0;
-    ends.control = area_end(6 * sizeof *ends.control);
-    ends.answer = area_end(5 * sizeof *ends.answer);
+    ends.control = area_end((CONTROL_WORDS + 1) * sizeof *ends.control);
+    ends.answer = area_end((ANSWER_WORDS + 1) * sizeof *ends.answer);
     ends.states = area_end(n * sizeof *ends.states);
-    ends.names = area_end(5 * n * sizeof *ends.names);
-    ends.rows = area_end(6 * (most->files + 1) * sizeof *ends.rows);
+    ends.names = area_end(NAME_WORDS * n * sizeof *ends.names);
+    ends.rows = area_end(ROW_WORDS * (most->files + 1) * sizeof *ends.rows);
     ends.free = area_end(n * sizeof *ends.free);
     ends.heads = area_end((most->buckets + 1) * sizeof *ends.heads);
     ends.chain = area_end(n * sizeof *ends.chain);
@@ -109,10 +109,10 @@ static void fill_rows(struct memory *m, const struct shape *s)
 {
     for (size_t r = 0; r < s->files; r++) {
         uint32_t k = (uint32_t)r, capacity = (uint32_t)s->capacity;
-        uint32_t shared[6] = {1663, 5 + k / 6, 16384 + k % 6 / 3, k % 3, capacity, capacity};
-        uint32_t own[6] = {1663, 5, 16384 + k, 0, capacity, capacity};
+        uint32_t shared[ROW_WORDS] = {1663, 5 + k / 6, 16384 + k % 6 / 3, k % 3, capacity, capacity};
+        uint32_t own[ROW_WORDS] = {1663, 5, 16384 + k, 0, capacity, capacity};
         const uint32_t *row = s->relations ? own : shared;
-        memcpy(m->rows + 6 * r, row, 6 * sizeof *row);
+        memcpy(m->rows + ROW_WORDS * r, row, ROW_WORDS * sizeof *row);
     }
 }
 
@@ -122,37 +122,38 @@ static void name_page(struct memory *m, const struct shape *s, size_t k, uint32_
     size_t run = s->capacity < 16 ? s->capacity : 16;
     size_t file = s->runs ? k / run % s->files : k % s->files;
     size_t block = s->runs ? k / run / s->files * run + k % run : k / s->files;
-    memcpy(name, m->rows + 6 * file, 4 * sizeof *name);
-    name[4] = (uint32_t)(block % s->capacity);
+    memcpy(name, m->rows + ROW_WORDS * file, FILE_WORDS * sizeof *name);
+    name[NAME_BLOCK] = (uint32_t)(block % s->capacity);
 }
 
 static void fill_buffer(struct memory *m, const struct shape *s, size_t i, size_t k)
 {
-    uint32_t *name = m->names + 5 * i;
+    uint32_t *name = m->names + NAME_WORDS * i;
     int is_dirty = random_below(100) < s->dirty;
     name_page(m, s, k, name);
     int32_t *head = m->heads + name_hash(name) % m->heads_len;
     m->chain[i] = *head;
     *head = (int32_t)i;
     m->free[i] = -2;
-    m->states[i] = (is_dirty ? 590u : 524u) << 22 | random_below(6) << 18 | random_below(3);
-    uint64_t inserted = m->control[3], below = random_below(1000);
+    m->states[i] = (is_dirty ? 590u : 524u) << 22 | random_below(MOST_USAGE + 1) << 18 | random_below(3);
+    uint64_t inserted = m->control[CONTROL_INSERTED], below = random_below(1000);
     put_position(m->pool + i * s->page, is_dirty ? inserted - (below < inserted ? below : inserted) : inserted - 500 + below);
 }
 
 void memory_fill(struct memory *m, const struct shape *s)
 {
     size_t n = s->buffers, k = 0, pages = s->files * s->capacity;
-    *m = (struct memory){.control_len = 5, .answer_len = 4, .states_len = n, .names_len = 5 * n, .rows_len = 6 * s->files,
-                         .free_len = n, .heads_len = s->buckets, .chain_len = n, .pool_len = n * s->page, .store_len = pages * s->page};
+    *m = (struct memory){.control_len = CONTROL_WORDS, .answer_len = ANSWER_WORDS, .states_len = n, .names_len = NAME_WORDS * n,
+                         .rows_len = ROW_WORDS * s->files, .free_len = n, .heads_len = s->buckets, .chain_len = n,
+                         .pool_len = n * s->page, .store_len = pages * s->page};
     place_all(m);
     uint64_t inserted = s->log + 1 + random_below(1000), hand = n == 0 ? 0 : random_below((uint32_t)n);
-    uint64_t control[5] = {s->page, hand, UINT64_MAX, inserted, inserted - random_below((uint32_t)(inserted - s->log) + 1)};
+    uint64_t control[CONTROL_WORDS] = {s->page, hand, UINT64_MAX, inserted, inserted - random_below((uint32_t)(inserted - s->log) + 1)};
     page_size = s->page;
     memcpy(m->control, control, sizeof control);
-    memset(m->answer, 0, 4 * sizeof *m->answer);
+    memset(m->answer, 0, ANSWER_WORDS * sizeof *m->answer);
     memset(m->states, 0, n * sizeof *m->states);
-    memset(m->names, 0, 5 * n * sizeof *m->names);
+    memset(m->names, 0, NAME_WORDS * n * sizeof *m->names);
     memset(m->chain, 255, n * sizeof *m->chain);
     memset(m->heads, 255, s->buckets * sizeof *m->heads);
     fill_rows(m, s);
@@ -160,8 +161,8 @@ void memory_fill(struct memory *m, const struct shape *s)
         if (k < pages && random_below(100) < s->used) {
             fill_buffer(m, s, i, k++);
         } else {
-            m->free[i] = m->control[2] == UINT64_MAX ? -1 : (int32_t)m->control[2];
-            m->control[2] = i;
+            m->free[i] = m->control[CONTROL_TOP] == UINT64_MAX ? -1 : (int32_t)m->control[CONTROL_TOP];
+            m->control[CONTROL_TOP] = i;
         }
     }
 }
@@ -178,7 +179,7 @@ static void damage_length(struct memory *m)
     size_t *lengths[] = {&m->control_len, &m->answer_len, &m->states_len, &m->names_len, &m->rows_len,
                          &m->free_len, &m->heads_len, &m->chain_len, &m->pool_len, &m->store_len};
     size_t *length = lengths[random_below(10)];
-    uint64_t control[6] = {0};
+    uint64_t control[CONTROL_WORDS + 1] = {0};
     memcpy(control, m->control, m->control_len * sizeof *control);
     if (random_below(2) && *length > 0) --*length;
     else ++*length;
@@ -189,36 +190,37 @@ static void damage_length(struct memory *m)
 static void damage_control(struct memory *m, unsigned kind)
 {
     size_t n = m->states_len;
+    uint64_t *c = m->control;
     uint64_t tops[] = {UINT64_MAX, n, n - 1, 0, 1ull << 32, (1ull << 31) + 1, 1ull << 63, UINT64_MAX - 1, UINT32_MAX,
-                       (1ull << 32) + m->control[2], m->control[2] + 1};
+                       (1ull << 32) + c[CONTROL_TOP], c[CONTROL_TOP] + 1};
     switch (kind) {
-    case 0: m->control[0] = 512ull << random_below(8); break;
-    case 1: m->control[0] += random_below(3) - 1; break;
-    case 2: m->control[1] = random_below(4) == 0 ? 1ull << 32 : n - random_below(2); break;
-    case 3: m->control[2] = tops[random_below(sizeof tops / sizeof *tops)]; break;
-    case 4: m->control[3] = m->control[4] - random_below(2); break;
-    case 5: m->control[4] = m->control[3] + random_below(2); break;
-    default: m->control[3] = random_below(1000); break;
+    case 0: c[CONTROL_SIZE] = 512ull << random_below(8); break;
+    case 1: c[CONTROL_SIZE] += random_below(3) - 1; break;
+    case 2: c[CONTROL_HAND] = random_below(4) == 0 ? 1ull << 32 : n - random_below(2); break;
+    case 3: c[CONTROL_TOP] = tops[random_below(sizeof tops / sizeof *tops)]; break;
+    case 4: c[CONTROL_INSERTED] = c[CONTROL_FLUSHED] - random_below(2); break;
+    case 5: c[CONTROL_FLUSHED] = c[CONTROL_INSERTED] + random_below(2); break;
+    default: c[CONTROL_INSERTED] = random_below(1000); break;
     }
 }
 
 static void damage_rows(struct memory *m, unsigned kind)
 {
-    size_t files = m->rows_len / 6;
+    size_t files = m->rows_len / ROW_WORDS;
     if (files == 0) return;
-    uint32_t *row = m->rows + 6 * random_below((uint32_t)files), *other = m->rows + 6 * random_below((uint32_t)files);
+    uint32_t *row = m->rows + ROW_WORDS * random_below((uint32_t)files), *other = m->rows + ROW_WORDS * random_below((uint32_t)files);
     switch (kind) {
-    case 0: row[3] = random_below(5); break;
-    case 1: row[4] = row[5] + random_below(2); break;
-    case 2: row[4] = random_below(row[4] + 1); break;
-    case 3: memcpy(row, other, 4 * sizeof *row); break;
-    case 4: row[5] = 65536 + random_below(2); break;
+    case 0: row[FILE_FORK] = random_below(5); break;
+    case 1: row[ROW_BLOCKS] = row[ROW_CAPACITY] + random_below(2); break;
+    case 2: row[ROW_BLOCKS] = random_below(row[ROW_BLOCKS] + 1); break;
+    case 3: memcpy(row, other, FILE_WORDS * sizeof *row); break;
+    case 4: row[ROW_CAPACITY] = 65536 + random_below(2); break;
     case 5:
-        row[5] += 1;
+        row[ROW_CAPACITY] += 1;
         m->store_len += page_size;
         PLACE(m, store);
         break;
-    default: row[random_below(4)] ^= 1; break;
+    default: row[random_below(FILE_WORDS)] ^= 1; break;
     }
 }
 
@@ -229,20 +231,20 @@ static void damage_buffer(struct memory *m, unsigned kind)
     size_t i = random_below((uint32_t)n), j = random_below((uint32_t)n);
     switch (kind) {
     case 0: m->states[i] ^= 1u << random_below(32); break;
-    case 1: m->states[i] = (m->states[i] & ~(15u << 18)) | (5 + random_below(3)) << 18; break;
+    case 1: m->states[i] = (m->states[i] & ~(15u << 18)) | (MOST_USAGE + random_below(3)) << 18; break;
     case 2: m->states[i] = 0; break;
     case 3: m->states[i] = 0x83040001u; break;
     case 4: m->states[i] ^= 1u << 23 | 1u << 28; break;
-    case 5: m->names[5 * i + random_below(5)] ^= 1u << random_below(3); break;
-    case 6: memcpy(m->names + 5 * i, m->names + 5 * j, 5 * sizeof *m->names); break;
-    case 7: memset(m->names + 5 * i, 0, 5 * sizeof *m->names); break;
+    case 5: m->names[NAME_WORDS * i + random_below(NAME_WORDS)] ^= 1u << random_below(3); break;
+    case 6: memcpy(m->names + NAME_WORDS * i, m->names + NAME_WORDS * j, NAME_WORDS * sizeof *m->names); break;
+    case 7: memset(m->names + NAME_WORDS * i, 0, NAME_WORDS * sizeof *m->names); break;
     case 8: m->free[i] = some_link(n); break;
     case 9: m->chain[i] = some_link(n); break;
     case 10: m->heads[random_below((uint32_t)m->heads_len)] = some_link(n); break;
     case 11: m->heads[random_below((uint32_t)m->heads_len)] = -1; break;
-    case 12: put_position(m->pool + i * page_size, m->control[3] + random_below(2)); break;
-    case 13: m->names[5 * i + 4] += 1; break;
-    default: put_position(m->pool + i * page_size, m->control[3] ^ 1ull << (32 + random_below(32))); break;
+    case 12: put_position(m->pool + i * page_size, m->control[CONTROL_INSERTED] + random_below(2)); break;
+    case 13: m->names[NAME_WORDS * i + NAME_BLOCK] += 1; break;
+    default: put_position(m->pool + i * page_size, m->control[CONTROL_INSERTED] ^ 1ull << (32 + random_below(32))); break;
     }
 }
 

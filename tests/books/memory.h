@@ -2,6 +2,7 @@
 #ifndef MEMORY_H
 #define MEMORY_H
 
+#include "../layout.h"
 #include <stddef.h>
 #include <stdint.h>
 
@@ -12,6 +13,9 @@ struct memory {
     uint8_t *pool, *store;
     size_t control_len, answer_len, states_len, names_len, rows_len, free_len, heads_len, chain_len, pool_len, store_len;
 };
+
+/* Room for a control record that is too long, in words. */
+#define MOST_CONTROL (CONTROL_WORDS + 3)
 
 struct shape {
     size_t buffers, buckets, files, page; /* N, B, F, P */
@@ -35,7 +39,7 @@ typedef uint32_t check_fn(const uint64_t *, size_t, const uint32_t *, size_t, co
 void seed_random(uint64_t seed);
 uint32_t random_below(uint32_t n);
 
-/* The hash of a name of five words. */
+/* The hash of a page name. */
 uint32_t name_hash(const uint32_t *name);
 
 /* Memory for pools of at most this shape. Each slice ends where a page begins that cannot be read. */

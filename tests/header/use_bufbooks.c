@@ -1,18 +1,26 @@
 /* A program in C or C++ that includes the header first, and twice, and calls its function. Status 0 if it answers right. */
 #include "bufbooks.h"
 #include "bufbooks.h"
+#include "../layout.h"
+
+enum { BUFFERS = 1, BUCKETS = 1, PAGE = 1024 };
+
+static uint64_t control[CONTROL_WORDS] = {PAGE, 0, 0, 100, 100}, answer[ANSWER_WORDS];
+static uint32_t states[BUFFERS], names[NAME_WORDS * BUFFERS], rows[ROW_WORDS];
+static int32_t links[BUFFERS] = {-1}, heads[BUCKETS] = {-1}, chain[BUFFERS] = {-1};
+static uint8_t pool[PAGE], store[1];
+
+/* one empty buffer, one bucket, no file; so many words of names */
+static uint32_t check(size_t names_len)
+{
+    return bufbooks_check(control, CONTROL_WORDS, states, BUFFERS, names, names_len, pool, sizeof pool, links, BUFFERS, heads, BUCKETS,
+                          chain, BUFFERS, rows, 0, store, 0, answer, ANSWER_WORDS);
+}
 
 int main(void)
 {
-    /* one empty buffer, one bucket, no file */
-    uint64_t control[5] = {1024, 0, 0, 100, 100}, answer[4] = {0};
-    uint32_t states[1] = {0}, names[5] = {0}, rows[6] = {0};
-    int32_t links[1] = {-1}, heads[1] = {-1}, chain[1] = {-1};
-    uint8_t pool[1024] = {0}, store[1] = {0};
-    uint32_t sound, sizes, books;
-    sound = bufbooks_check(control, 5, states, 1, names, 5, pool, sizeof pool, links, 1, heads, 1, chain, 1, rows, 0, store, 0, answer, 4);
-    sizes = bufbooks_check(control, 5, states, 1, names, 4, pool, sizeof pool, links, 1, heads, 1, chain, 1, rows, 0, store, 0, answer, 4);
-    control[2] = (uint64_t)1 << 32;
-    books = bufbooks_check(control, 5, states, 1, names, 5, pool, sizeof pool, links, 1, heads, 1, chain, 1, rows, 0, store, 0, answer, 4);
+    uint32_t sound = check(NAME_WORDS), sizes = check(NAME_WORDS - 1), books;
+    control[CONTROL_TOP] = (uint64_t)1 << 32;
+    books = check(NAME_WORDS);
     return sound == BUFBOOKS_SOUND && sizes == BUFBOOKS_SIZES && books == BUFBOOKS_BOOKS ? 0 : 1;
 }

@@ -2,7 +2,8 @@
 
 Each has the number that the rules give by hand; the model must give it too, and then the definitions.
 """
-from pool import CLEAN_FLAGS, DIRTY, DIRTY_FLAGS, FLUSHED, HAND, INSERTED, JUST_DIRTIED, NO_TOP, P, TOP, USAGE_ONE, Pool
+from pool import BLOCK, BLOCKS, CAPACITY, CONTROL_WORDS, FLUSHED, FORK, HAND, INSERTED, NAME_WORDS, P, RELATION, ROW_WORDS, TOP
+from pool import CLEAN_FLAGS, DIRTY, DIRTY_FLAGS, JUST_DIRTIED, MOST_USAGE, NO_TOP, USAGE_ONE, Pool
 from terms import Page, Start, zeros
 
 BUCKETS = 6
@@ -15,7 +16,8 @@ def base():
     Free list 3, 4; inserted 120, flushed 100.
     """
     rows = [*KEY, 3, 3, *MAP, 1, 2]
-    blank = Start([0] * 5, [0] * 5, [0] * 25, [zeros(1024)] * 5, [0] * 5, [0] * BUCKETS, [0] * 5, rows, [zeros(1024)] * 5)
+    blank = Start([0] * CONTROL_WORDS, [0] * 5, [0] * (5 * NAME_WORDS), [zeros(1024)] * 5, [0] * 5, [0] * BUCKETS, [0] * 5, rows,
+                  [zeros(1024)] * 5)
     m = blank.memory()
     for call in [('set_up', 1024, 100), ('log_inserted', 120), *(('pin', KEY + (block,)) for block in (0, 2, 1)),
                  ('write', 1, 8, b'x', 110), ('unpin', 0)]:
@@ -53,6 +55,10 @@ def setting(part, at, value):
     return change
 
 
+def second_row(word, value):
+    return setting('rows', ROW_WORDS + word, value)
+
+
 def longer(part, value):
     return lambda start: getattr(start, part).append(value)
 
@@ -63,7 +69,7 @@ def shorter(part):
 
 def naming(i, name):
     def change(start):
-        start.names[5 * i:5 * i + 5] = name
+        start.names[NAME_WORDS * i:NAME_WORDS * (i + 1)] = name
         chained(start)
     return change
 
@@ -139,17 +145,17 @@ def sizes():
     yield 'P 2^32 + 1024', 1, block_size(2**32 + 1024, 1024)
     yield 'no buffers', 1, emptied
     yield 'no buffers, no buckets', 1, both(emptied, lambda start: start.heads.clear())
-    yield 'fork 3', 1, setting('rows', 9, 3)
-    yield 'fork 2', 0, setting('rows', 9, 2)
-    yield 'fork 2^32 - 1', 1, setting('rows', 9, 2**32 - 1)
-    yield 'blocks above capacity', 1, setting('rows', 10, 3)
-    yield 'blocks at capacity', 0, setting('rows', 10, 2)
-    yield 'equal rows', 1, setting('rows', 9, 0)
+    yield 'fork 3', 1, second_row(FORK, 3)
+    yield 'fork 2', 0, second_row(FORK, 2)
+    yield 'fork 2^32 - 1', 1, second_row(FORK, 2**32 - 1)
+    yield 'blocks above capacity', 1, second_row(BLOCKS, 3)
+    yield 'blocks at capacity', 0, second_row(BLOCKS, 2)
+    yield 'equal rows', 1, second_row(FORK, 0)
     yield '64 rows', 0, many_rows(64)
     yield '65 rows', 1, many_rows(65)
-    yield 'a capacity above the store', 1, setting('rows', 11, 3)
-    yield 'a capacity below the store', 1, setting('rows', 11, 1)
-    yield 'a capacity of 2^32 - 1', 1, setting('rows', 11, 2**32 - 1)
+    yield 'a capacity above the store', 1, second_row(CAPACITY, 3)
+    yield 'a capacity below the store', 1, second_row(CAPACITY, 1)
+    yield 'a capacity of 2^32 - 1', 1, second_row(CAPACITY, 2**32 - 1)
 
 
 def books():
@@ -159,8 +165,9 @@ def books():
                     (TOP, NO_TOP, 2), (TOP, NO_TOP - 1, 2), (TOP, 0, 2), (TOP, 4, 2), (TOP, 2**32 + 3, 2)]:
         yield 'control word %d is %d' % control[:2], control[2], setting('control', *control[:2])
     for word, number in [
-            (clean | 5 * USAGE_ONE, 0), (clean | 6 * USAGE_ONE, 2), (clean | 15 * USAGE_ONE, 2), (clean | 262143, 0), (clean, 0),
-            (dirty, 0), (clean | DIRTY, 2), (clean | JUST_DIRTIED, 2), (1, 2), (USAGE_ONE, 2), (DIRTY_FLAGS, 2),
+            (clean | MOST_USAGE * USAGE_ONE, 0), (clean | (MOST_USAGE + 1) * USAGE_ONE, 2), (clean | 15 * USAGE_ONE, 2),
+            (clean | 262143, 0), (clean, 0), (dirty, 0), (clean | DIRTY, 2), (clean | JUST_DIRTIED, 2), (1, 2), (USAGE_ONE, 2),
+            (DIRTY_FLAGS, 2),
             *((clean ^ 1 << bit, 2) for bit in (24, 25, 31)), *((clean | 1 << bit, 2) for bit in (22, 26, 27, 29, 30)),
             *((dirty ^ 1 << bit, 2) for bit in (24, 25, 31)), (0, 2), (2**32 - 1, 2)]:
         yield f'word {word:#x}', number, setting('states', 0, word)
@@ -169,17 +176,17 @@ def books():
                       (0, 3), (0, -3), (2, 5)]:
         yield f'free link {at} is {value}', 2, setting('free', at, value)
     yield 'the free list the other way', 0, both(setting('free', 3, -1), setting('free', 4, 3), setting('control', TOP, 4))
-    for word in range(5):
-        yield f'word {word} of an empty name', 2, setting('names', 20 + word, 1)
+    for word in range(NAME_WORDS):
+        yield f'word {word} of an empty name', 2, setting('names', 4 * NAME_WORDS + word, 1)
     yield 'a name at the block count', 2, naming(2, MAP + (1,))
     yield 'a name below the block count', 0, naming(2, MAP + (0,))
     yield 'a name far above the block count', 2, naming(2, KEY + (2**32 - 1,))
-    yield 'a name of no file', 2, naming(2, (1663, 5, KEY[2] + 1, 0, 0))
-    yield 'a name of fork 3', 2, naming(2, KEY[:3] + (3, 0))
-    yield 'a name of zeros with no such file', 2, naming(2, (0, 0, 0, 0, 0))
+    yield 'a name of no file', 2, naming(2, KEY[:RELATION] + (KEY[RELATION] + 1,) + KEY[RELATION + 1:] + (0,))
+    yield 'a name of fork 3', 2, naming(2, KEY[:FORK] + (3, 0))
+    yield 'a name of zeros with no such file', 2, naming(2, (0,) * NAME_WORDS)
     yield 'two equal names', 2, naming(2, KEY + (0,))
     yield 'two equal names, one of them dirty', 2, naming(0, KEY + (2,))
-    yield 'two names changed', 2, both(setting('names', 4, 1), setting('names', 14, 0))
+    yield 'two names changed', 2, both(setting('names', BLOCK, 1), setting('names', 2 * NAME_WORDS + BLOCK, 0))
     yield 'a dirty page above inserted', 2, paging(1, 121)
     yield 'a dirty page at inserted', 0, paging(1, 120)
     yield 'a dirty page above inserted by its high word', 2, paging(1, 2**32 + 5)

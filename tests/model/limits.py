@@ -1,6 +1,6 @@
 """The limits of set up, of the file rows, of answer slices, and a shelf's refusals at states that no short list reaches."""
 from damage import KEY, MAP, TRIES, base
-from pool import MOST_PINS, NO_TOP, Pool, rows_fit
+from pool import ANSWER_WORDS, CAPACITY, CONTROL_WORDS, FORK, MOST_PINS, NAME_WORDS, NO_TOP, ROW_WORDS, Pool, rows_fit
 from shelf import Shelf
 from terms import Page, Start, zeros
 
@@ -12,8 +12,13 @@ def pages(count, size, seed):
 
 def lent(n, b, rows, size, control=(7, 9, NO_TOP, 3, 4)):
     """A memory of this shape, with anything in its books."""
-    pool, store = pages(n, size, 1), pages(sum(rows[5::6]), size, 50)
-    return Start(list(control), [7] * n, [7] * (5 * n), pool, [7] * n, [7] * b, [7] * n, list(rows), store)
+    pool, store = pages(n, size, 1), pages(sum(rows[CAPACITY::ROW_WORDS]), size, 50)
+    return Start(list(control), [7] * n, [7] * (NAME_WORDS * n), pool, [7] * n, [7] * b, [7] * n, list(rows), store)
+
+
+def files(*capacities):
+    """Rows that differ in their first word, without blocks."""
+    return [word for k, capacity in enumerate(capacities) for word in (k, *[0] * (ROW_WORDS - 2), capacity)]
 
 
 def set_ups():
@@ -28,16 +33,17 @@ def set_ups():
     for n, b, number in [(0, 0, 1), (0, 1, 1), (1, 1, 0), (1, 4096, 0), (1, 4097, 1), (2, 1, 1), (2, 2, 0), (3, 2, 1), (1024, 1024, 0),
                          (1024, 4096, 0), (1024, 1023, 1), (1025, 1025, 1), (1025, 4096, 1)]:
         yield number, lent(n, b, [], 1024), 1024, 0, slice_
-    for rows, number in [([], 0), (row[:5], 1), ([*row, 0], 1), ([*KEY, 0, 0], 0), ([*KEY, 1, 0], 1), ([*MAP, 2, 3], 0),
-                         ([*KEY[:3], 2, 1, 2], 0), ([*KEY[:3], 3, 1, 2], 1), ([*row, *row], 1), ([*row, *MAP, 0, 1], 0),
+    for rows, number in [([], 0), (row[:-1], 1), ([*row, 0], 1), ([*KEY, 0, 0], 0), ([*KEY, 1, 0], 1), ([*MAP, 2, 3], 0),
+                         ([*KEY[:FORK], 2, 1, 2], 0), ([*KEY[:FORK], 3, 1, 2], 1), ([*row, *row], 1), ([*row, *MAP, 0, 1], 0),
                          ([*KEY, 9, 65536], 0), ([*KEY, 9, 65537], 1), ([*row, *MAP, 0, 65535], 0), ([*row, *MAP, 0, 65536], 1)]:
         yield number, lent(1, 2, rows, 1024), 1024, 2**64 - 1, slice_
     for count, number in [(64, 0), (65, 1)]:
-        yield number, lent(1, 1, [word for k in range(count) for word in (k, 0, 0, 0, 0, int(k == 9))], 1024), 1024, 1, slice_
-    for control in [(), (1024,), (1024, 0, 0, 0), (1024, 0, 0, 0, 0, 0)]:
+        yield number, lent(1, 1, files(*(int(k == 9) for k in range(count))), 1024), 1024, 1, slice_
+    for length in [0, 1, CONTROL_WORDS - 1, CONTROL_WORDS + 1]:
+        control = (1024, *[0] * CONTROL_WORDS)[:length]
         yield 1, lent(1, 1, row, 1024, control), 1024, 5, slice_
-    for answer in [(), (1, 2, 3), (1, 2, 3, 4, 5)]:
-        yield 1, lent(1, 1, row, 1024), 1024, 5, answer
+    for length in [0, ANSWER_WORDS - 1, ANSWER_WORDS + 1]:
+        yield 1, lent(1, 1, row, 1024), 1024, 5, tuple(range(1, 1 + length))
 
 
 def checked_set_ups():
@@ -49,8 +55,6 @@ def checked_set_ups():
 
 def rows():
     """Rows that no store here is long enough for: the sum of capacities, 65,536 at most."""
-    def files(*capacities):
-        return [word for k, capacity in enumerate(capacities) for word in (k, 0, 0, 0, 0, capacity)]
     for number, some in [
             (0, files(65536)), (1, files(65537)), (0, files(1, 65535)), (1, files(2, 65535)), (1, files(65536, 0, 1)),
             (0, files(*[1024] * 64)), (1, files(*[1024] * 63, 1025)), (1, files(2**32 - 1)), (1, files(2**31, 2**31, 2**32 - 1)),
@@ -62,7 +66,7 @@ def rows():
 def answers():
     """A call on the base memory with an answer slice of some length."""
     for k, call in enumerate(TRIES):
-        yield call, tuple(range(5, 5 + (0, 1, 3, 4, 5, 8)[k % 6]))
+        yield call, tuple(range(5, 5 + (0, 1, ANSWER_WORDS - 1, ANSWER_WORDS, ANSWER_WORDS + 1, 8)[k % 6]))
 
 
 def enums():

@@ -1,7 +1,8 @@
 """Random lists of calls: memories to start from, calls that fit them, and what has to happen in them somewhere."""
 import random
 
-from pool import DIRTY, FLUSHED, HAND, INSERTED, NO_TOP, P, TOP, Pool, pins, usage
+from pool import BLOCKS, CAPACITY, FILE_WORDS, FLUSHED, HAND, INSERTED, NAME_WORDS, P, ROW_WORDS, TOP
+from pool import DIRTY, MOST_USAGE, NO_TOP, Pool, pins, usage
 from terms import Page, Start, noise, zeros
 
 KEYS = [(1663, 5, 16384, 0), (1663, 5, 16384, 1), (0, 0, 0, 0), (2**32 - 1, 2**32 - 1, 2**32 - 1, 2), (1663, 5, 16385, 0), (5, 1663, 0, 2)]
@@ -40,22 +41,22 @@ def start(r):
         return [r.randrange(2**32) for _ in range(count)]
     control = [r.choice([0, 1024, 7]), r.randrange(9), r.choice([NO_TOP, 0, 9]), r.randrange(9), r.randrange(9)]
     pool = [Page(r.randrange(2**64), r.randrange(1, 2**31), size) for _ in range(n)]
-    store = [store_page(r, position, size) for _ in range(sum(rows[5::6]))]
-    made = Start(control, any_words(n), any_words(5 * n), pool, any_links(n), any_links(b), any_links(n), rows, store)
+    store = [store_page(r, position, size) for _ in range(sum(rows[CAPACITY::ROW_WORDS]))]
+    made = Start(control, any_words(n), any_words(NAME_WORDS * n), pool, any_links(n), any_links(b), any_links(n), rows, store)
     return made, size, position
 
 
 def some_key(r, m):
-    key = tuple(m.row(r.choice(list(m.files())))[:4])
+    key = tuple(m.row(r.choice(list(m.files())))[:FILE_WORDS])
     if r.random() < 0.1:
-        at = r.randrange(4)
+        at = r.randrange(FILE_WORDS)
         key = tuple((value + (k == at)) % 2**32 for k, value in enumerate(key))
     return key
 
 
 def some_name(r, m):
     """Mostly a page's; where the free list is empty, rather one that is not held."""
-    every = [tuple(m.row(f)[:4]) + (block,) for f in m.files() for block in range(m.blocks(f))]
+    every = [tuple(m.row(f)[:FILE_WORDS]) + (block,) for f in m.files() for block in range(m.blocks(f))]
     fresh = [name for name in every if Pool(m).held(name) is None]
     if every and r.random() < 0.92:
         return r.choice(fresh if fresh and m.control[TOP] == NO_TOP and r.random() < 0.7 else every)
@@ -88,10 +89,11 @@ def choose(r, m):
         kind = 'pin'
     if kind == 'pin' and len(pinned) == m.n and r.random() < 0.6:
         kind = r.choice(['unpin', 'write'])
-    if kind == 'pin' and not any(m.rows[4::6]) and r.random() < 0.8:
+    if kind == 'pin' and not any(m.rows[BLOCKS::ROW_WORDS]) and r.random() < 0.8:
         kind = 'extend'
     if kind == 'drop' and r.random() < 0.6:
-        unpinned = [m.name(i)[:4] for i in m.used() if m.name(i)[:4] not in [m.name(j)[:4] for j in pinned]]
+        held = [m.name(i)[:FILE_WORDS] for i in m.used()]
+        unpinned = [key for key in held if key not in [m.name(j)[:FILE_WORDS] for j in pinned]]
         return (kind, r.choice(unpinned)) if unpinned else ('unpin', some_buffer(r, m))
     if kind in ('pin', 'peek'):
         return kind, some_name(r, m)
@@ -165,8 +167,8 @@ def from_sound(seed):
 REFUSALS = {'pin': (3, 4, 5, 6), 'peek': (3, 4), 'extend': (3, 13), 'drop': (3, 14), 'unpin': (7, 8), 'flush': (7, 8), 'read': (7, 8, 9),
             'write': (7, 8, 9, 10, 11, 12), 'log_inserted': (15,), 'log_flushed': (16,), 'checkpoint': ()}
 WANTED = {f'{kind} {number}' for kind, refusals in REFUSALS.items() for number in (0, *refusals)} | {
-    'hit', 'hit at usage 5', 'hit with every buffer pinned', 'free', 'swept', 'swept, wrote', 'swept, more than N probes',
-    'swept past a pinned buffer', 'the hand wraps', 'a victim behind another in its chain', 'entered before another', 'five zeros',
+    'hit', 'hit at the greatest usage', 'hit with every buffer pinned', 'free', 'swept', 'swept, wrote', 'swept, more than N probes',
+    'swept past a pinned buffer', 'the hand wraps', 'a victim behind another in its chain', 'entered before another', 'a name of zeros',
     'a write-back raises flushed', 'a write-back leaves flushed', 'a checkpoint writes 2', 'drop discards', 'drop empties 2',
     'drop puts on a free list', 'drop of none', 'extend clears bytes', 'peek pool', 'peek store', 'peek of a dirty page',
     'peek store at P 2048', 'swept, wrote at P 2048', 'a position above 32 bits', 'a clean page above inserted',
@@ -187,11 +189,11 @@ def events(call, before, o):
         i, hit, wrote, probes = o.answer
         swept = not hit and before.control[TOP] == NO_TOP
         happens = {
-            'hit': hit, 'hit at usage 5': hit and usage(before.states[i]) == 5,
+            'hit': hit, 'hit at the greatest usage': hit and usage(before.states[i]) == MOST_USAGE,
             'hit with every buffer pinned': hit and all(map(pins, before.states)),
             'free': not hit and not swept, 'swept': swept, 'swept, more than N probes': probes > before.n,
             'swept, wrote': wrote, 'swept, wrote at P 2048': wrote and before.control[P] == 2048,
-            'swept past a pinned buffer': swept and any(map(pins, before.states)), 'five zeros': call[1] == (0, 0, 0, 0, 0),
+            'swept past a pinned buffer': swept and any(map(pins, before.states)), 'a name of zeros': call[1] == (0,) * NAME_WORDS,
             'the hand wraps': after.control[HAND] < before.control[HAND],
             'a victim behind another in its chain': swept and i in before.chain, 'entered before another': not hit and after.chain[i] >= 0}
     written = o.answer[0] if kind in ('flush', 'checkpoint') else kind == 'pin' and o.answer[2]

@@ -2,7 +2,7 @@
 
 Memory is the lent memory. Pool makes a call on it: Pool(memory).call(('pin', name)) gives an Outcome, with the memory
 afterwards; the memory before stays as it was. A control record has the top of the free list as 64 one bits for -1.
-A name is a tuple of five numbers, a file's key of four. The plain shelf and its ledger stand in shelf.py.
+A name is a tuple of its words, a file's key of those that begin it. The plain shelf and its ledger stand in shelf.py.
 
 Calls: ('set_up', page size, position) ('pin', name) ('unpin', buffer) ('read', buffer, from, out)
 ('write', buffer, from, bytes, position) ('flush', buffer) ('checkpoint',) ('peek', name) ('extend', key) ('drop', key)
@@ -11,14 +11,20 @@ Calls: ('set_up', page size, position) ('pin', name) ('unpin', buffer) ('read', 
 import struct
 
 PAGE_SIZES = (1024, 2048, 4096, 8192, 16384, 32768)
-MOST_PINS = 262143
+MOST_PINS, MOST_USAGE = 262143, 5
 USAGE_ONE = 1 << 18
 DIRTY, VALID, TAG_VALID, JUST_DIRTIED, PERMANENT = 1 << 23, 1 << 24, 1 << 25, 1 << 28, 1 << 31
 CLEAN_FLAGS = VALID | TAG_VALID | PERMANENT
 DIRTY_FLAGS = DIRTY | JUST_DIRTIED
 NO_TOP = 2**64 - 1
-P, HAND, TOP, INSERTED, FLUSHED = range(5)
-BLOCKS, CAPACITY = 4, 5
+
+# the layout of lent memory, for every file of this folder: the control record; a file's words, with which a name and a row begin;
+# what a name, and what a row, has behind them; the answer
+P, HAND, TOP, INSERTED, FLUSHED, CONTROL_WORDS = range(6)
+TABLESPACE, DATABASE, RELATION, FORK, FILE_WORDS = range(5)
+BLOCK, NAME_WORDS = FILE_WORDS, FILE_WORDS + 1
+BLOCKS, CAPACITY, ROW_WORDS = FILE_WORDS, FILE_WORDS + 1, FILE_WORDS + 2
+ANSWER_WORDS = 4
 
 
 class Refused(Exception):
@@ -31,7 +37,7 @@ def refuse(number, condition):
 
 
 def name_bytes(name):
-    return struct.pack('<5I', *name)
+    return struct.pack(f'<{NAME_WORDS}I', *name)
 
 
 def fnv_1a(data):
@@ -60,10 +66,10 @@ def unpack_position(page):
 
 
 def rows_fit(rows):
-    """Whether file rows keep their rules: six words each, at most 64, forks, blocks, capacities, no two with equal first four."""
-    files = [rows[at:at + 6] for at in range(0, len(rows), 6)]
-    return (len(rows) % 6 == 0 and len(files) <= 64 and all(row[3] <= 2 and row[BLOCKS] <= row[CAPACITY] for row in files)
-            and sum(row[CAPACITY] for row in files) <= 65536 and len({tuple(row[:4]) for row in files}) == len(files))
+    """Whether file rows keep their rules: whole rows, at most 64, forks, blocks, capacities, no two of one file."""
+    files = [rows[at:at + ROW_WORDS] for at in range(0, len(rows), ROW_WORDS)]
+    return (len(rows) % ROW_WORDS == 0 and len(files) <= 64 and all(row[FORK] <= 2 and row[BLOCKS] <= row[CAPACITY] for row in files)
+            and sum(row[CAPACITY] for row in files) <= 65536 and len({tuple(row[:FILE_WORDS]) for row in files}) == len(files))
 
 
 class Memory:
@@ -82,27 +88,27 @@ class Memory:
         return len(self.states)
 
     def row(self, f):
-        return self.rows[6 * f:6 * f + 6]
+        return self.rows[ROW_WORDS * f:ROW_WORDS * (f + 1)]
 
     def files(self):
-        return range(len(self.rows) // 6)
+        return range(len(self.rows) // ROW_WORDS)
 
     def file(self, key):
-        """The row with these four numbers, or None."""
-        return next((f for f in self.files() if tuple(self.row(f)[:4]) == tuple(key)), None)
+        """The row with these numbers, or None."""
+        return next((f for f in self.files() if tuple(self.row(f)[:FILE_WORDS]) == tuple(key)), None)
 
     def blocks(self, f):
-        return self.rows[6 * f + BLOCKS]
+        return self.rows[ROW_WORDS * f + BLOCKS]
 
     def place(self, name):
         """The index of a name's block in the store."""
-        return sum(self.row(f)[CAPACITY] for f in range(self.file(name[:4]))) + name[4]
+        return sum(self.row(f)[CAPACITY] for f in range(self.file(name[:FILE_WORDS]))) + name[BLOCK]
 
     def name(self, i):
-        return tuple(self.names[5 * i:5 * i + 5])
+        return tuple(self.names[NAME_WORDS * i:NAME_WORDS * (i + 1)])
 
     def set_name(self, i, name):
-        self.names[5 * i:5 * i + 5] = name
+        self.names[NAME_WORDS * i:NAME_WORDS * (i + 1)] = name
 
     def page(self, i):
         """Where buffer i's page is in the pool."""
@@ -125,16 +131,16 @@ class Outcome:
 
 
 class Pool:
-    most_usage = 5
+    most_usage = MOST_USAGE
 
     def __init__(self, memory):
         self.m = memory.copy()
 
-    def call(self, call, answer=(0, 0, 0, 0)):
+    def call(self, call, answer=(0,) * ANSWER_WORDS):
         """The outcome of a call. own is the caller's slice: a read's out afterwards, a write's bytes. A peek's part is peeked()."""
         before = self.m.copy()
         own = call[3] if call[0] in ('read', 'write') else b''
-        if len(answer) != 4:
+        if len(answer) != ANSWER_WORDS:
             return Outcome(1, list(answer), own, before)
         try:
             page_size = call[1] if call[0] == 'set_up' else self.m.control[P] if self.m.control else 0
@@ -144,19 +150,19 @@ class Pool:
             parts = getattr(self, call[0])(*call[1:])
         except Refused as refusal:
             self.m = before
-            return Outcome(refusal.args[0], [0, 0, 0, 0], own, before)
+            return Outcome(refusal.args[0], [0] * ANSWER_WORDS, own, before)
         if call[0] == 'read':
             own, parts = parts, ()
         parts = list(parts or ())
-        return Outcome(0, parts + [0] * (4 - len(parts)), own, self.m)
+        return Outcome(0, parts + [0] * (ANSWER_WORDS - len(parts)), own, self.m)
 
     # sizes and books
 
     def sizes_fit(self, page_size):
         m, n, b = self.m, self.m.n, len(self.m.heads)
-        return (len(m.control) == 5 and page_size in PAGE_SIZES and 1 <= n <= 1024 and n <= b <= 4096
-                and len(m.names) == 5 * n and len(m.pool) == n * page_size and len(m.free) == n and len(m.chain) == n
-                and rows_fit(m.rows) and len(m.store) == page_size * sum(m.rows[CAPACITY::6]))
+        return (len(m.control) == CONTROL_WORDS and page_size in PAGE_SIZES and 1 <= n <= 1024 and n <= b <= 4096
+                and len(m.names) == NAME_WORDS * n and len(m.pool) == n * page_size and len(m.free) == n and len(m.chain) == n
+                and rows_fit(m.rows) and len(m.store) == page_size * sum(m.rows[CAPACITY::ROW_WORDS]))
 
     def books_sound(self):
         m = self.m
@@ -167,7 +173,7 @@ class Pool:
         top = -1 if m.control[TOP] == NO_TOP else m.control[TOP]
         if self.walk(top, m.free) != sorted(m.empty()) or any(m.free[i] != -2 for i in m.used()):
             return False
-        if any(m.name(i) != (0, 0, 0, 0, 0) or m.chain[i] != -1 for i in m.empty()):
+        if any(m.name(i) != (0,) * NAME_WORDS or m.chain[i] != -1 for i in m.empty()):
             return False
         names = [m.name(i) for i in m.used()]
         if len(set(names)) != len(names) or not all(self.names_block(name) for name in names):
@@ -182,8 +188,8 @@ class Pool:
         return word == 0 or usage(word) <= self.most_usage and flags in (CLEAN_FLAGS, CLEAN_FLAGS | DIRTY_FLAGS)
 
     def names_block(self, name):
-        f = self.m.file(name[:4])
-        return f is not None and name[4] < self.m.blocks(f)
+        f = self.m.file(name[:FILE_WORDS])
+        return f is not None and name[BLOCK] < self.m.blocks(f)
 
     def walk(self, link, links):
         """The members of a list of links, rising; None if it leaves the buffers or does not end."""
@@ -255,7 +261,7 @@ class Pool:
     def set_up(self, page_size, position):
         m, n = self.m, self.m.n
         m.control[:] = [page_size, 0, 0, position, position]
-        m.states[:], m.names[:] = [0] * n, [0] * (5 * n)
+        m.states[:], m.names[:] = [0] * n, [0] * (NAME_WORDS * n)
         m.free[:] = list(range(1, n)) + [-1]
         m.heads[:], m.chain[:] = [-1] * len(m.heads), [-1] * n
 
@@ -320,20 +326,20 @@ class Pool:
         refuse(13, m.blocks(f) == m.row(f)[CAPACITY])
         number = m.blocks(f)
         m.store[m.block(tuple(key) + (number,))] = bytes(m.control[P])
-        m.rows[6 * f + BLOCKS] += 1
+        m.rows[ROW_WORDS * f + BLOCKS] += 1
         return number,
 
     def drop(self, key):
         m, f = self.m, self.check_key(key)
-        pages = [i for i in m.used() if m.name(i)[:4] == tuple(key)]
+        pages = [i for i in m.used() if m.name(i)[:FILE_WORDS] == tuple(key)]
         refuse(14, any(pins(m.states[i]) > 0 for i in pages))
         for i in self.drop_order(pages):
             self.leave_chain(i)
-            m.set_name(i, (0, 0, 0, 0, 0))
+            m.set_name(i, (0,) * NAME_WORDS)
             m.states[i] = 0
             m.free[i] = -1 if m.control[TOP] == NO_TOP else m.control[TOP]
             m.control[TOP] = i
-        m.rows[6 * f + BLOCKS] = 0
+        m.rows[ROW_WORDS * f + BLOCKS] = 0
 
     def drop_order(self, pages):
         return pages
@@ -354,8 +360,8 @@ class Pool:
         return f
 
     def check_name(self, name):
-        f = self.check_key(name[:4])
-        refuse(4, name[4] >= self.m.blocks(f))
+        f = self.check_key(name[:FILE_WORDS])
+        refuse(4, name[BLOCK] >= self.m.blocks(f))
 
     def check_buffer(self, i):
         refuse(7, i >= self.m.n)

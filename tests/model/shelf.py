@@ -3,7 +3,8 @@
 A page is its name. A shelf takes a call together with what the program answered: only an accepted pin's buffer number is
 the program's, and the ledger takes whether the pin wrote. Bytes of blocks are kept in one store, as the pool's store is.
 """
-from pool import BLOCKS, CAPACITY, FLUSHED, INSERTED, MOST_PINS, P, Memory, Refused, pack_position, peeked, refuse, unpack_position
+from pool import BLOCK, BLOCKS, CAPACITY, FILE_WORDS, FLUSHED, INSERTED, MOST_PINS, P, ROW_WORDS, Memory, Refused
+from pool import pack_position, peeked, refuse, unpack_position
 
 
 class Shelf:
@@ -63,9 +64,9 @@ class Shelf:
         pass
 
     def check_peek(self, name):
-        f = self.files.file(name[:4])
+        f = self.files.file(name[:FILE_WORDS])
         refuse(3, f is None)
-        refuse(4, name[4] >= self.files.blocks(f))
+        refuse(4, name[BLOCK] >= self.files.blocks(f))
 
     def check_extend(self, key):
         f = self.files.file(key)
@@ -74,7 +75,7 @@ class Shelf:
 
     def check_drop(self, key):
         refuse(3, self.files.file(key) is None)
-        refuse(14, any(page[:4] == tuple(key) for page in self.pinned()))
+        refuse(14, any(page[:FILE_WORDS] == tuple(key) for page in self.pinned()))
 
     def check_log_inserted(self, position):
         refuse(15, position < self.inserted)
@@ -124,11 +125,11 @@ class Shelf:
             f = self.files.file(call[1])
             page = tuple(call[1]) + (self.files.blocks(f),)
             self.files.store[self.files.block(page)] = bytes(self.page_size)
-            self.files.rows[6 * f + BLOCKS] += 1
+            self.files.rows[ROW_WORDS * f + BLOCKS] += 1
             put = [page]
         elif kind == 'drop':
-            self.files.rows[6 * self.files.file(call[1]) + BLOCKS] = 0
-            self.dirty = {page for page in self.dirty if page[:4] != tuple(call[1])}
+            self.files.rows[ROW_WORDS * self.files.file(call[1]) + BLOCKS] = 0
+            self.dirty = {page for page in self.dirty if page[:FILE_WORDS] != tuple(call[1])}
         elif kind == 'log_inserted':
             self.inserted = call[1]
         elif kind == 'log_flushed':
@@ -160,11 +161,11 @@ def differs(shelf, call, before, outcome):
     if expected == 0 and call[0] in ('flush', 'checkpoint'):
         want('count', outcome.answer[0] == len(put))
     if expected == 0 and call[0] == 'extend':
-        want('block', outcome.answer[0] == put[0][4])
+        want('block', outcome.answer[0] == put[0][BLOCK])
     if expected == 0 and call[0] == 'checkpoint':
         for f in after.files():
             for block in range(after.blocks(f)):
-                part = after.block(tuple(after.row(f)[:4]) + (block,))
+                part = after.block(tuple(after.row(f)[:FILE_WORDS]) + (block,))
                 want('store', after.store[part] == shelf.files.store[part])
     size = shelf.page_size
     changed = {k for k in range(len(after.store) // size)

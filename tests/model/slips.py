@@ -1,12 +1,12 @@
 """Planted errors: models that are wrong in one thing each. Each must give a theorem that the checker refuses."""
 import struct
 
-from pool import DIRTY, HAND, USAGE_ONE, Pool, Refused, name_bytes, pins, refuse, usage
+from pool import CAPACITY, DIRTY, HAND, MOST_USAGE, ROW_WORDS, USAGE_ONE, Pool, Refused, name_bytes, pins, refuse, usage
 from shelf import Shelf
 
 
 class UsageUpToSix(Pool):
-    most_usage = 6
+    most_usage = MOST_USAGE + 1
 
 
 class SweepLowersPinned(Pool):
@@ -127,7 +127,7 @@ class BooksTakeLongLinks(Pool):
 class SizesTakeLongerStore(Pool):
     def sizes_fit(self, page_size):
         store = self.m.store
-        self.m.store = store[:page_size * sum(self.m.rows[5::6])]
+        self.m.store = store[:page_size * sum(self.m.rows[CAPACITY::ROW_WORDS])]
         fits = super().sizes_fit(page_size)
         self.m.store = store
         return fits

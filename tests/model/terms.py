@@ -3,7 +3,7 @@ import itertools
 import random
 import struct
 
-from pool import NO_TOP, P, TOP, Memory, peeked
+from pool import NAME_WORDS, NO_TOP, P, TOP, Memory, peeked
 
 CALLS = {'pin': 'Pin', 'unpin': 'Unpin', 'read': 'Read', 'write': 'Write', 'flush': 'Flush', 'checkpoint': 'Checkpoint',
          'peek': 'Peek', 'extend': 'Extend', 'drop': 'Drop', 'log_inserted': 'LogInserted', 'log_flushed': 'LogFlushed'}
@@ -48,7 +48,7 @@ def words(values):
 
 
 def name_term(name):
-    return '(' + ' '.join(['nameOf' if len(name) == 5 else 'fileOf', *map(str, name)]) + ')'
+    return '(' + ' '.join(['nameOf' if len(name) == NAME_WORDS else 'fileOf', *map(str, name)]) + ')'
 
 
 def call_term(call):

@@ -15,7 +15,7 @@ import damage
 import limits
 import slips
 from lists import WANTED, after_set_up, events, from_sound, run, set_up
-from pool import Pool
+from pool import P, Pool
 from shelf import Shelf, differs
 from terms import call_term, lent_books, lent_seen, list_seen, listed, numbers, words
 
@@ -195,7 +195,7 @@ def judged(start, calls, pool_class=Pool):
     """The term of what is seen of some calls on one memory, but for the memory, and what the model gives."""
     def call(one):
         return pool_class(start.memory()).call(one, (9, 8, 7, 6))
-    size = start.control[0] if start.control else 1024
+    size = start.control[P] if start.control else 1024
     set_up, outcomes = call(('set_up', size, 7)), [call(one) for one in calls]
     seen = [[set_up.number, *set_up.answer], *([o.number, *o.answer, *o.own] for o in outcomes), *lent_books(outcomes[0].memory)]
     return f'{size} ({call_term(calls[0])}) {calls_term(calls[1:])}', seen

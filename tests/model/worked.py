@@ -2,7 +2,8 @@
 import sys
 
 from lists import run
-from pool import HAND, NO_TOP, TOP, Memory, Pool, fnv_1a, name_bytes, pack_position, unpack_position
+from pool import ANSWER_WORDS, CONTROL_WORDS, HAND, NAME_WORDS, NO_TOP, TOP, Memory, Pool
+from pool import fnv_1a, name_bytes, pack_position, unpack_position
 
 KEY = (1663, 5, 16384, 0)
 THREE = [('pin', KEY + (block,)) for block in range(3)]
@@ -11,7 +12,8 @@ UNPINNED = THREE + [('unpin', buffer) for buffer in range(3)]
 
 def worked_pool():
     """N = 3, B = 3, P = 1024, log 100; one file with 4 blocks of zeros, capacity 5."""
-    lent = Memory([0] * 5, [7] * 3, [7] * 15, bytearray(3072), [7] * 3, [7] * 3, [7] * 3, [*KEY, 4, 5], bytearray(5120))
+    lent = Memory([0] * CONTROL_WORDS, [7] * 3, [7] * (3 * NAME_WORDS), bytearray(3072), [7] * 3, [7] * 3, [7] * 3, [*KEY, 4, 5],
+                  bytearray(5120))
     return Pool(lent).call(('set_up', 1024, 100)).memory
 
 
@@ -66,7 +68,8 @@ def cases():
     edges = [write(7, b'x'), write(8, b'x'), write(1020, b'four'), write(1020, b'fives'), write(1024, b'')]
     yield 'writes at the edges', numbers([*THREE, *edges], 5), [9, 0, 0, 9, 10]
     yield 'reads at the edges', numbers([*THREE, ('read', 0, 1024, b''), ('read', 0, 1025, b'')], 2), [0, 9]
-    yield 'block 4', seen([pin(4), ('extend', KEY), ('extend', KEY)], 3)[0], [(4, [0] * 4), (0, [4, 0, 0, 0]), (13, [0] * 4)]
+    none = [0] * ANSWER_WORDS
+    yield 'block 4', seen([pin(4), ('extend', KEY), ('extend', KEY)], 3)[0], [(4, none), (0, [4, 0, 0, 0]), (13, none)]
 
 
 if __name__ == '__main__':

@@ -1,4 +1,5 @@
 /* The two calls with one slip each, chosen by -DSLIP=.., to see that the comparison notices it. With NONE they are right. */
+#include "../layout.h"
 #include "buftag.h"
 
 enum {
@@ -15,18 +16,18 @@ enum {
 
 static void spread(uint8_t *out, uint32_t w)
 {
-    for (int i = 0; i < 4; i++) {
-        out[SLIP == BIG_ENDIAN_WORDS ? 3 - i : i] = (uint8_t)(w >> (8 * i));
+    for (int i = 0; i < WORD_BYTES; i++) {
+        out[SLIP == BIG_ENDIAN_WORDS ? WORD_BYTES - 1 - i : i] = (uint8_t)(w >> (8 * i));
     }
 }
 
 static void spread_all(uint8_t *out, uint32_t t, uint32_t d, uint32_t r, uint32_t f, uint32_t b)
 {
-    spread(out, t);
-    spread(out + 4, d);
-    spread(out + 8, r);
-    spread(out + (SLIP == FORK_AFTER_BLOCK ? 16 : 12), f);
-    spread(out + (SLIP == FORK_AFTER_BLOCK ? 12 : 16), b);
+    spread(out + WORD_BYTES * FILE_TABLESPACE, t);
+    spread(out + WORD_BYTES * FILE_DATABASE, d);
+    spread(out + WORD_BYTES * FILE_RELATION, r);
+    spread(out + WORD_BYTES * (SLIP == FORK_AFTER_BLOCK ? NAME_BLOCK : FILE_FORK), f);
+    spread(out + WORD_BYTES * (SLIP == FORK_AFTER_BLOCK ? FILE_FORK : NAME_BLOCK), b);
 }
 
 uint32_t buftag_hash(uint32_t tablespace, uint32_t database, uint32_t relation, uint32_t fork, uint32_t block)

@@ -2,16 +2,17 @@
    4 blocks of zeros, capacity 5. Every expected number is the document's. Prints a line for each case, then the counts. */
 #include "buftag.h"
 #include "named.h"
+#include "../layout.h"
 #include <inttypes.h>
 #include <stdio.h>
 #include <string.h>
 
-static uint64_t control[5], answer[4];
-static uint32_t states[3], names[15], rows[6];
+static uint64_t control[CONTROL_WORDS], answer[ANSWER_WORDS];
+static uint32_t states[3], names[3 * NAME_WORDS], rows[ROW_WORDS];
 static int32_t free_links[3], heads[3], chain[3];
 static uint8_t pool[3 * 1024], store[5 * 1024];
-static struct bufpool m = {control,    5, states, 3, names, 15, pool, sizeof pool, free_links,
-                           3,          heads, 3, chain, 3, rows, 6, store, sizeof store};
+static struct bufpool m = {control, CONTROL_WORDS, states, 3, names, 3 * NAME_WORDS, pool, sizeof pool, free_links, 3,
+                           heads, 3, chain, 3, rows, ROW_WORDS, store, sizeof store};
 
 static const char *current;
 static unsigned wrong, passed, failed;
@@ -47,7 +48,7 @@ static void end(void)
 /* Set up on memory with other contents. */
 static void set_up(uint64_t log)
 {
-    const uint32_t file[6] = {1663, 5, 16384, 0, 4, 5};
+    const uint32_t file[ROW_WORDS] = {1663, 5, 16384, 0, 4, 5};
     memcpy(rows, file, sizeof file);
     memset(states, 0x5A, sizeof states);
     memset(names, 0x5A, sizeof names);
@@ -58,39 +59,39 @@ static void set_up(uint64_t log)
     memset(store, 0, sizeof store);
     memset(control, 0x5A, sizeof control);
     memset(answer, 0x5A, sizeof answer);
-    expect("set up", DO(set_up)(BUFPOOL_LENT(&m), 1024, log, answer, 4), 0);
+    expect("set up", DO(set_up)(BUFPOOL_LENT(&m), 1024, log, answer, ANSWER_WORDS), 0);
     expect_answer(0, 0, 0, 0);
 }
 
 static uint32_t pin(uint32_t block)
 {
     memset(answer, 0x5A, sizeof answer);
-    return DO(pin)(BUFPOOL_LENT(&m), 1663, 5, 16384, 0, block, answer, 4);
+    return DO(pin)(BUFPOOL_LENT(&m), 1663, 5, 16384, 0, block, answer, ANSWER_WORDS);
 }
 
 static uint32_t unpin(uint64_t buffer)
 {
     memset(answer, 0x5A, sizeof answer);
-    return DO(unpin)(BUFPOOL_LENT(&m), buffer, answer, 4);
+    return DO(unpin)(BUFPOOL_LENT(&m), buffer, answer, ANSWER_WORDS);
 }
 
 static uint32_t write_bytes(uint64_t buffer, uint64_t from, size_t length, uint64_t position)
 {
     static const uint8_t bytes[8] = {1, 2, 3, 4, 5, 6, 7, 8};
     memset(answer, 0x5A, sizeof answer);
-    return DO(write)(BUFPOOL_LENT(&m), buffer, from, bytes, length, position, answer, 4);
+    return DO(write)(BUFPOOL_LENT(&m), buffer, from, bytes, length, position, answer, ANSWER_WORDS);
 }
 
 static uint32_t read_bytes(uint64_t buffer, uint64_t from, uint8_t *out, size_t length)
 {
     memset(answer, 0x5A, sizeof answer);
-    return DO(read)(BUFPOOL_LENT(&m), buffer, from, out, length, answer, 4);
+    return DO(read)(BUFPOOL_LENT(&m), buffer, from, out, length, answer, ANSWER_WORDS);
 }
 
 static uint32_t extend(void)
 {
     memset(answer, 0x5A, sizeof answer);
-    return DO(extend)(BUFPOOL_LENT(&m), 1663, 5, 16384, 0, answer, 4);
+    return DO(extend)(BUFPOOL_LENT(&m), 1663, 5, 16384, 0, answer, ANSWER_WORDS);
 }
 
 /* What case C does, and what it and other cases go on from. */
@@ -112,27 +113,27 @@ static void case_set_up(void)
 {
     begin("set up: free list 0, 1, 2, hand 0, both positions 100, chains and buffers empty");
     set_up(100);
-    const uint64_t record[5] = {1024, 0, 0, 100, 100};
-    for (int k = 0; k < 5; k++) expect("control word", control[k], record[k]);
+    const uint64_t record[CONTROL_WORDS] = {1024, 0, 0, 100, 100};
+    for (int k = 0; k < CONTROL_WORDS; k++) expect("control word", control[k], record[k]);
     for (int k = 0; k < 3; k++) {
         expect("state word", states[k], 0);
         expect("free link", (uint64_t)free_links[k], k == 2 ? UINT64_MAX : (uint64_t)k + 1);
         expect("head", (uint64_t)heads[k], UINT64_MAX);
         expect("chain link", (uint64_t)chain[k], UINT64_MAX);
     }
-    for (int k = 0; k < 15; k++) expect("name", names[k], 0);
+    for (int k = 0; k < 3 * NAME_WORDS; k++) expect("name", names[k], 0);
     expect("pool byte", pool[0], 0x5A);
     end();
 }
 
 static void case_a(void)
 {
-    const uint8_t bytes[20] = {0xB5, 0x41, 0, 0, 0, 0x40, 0, 0, 0x59, 0x93, 0, 0, 0, 0, 0, 0, 7, 0, 0, 0};
-    uint8_t out[20];
+    const uint8_t bytes[NAME_BYTES] = {0xB5, 0x41, 0, 0, 0, 0x40, 0, 0, 0x59, 0x93, 0, 0, 0, 0, 0, 0, 7, 0, 0, 0};
+    uint8_t out[NAME_BYTES];
     begin("A: the bytes of name {16821, 16384, 37721, 0, 7}");
     memset(out, 0x5A, sizeof out);
     expect("buftag_bytes", buftag_bytes(16821, 16384, 37721, 0, 7, out, sizeof out), 0);
-    for (int k = 0; k < 20; k++) expect("byte", out[k], bytes[k]);
+    for (int k = 0; k < NAME_BYTES; k++) expect("byte", out[k], bytes[k]);
     end();
 }
 
@@ -153,7 +154,7 @@ static void case_c(void)
     begin("C: blocks 0, 1, 2 in buffers 0, 1, 2, probes 0, word 0x83040001");
     pin_three();
     for (int i = 0; i < 3; i++) expect("word", states[i], 0x83040001);
-    expect("top of the free list", control[2], UINT64_MAX);
+    expect("top of the free list", control[CONTROL_TOP], UINT64_MAX);
     for (int k = 0; k < 3 * 1024; k++) expect("pool byte", pool[k], 0);
     end();
 }
@@ -164,7 +165,7 @@ static void case_d(void)
     pin_three();
     expect("pin", pin(3), 6);
     expect_answer(0, 0, 0, 0);
-    expect("hand", control[1], 0);
+    expect("hand", control[CONTROL_HAND], 0);
     for (int i = 0; i < 3; i++) expect("word", states[i], 0x83040001);
     end();
 }
@@ -176,10 +177,10 @@ static void case_e(void)
     unpin_three();
     expect("pin 3", pin(3), 0);
     expect_answer(0, 0, 0, 4);
-    expect("hand", control[1], 1);
+    expect("hand", control[CONTROL_HAND], 1);
     expect("pin 0", pin(0), 0);
     expect_answer(1, 0, 0, 1);
-    expect("hand", control[1], 2);
+    expect("hand", control[CONTROL_HAND], 2);
     end();
 }
 
@@ -212,10 +213,10 @@ static void case_h(void)
     for (int k = 0; k < 4; k++) expect("pin", pin(2), 0);
     for (int k = 0; k < 5; k++) expect("unpin", unpin(2), 0);
     expect("word before", states[2], 0x83140000);
-    expect("hand before", control[1], 0);
+    expect("hand before", control[CONTROL_HAND], 0);
     expect("pin", pin(3), 0);
     expect_answer(2, 0, 0, 18);
-    expect("hand", control[1], 0);
+    expect("hand", control[CONTROL_HAND], 0);
     expect("word", states[2], 0x83040001);
     end();
 }
@@ -237,15 +238,15 @@ static void case_j(void)
     pin_three();
     unpin_three();
     memset(answer, 0x5A, sizeof answer);
-    expect("drop", DO(drop)(BUFPOOL_LENT(&m), 1663, 5, 16384, 0, answer, 4), 0);
+    expect("drop", DO(drop)(BUFPOOL_LENT(&m), 1663, 5, 16384, 0, answer, ANSWER_WORDS), 0);
     expect_answer(0, 0, 0, 0);
-    expect("top of the free list", control[2], 2);
+    expect("top of the free list", control[CONTROL_TOP], 2);
     expect("link of 2", (uint64_t)free_links[2], 1);
     expect("link of 1", (uint64_t)free_links[1], 0);
     expect("link of 0", (uint64_t)free_links[0], UINT64_MAX);
-    expect("blocks", rows[4], 0);
+    expect("blocks", rows[ROW_BLOCKS], 0);
     for (int i = 0; i < 3; i++) expect("word", states[i], 0);
-    for (int k = 0; k < 15; k++) expect("name", names[k], 0);
+    for (int k = 0; k < 3 * NAME_WORDS; k++) expect("name", names[k], 0);
     for (int k = 0; k < 3; k++) expect("head", (uint64_t)heads[k], UINT64_MAX);
     end();
 }
@@ -275,7 +276,7 @@ static void case_extend(void)
     expect("pin", pin(4), 4);
     expect("extend", extend(), 0);
     expect_answer(4, 0, 0, 0);
-    expect("blocks", rows[4], 5);
+    expect("blocks", rows[ROW_BLOCKS], 5);
     for (int k = 0; k < 1024; k++) expect("byte of the new block", store[4 * 1024 + k], 0);
     expect("extend again", extend(), 13);
     expect_answer(0, 0, 0, 0);

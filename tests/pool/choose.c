@@ -45,7 +45,7 @@ static enum call some_call(void)
 /* the block size, if the control record says a small one */
 static uint64_t page_size(void)
 {
-    return twin.control[0] <= 32768 ? twin.control[0] : 1024;
+    return twin.control[CONTROL_SIZE] <= 32768 ? twin.control[CONTROL_SIZE] : 1024;
 }
 
 /* the log position of a buffer's page, where the pool has one */
@@ -63,20 +63,20 @@ static uint64_t page_position(uint64_t i)
 /* a page that is held, or any block of a file; now and then a file or a block that there is not */
 static void some_name(uint32_t *name)
 {
-    size_t files = twin.rows_len / 6, n = twin.states_len;
+    size_t files = twin.rows_len / ROW_WORDS, n = twin.states_len;
     uint32_t i = n == 0 ? 0 : random_below((uint32_t)n);
-    if (n > 0 && random_below(4) == 0 && twin.states[i] != 0 && twin.names_len >= 5 * n) {
-        memcpy(name, twin.names + 5 * i, 5 * sizeof *name);
+    if (n > 0 && random_below(4) == 0 && twin.states[i] != 0 && twin.names_len >= NAME_WORDS * n) {
+        memcpy(name, twin.names + NAME_WORDS * i, NAME_WORDS * sizeof *name);
     } else if (files > 0) {
-        const uint32_t *row = twin.rows + 6 * random_below((uint32_t)files);
-        for (int tries = 0; tries < 3 && row[4] == 0; tries++) row = twin.rows + 6 * random_below((uint32_t)files);
-        const uint32_t others[] = {row[4], row[4] + 1, row[5], UINT32_MAX, 1u << 31};
-        memcpy(name, row, 4 * sizeof *name);
-        name[4] = row[4] == 0 || random_below(16) == 0 ? others[random_below(5)] : random_below(row[4]);
+        const uint32_t *row = twin.rows + ROW_WORDS * random_below((uint32_t)files);
+        for (int tries = 0; tries < 3 && row[ROW_BLOCKS] == 0; tries++) row = twin.rows + ROW_WORDS * random_below((uint32_t)files);
+        const uint32_t others[] = {row[ROW_BLOCKS], row[ROW_BLOCKS] + 1, row[ROW_CAPACITY], UINT32_MAX, 1u << 31};
+        memcpy(name, row, FILE_WORDS * sizeof *name);
+        name[NAME_BLOCK] = row[ROW_BLOCKS] == 0 || random_below(16) == 0 ? others[random_below(5)] : random_below(row[ROW_BLOCKS]);
     } else {
-        for (int k = 0; k < 5; k++) name[k] = random_below(3);
+        for (int k = 0; k < NAME_WORDS; k++) name[k] = random_below(3);
     }
-    if (random_below(24) == 0) name[random_below(4)] ^= 1u << random_below(32);
+    if (random_below(24) == 0) name[random_below(FILE_WORDS)] ^= 1u << random_below(32);
 }
 
 /* a buffer with pins if there is one; now and then another, or a number beyond all */
@@ -118,7 +118,7 @@ static void some_range(struct request *q)
 /* a position for a write: from the page's own up to inserted; now and then one beside them */
 static uint64_t write_position(uint64_t i)
 {
-    uint64_t own = page_position(i), inserted = twin.control[3];
+    uint64_t own = page_position(i), inserted = twin.control[CONTROL_INSERTED];
     uint64_t between = inserted >= own && inserted - own < 50 ? inserted - own : 50;
     switch (random_below(10)) {
     case 0: return above(inserted, 1);
@@ -132,7 +132,7 @@ static uint64_t write_position(uint64_t i)
 
 static uint64_t log_position(enum call call)
 {
-    uint64_t inserted = twin.control[3], flushed = twin.control[4], room = inserted - flushed;
+    uint64_t inserted = twin.control[CONTROL_INSERTED], flushed = twin.control[CONTROL_FLUSHED], room = inserted - flushed;
     uint64_t step = random_below(12);
     if (call == SET_UP) return some_log();
     if (random_below(200) == 0) return random_below(3) == 0 ? UINT64_MAX : random64();

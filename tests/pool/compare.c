@@ -69,7 +69,7 @@ static void count(enum call call, uint32_t result, const uint64_t *answer, uint6
     case CHECKPOINT: events[SEVERAL] += answer[0] > 1; break;
     case PEEK: events[answer[0] == 1 ? PEEKED_POOL : PEEKED_STORE]++; break;
     case EXTEND: events[EXTENDED]++; break;
-    case DROP: events[DROPPED] += twin.control[2] != top_before; break;
+    case DROP: events[DROPPED] += twin.control[CONTROL_TOP] != top_before; break;
     default: break;
     }
 }
@@ -100,7 +100,7 @@ static void compare_model(const struct request *q, uint32_t result)
 
 static uint32_t make(const struct request *q)
 {
-    uint64_t top = twin.control[2];
+    uint64_t top = twin.control[CONTROL_TOP];
     current = q;
     step++;
     keep_before();
@@ -204,7 +204,7 @@ static void run_pins(void)
     struct request q = {.call = PIN, .own = twin_own};
     work = "pins up to the greatest count";
     set_up_must(&s);
-    memcpy(q.name, twin.rows, 4 * sizeof *q.name);
+    memcpy(q.name, twin.rows, FILE_WORDS * sizeof *q.name);
     for (unsigned k = 0; k < 262145; k++) follow(&q, make(&q));
     q = (struct request){.call = UNPIN, .own = twin_own};
     follow(&q, make(&q));

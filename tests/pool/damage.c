@@ -21,7 +21,7 @@ static void damage_word(void)
     uint32_t *word = &twin.states[any(twin.states_len)];
     switch (random_below(7)) {
     case 0: *word ^= 1u << random_below(32); break;
-    case 1: *word = (*word & ~(15u << 18)) | (5 + random_below(11)) << 18; break;
+    case 1: *word = (*word & ~(15u << 18)) | (MOST_USAGE + random_below(16 - MOST_USAGE)) << 18; break;
     case 2: *word = 0; break;
     case 3: *word = 0x83040001u; break;
     case 4: *word ^= 1u << 23 | 1u << 28; break;
@@ -32,13 +32,14 @@ static void damage_word(void)
 
 static void damage_name(void)
 {
-    uint32_t *name = twin.names + 5 * any(twin.states_len), *other = twin.names + 5 * any(twin.states_len), kept[5];
+    uint32_t *name = twin.names + NAME_WORDS * any(twin.states_len), *other = twin.names + NAME_WORDS * any(twin.states_len);
+    uint32_t kept[NAME_WORDS];
     switch (random_below(6)) {
-    case 0: name[random_below(5)] ^= 1u << random_below(32); break;
+    case 0: name[random_below(NAME_WORDS)] ^= 1u << random_below(32); break;
     case 1: memcpy(name, other, sizeof kept); break;
     case 2: memset(name, 0, sizeof kept); break;
-    case 3: name[4]++; break;
-    case 4: name[4] = UINT32_MAX; break;
+    case 3: name[NAME_BLOCK]++; break;
+    case 4: name[NAME_BLOCK] = UINT32_MAX; break;
     default:
         memcpy(kept, name, sizeof kept);
         memcpy(name, other, sizeof kept);
@@ -68,42 +69,42 @@ static void damage_link(void)
 static void damage_control(void)
 {
     uint64_t n = twin.states_len, *c = twin.control;
-    const uint64_t tops[] = {UINT64_MAX, n, n - 1, 0, 1ull << 32, (1ull << 32) + 3, (1ull << 32) + c[2], 1ull << 31, 1ull << 63,
-                             UINT64_MAX - 1, UINT32_MAX, c[2] + 1, (1ull << 32) - 2};
-    const uint64_t hands[] = {n, n + 1, n - 1, 0, 1ull << 32, (1ull << 32) + c[1], UINT64_MAX};
+    const uint64_t tops[] = {UINT64_MAX, n, n - 1, 0, 1ull << 32, (1ull << 32) + 3, (1ull << 32) + c[CONTROL_TOP], 1ull << 31, 1ull << 63,
+                             UINT64_MAX - 1, UINT32_MAX, c[CONTROL_TOP] + 1, (1ull << 32) - 2};
+    const uint64_t hands[] = {n, n + 1, n - 1, 0, 1ull << 32, (1ull << 32) + c[CONTROL_HAND], UINT64_MAX};
     switch (random_below(6)) {
-    case 0: c[1] = hands[random_below(sizeof hands / sizeof *hands)]; break;
+    case 0: c[CONTROL_HAND] = hands[random_below(sizeof hands / sizeof *hands)]; break;
     case 1:
-    case 2: c[2] = tops[random_below(sizeof tops / sizeof *tops)]; break;
-    case 3: c[3] = below(c[4], random_below(2)); break;
-    case 4: c[4] = above(c[3], random_below(2)); break;
-    default: c[3] = random64(); break;
+    case 2: c[CONTROL_TOP] = tops[random_below(sizeof tops / sizeof *tops)]; break;
+    case 3: c[CONTROL_INSERTED] = below(c[CONTROL_FLUSHED], random_below(2)); break;
+    case 4: c[CONTROL_FLUSHED] = above(c[CONTROL_INSERTED], random_below(2)); break;
+    default: c[CONTROL_INSERTED] = random64(); break;
     }
 }
 
 /* a page's first bytes; of a dirty page they may be a position above inserted */
 static void damage_page(void)
 {
-    size_t p = twin.control[0], i = any(twin.states_len);
+    size_t p = twin.control[CONTROL_SIZE], i = any(twin.states_len);
     if (p < 8 || p > 32768 || (i + 1) * p > twin.pool_len) return;
     twin.pool[i * p + random_below(random_below(2) == 0 ? 8 : (uint32_t)p)] ^= (uint8_t)(1u << random_below(8));
 }
 
 static void damage_rows(void)
 {
-    size_t files = twin.rows_len / 6;
+    size_t files = twin.rows_len / ROW_WORDS;
     if (files == 0) return;
-    uint32_t *row = twin.rows + 6 * any(files), *other = twin.rows + 6 * any(files);
+    uint32_t *row = twin.rows + ROW_WORDS * any(files), *other = twin.rows + ROW_WORDS * any(files);
     switch (random_below(9)) {
-    case 0: row[3] = random_below(5); break;
-    case 1: row[4] = row[5] + random_below(2); break;
-    case 2: row[4] = any(row[4] + 1); break;
-    case 3: memcpy(row, other, 4 * sizeof *row); break;
-    case 4: row[5] = 65536 + random_below(2); break;
-    case 5: row[5]++; break;
-    case 6: row[5] = row[5] > 0 ? row[5] - 1 : UINT32_MAX; break;
-    case 7: row[4] = UINT32_MAX; break;
-    default: row[random_below(4)] ^= 1u << random_below(32); break;
+    case 0: row[FILE_FORK] = random_below(5); break;
+    case 1: row[ROW_BLOCKS] = row[ROW_CAPACITY] + random_below(2); break;
+    case 2: row[ROW_BLOCKS] = any(row[ROW_BLOCKS] + 1); break;
+    case 3: memcpy(row, other, FILE_WORDS * sizeof *row); break;
+    case 4: row[ROW_CAPACITY] = 65536 + random_below(2); break;
+    case 5: row[ROW_CAPACITY]++; break;
+    case 6: row[ROW_CAPACITY] = row[ROW_CAPACITY] > 0 ? row[ROW_CAPACITY] - 1 : UINT32_MAX; break;
+    case 7: row[ROW_BLOCKS] = UINT32_MAX; break;
+    default: row[random_below(FILE_WORDS)] ^= 1u << random_below(32); break;
     }
 }
 
@@ -117,7 +118,7 @@ static size_t *lengths_of(enum part k)
 /* none, one or a few elements less or more; behind the end there is room for them */
 static void damage_length(void)
 {
-    static const size_t units[OWN] = {1, 1, 5, 1024, 1, 1, 1, 6, 1024, 1};
+    static const size_t units[OWN] = {1, 1, NAME_WORDS, 1024, 1, 1, 1, ROW_WORDS, 1024, 1};
     enum part k = (enum part)random_below(OWN);
     size_t *length = lengths_of(k), less = random_below(2) == 0 ? 1 : units[k];
     switch (random_below(4)) {
@@ -132,14 +133,14 @@ static void damage_length(void)
 static void damage_lengths(void)
 {
     static const size_t sizes[] = {0, 1, 512, 1025, 1536, 3072, 65536};
-    size_t p = twin.control[0], other = sizes[random_below(7)], n = twin.states_len;
+    size_t p = twin.control[CONTROL_SIZE], other = sizes[random_below(7)], n = twin.states_len;
     if (p == 0 || n * p != twin.pool_len) return;
     if (random_below(2) == 0) {
         twin.states_len = twin.free_len = twin.chain_len = n - 1;
-        twin.names_len -= 5;
+        twin.names_len -= NAME_WORDS;
         twin.pool_len -= p;
     } else if (n * other <= MOST_POOL && twin.store_len / p * other <= MOST_STORE) {
-        twin.control[0] = other;
+        twin.control[CONTROL_SIZE] = other;
         twin.pool_len = n * other;
         twin.store_len = twin.store_len / p * other;
     }
@@ -158,7 +159,7 @@ static void damage_contents(void)
     case 5: damage_control(); break;
     case 6: damage_page(); break;
     default:
-        if (random_below(4) == 0) twin.control[0] = sizes[random_below(8)];
+        if (random_below(4) == 0) twin.control[CONTROL_SIZE] = sizes[random_below(8)];
         else damage_rows();
         break;
     }

@@ -9,8 +9,8 @@
 const char *const part_names[PARTS] = {"control", "states", "names", "pool", "free", "heads", "chain", "rows", "store", "answer", "own"};
 const size_t part_sizes[PARTS] = {8, 4, 4, 1, 4, 4, 4, 4, 1, 8, 1};
 
-static const size_t most[PARTS] = {8 * 8,    1032 * 4, 1032 * 20,  MOST_POOL, 1032 * 4, 4104 * 4,
-                                   1032 * 4, 66 * 24,  MOST_STORE, 8 * 8,     MOST_OWN};
+static const size_t most[PARTS] = {8 * MOST_CONTROL, 1032 * 4,       1032 * NAME_BYTES, MOST_POOL, 1032 * 4, 4104 * 4,
+                                   1032 * 4,         66 * ROW_BYTES, MOST_STORE,        8 * 8,     MOST_OWN};
 
 struct memory twin;
 uint8_t *twin_own;

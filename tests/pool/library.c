@@ -33,21 +33,20 @@ uint32_t library_call(const struct request *q)
 {
     if (touch_way != 0) touch(q);
     struct bufpool m = lend(q->call);
-    const uint32_t *n = q->name;
     uint64_t *answer = lent_part(q->call, ANSWER);
     size_t words = twin.answer_len;
     uint8_t *own = lent_part(q->call, OWN);
     switch (q->call) {
     case SET_UP: return DO(set_up)(BUFPOOL_LENT(&m), q->page_size, q->position, answer, words);
-    case PIN: return DO(pin)(BUFPOOL_LENT(&m), n[0], n[1], n[2], n[3], n[4], answer, words);
+    case PIN: return DO(pin)(BUFPOOL_LENT(&m), NAME_OF(q->name), answer, words);
     case UNPIN: return DO(unpin)(BUFPOOL_LENT(&m), q->buffer, answer, words);
     case READ: return DO(read)(BUFPOOL_LENT(&m), q->buffer, q->from, own, q->own_len, answer, words);
     case WRITE: return DO(write)(BUFPOOL_LENT(&m), q->buffer, q->from, own, q->own_len, q->position, answer, words);
     case FLUSH: return DO(flush)(BUFPOOL_LENT(&m), q->buffer, answer, words);
     case CHECKPOINT: return DO(checkpoint)(BUFPOOL_LENT(&m), answer, words);
-    case PEEK: return DO(peek)(BUFPOOL_LENT(&m), n[0], n[1], n[2], n[3], n[4], answer, words);
-    case EXTEND: return DO(extend)(BUFPOOL_LENT(&m), n[0], n[1], n[2], n[3], answer, words);
-    case DROP: return DO(drop)(BUFPOOL_LENT(&m), n[0], n[1], n[2], n[3], answer, words);
+    case PEEK: return DO(peek)(BUFPOOL_LENT(&m), NAME_OF(q->name), answer, words);
+    case EXTEND: return DO(extend)(BUFPOOL_LENT(&m), FILE_OF(q->name), answer, words);
+    case DROP: return DO(drop)(BUFPOOL_LENT(&m), FILE_OF(q->name), answer, words);
     case LOG_INSERTED: return DO(log_inserted)(BUFPOOL_LENT(&m), q->position, answer, words);
     default: return DO(log_flushed)(BUFPOOL_LENT(&m), q->position, answer, words);
     }

@@ -48,19 +48,19 @@ void unpack(const struct memory *m, struct pool *p)
 {
     p->n = m->states_len;
     p->buckets = m->heads_len;
-    p->page_size = m->control[0];
-    p->files = m->rows_len / 6;
-    p->hand = m->control[1];
-    p->inserted = m->control[3];
-    p->flushed = m->control[4];
+    p->page_size = m->control[CONTROL_SIZE];
+    p->files = m->rows_len / ROW_WORDS;
+    p->hand = m->control[CONTROL_HAND];
+    p->inserted = m->control[CONTROL_INSERTED];
+    p->flushed = m->control[CONTROL_FLUSHED];
     p->rows = m->rows;
     p->store = m->store;
     p->free.many = p->table.many = 0;
-    unpack_list(m->control[2] == UINT64_MAX ? -1 : (int64_t)m->control[2], m->free, &p->free);
+    unpack_list(m->control[CONTROL_TOP] == UINT64_MAX ? -1 : (int64_t)m->control[CONTROL_TOP], m->free, &p->free);
     for (size_t k = 0; k < p->buckets; k++) unpack_list(m->heads[k], m->chain, &p->table);
     for (size_t i = 0; i < p->n; i++) {
         unpack_word(m->states[i], &p->buffers[i]);
-        memcpy(p->buffers[i].name, m->names + 5 * i, sizeof p->buffers[i].name);
+        memcpy(p->buffers[i].name, m->names + NAME_WORDS * i, sizeof p->buffers[i].name);
         p->buffers[i].page = m->pool + i * p->page_size;
     }
 }
@@ -87,14 +87,14 @@ static void pack_chains(const struct pool *p, struct memory *m)
 
 void pack(const struct pool *p, struct memory *m)
 {
-    m->control[0] = p->page_size;
-    m->control[1] = p->hand;
-    m->control[2] = p->free.many > 0 ? p->free.at[0] : UINT64_MAX;
-    m->control[3] = p->inserted;
-    m->control[4] = p->flushed;
+    m->control[CONTROL_SIZE] = p->page_size;
+    m->control[CONTROL_HAND] = p->hand;
+    m->control[CONTROL_TOP] = p->free.many > 0 ? p->free.at[0] : UINT64_MAX;
+    m->control[CONTROL_INSERTED] = p->inserted;
+    m->control[CONTROL_FLUSHED] = p->flushed;
     for (size_t i = 0; i < p->n; i++) {
         m->states[i] = pack_word(&p->buffers[i]);
-        memcpy(m->names + 5 * i, p->buffers[i].name, sizeof p->buffers[i].name);
+        memcpy(m->names + NAME_WORDS * i, p->buffers[i].name, sizeof p->buffers[i].name);
     }
     pack_free(p, m);
     pack_chains(p, m);
@@ -103,7 +103,7 @@ void pack(const struct pool *p, struct memory *m)
 /* The judge takes the block size from a control record: it is given one that has nothing else, as long as the lent one. */
 bool sizes_hold_for(const struct memory *m, uint64_t page_size)
 {
-    uint64_t control[8] = {page_size, 0, UINT64_MAX};
+    uint64_t control[MOST_CONTROL] = {[CONTROL_SIZE] = page_size, [CONTROL_TOP] = UINT64_MAX};
     struct memory sized = *m;
     sized.control = control;
     return judge(LENT(&sized)) != 1;

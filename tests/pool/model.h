@@ -15,7 +15,7 @@
 
 struct buffer {
     bool used, dirty, just_dirtied;
-    uint32_t pins, usage, name[5];
+    uint32_t pins, usage, name[NAME_WORDS];
     uint8_t *page;
 };
 

@@ -11,11 +11,11 @@ static bool same(const uint32_t *a, const uint32_t *b, size_t words)
     return memcmp(a, b, words * sizeof *a) == 0;
 }
 
-/* The row whose first four numbers these are, or a null pointer. */
+/* The row of the file with which a name begins, or a null pointer. */
 static uint32_t *row_of(struct pool *p, const uint32_t *name)
 {
     for (size_t r = 0; r < p->files; r++)
-        if (same(p->rows + 6 * r, name, 4)) return p->rows + 6 * r;
+        if (same(p->rows + ROW_WORDS * r, name, FILE_WORDS)) return p->rows + ROW_WORDS * r;
     return NULL;
 }
 
@@ -23,15 +23,15 @@ static uint32_t *row_of(struct pool *p, const uint32_t *name)
 static uint8_t *block_of(struct pool *p, const uint32_t *name)
 {
     size_t start = 0;
-    for (uint32_t *row = p->rows; row != row_of(p, name); row += 6) start += SLIP == 21 ? row[4] : row[5];
-    return p->store + (start + name[4]) * p->page_size;
+    for (uint32_t *row = p->rows; row != row_of(p, name); row += ROW_WORDS) start += row[SLIP == 21 ? ROW_BLOCKS : ROW_CAPACITY];
+    return p->store + (start + name[NAME_BLOCK]) * p->page_size;
 }
 
 /* The buffer that has the page, or n. */
 static size_t held(struct pool *p, const uint32_t *name)
 {
     for (size_t i = 0; i < p->n; i++)
-        if (p->buffers[i].used && same(p->buffers[i].name, name, 5)) return i;
+        if (p->buffers[i].used && same(p->buffers[i].name, name, NAME_WORDS)) return i;
     return p->n;
 }
 
@@ -127,7 +127,7 @@ static uint32_t name_places(struct pool *p, const uint32_t *name)
 {
     uint32_t *row = row_of(p, name);
     if (row == NULL) return 3;
-    return name[4] >= row[4] ? 4 : 0;
+    return name[NAME_BLOCK] >= row[ROW_BLOCKS] ? 4 : 0;
 }
 
 static uint32_t pin(struct pool *p, const struct request *q, uint64_t *answer)
@@ -139,7 +139,7 @@ static uint32_t pin(struct pool *p, const struct request *q, uint64_t *answer)
     struct buffer *b = &p->buffers[i];
     if (b->pins >= MOST_PINS - (SLIP == 31)) return 5;
     b->pins++;
-    if (b->usage < 5 || SLIP == 3) b->usage++;
+    if (b->usage < MOST_USAGE || SLIP == 3) b->usage++;
     answer[0] = i;
     answer[1] = 1;
     return 0;
@@ -232,10 +232,12 @@ static uint32_t extend(struct pool *p, const struct request *q, uint64_t *answer
 {
     uint32_t *row = row_of(p, q->name);
     if (row == NULL) return 3;
-    if (row[4] == row[5]) return 13;
-    uint32_t name[5] = {row[0], row[1], row[2], row[3], row[4]};
+    if (row[ROW_BLOCKS] == row[ROW_CAPACITY]) return 13;
+    uint32_t name[NAME_WORDS];
+    memcpy(name, row, FILE_WORDS * sizeof *name);
+    name[NAME_BLOCK] = row[ROW_BLOCKS];
     if (SLIP != 9) memset(block_of(p, name), 0, p->page_size);
-    answer[0] = row[4]++;
+    answer[0] = row[ROW_BLOCKS]++;
     return 0;
 }
 
@@ -256,13 +258,13 @@ static uint32_t drop(struct pool *p, const struct request *q)
     uint32_t *row = row_of(p, q->name);
     if (row == NULL) return 3;
     for (size_t i = 0; i < p->n; i++)
-        if (p->buffers[i].used && same(p->buffers[i].name, row, 4) && p->buffers[i].pins > 0) return 14;
+        if (p->buffers[i].used && same(p->buffers[i].name, row, FILE_WORDS) && p->buffers[i].pins > 0) return 14;
     for (size_t k = 0; k < p->n; k++) {
         size_t i = SLIP == 8 ? p->n - 1 - k : k;
-        if (p->buffers[i].used && same(p->buffers[i].name, row, 4)) release(p, i);
+        if (p->buffers[i].used && same(p->buffers[i].name, row, FILE_WORDS)) release(p, i);
     }
     if (SLIP == 30) p->hand = 0;
-    if (SLIP != 15) row[4] = 0;
+    if (SLIP != 15) row[ROW_BLOCKS] = 0;
     return 0;
 }
 
@@ -320,9 +322,9 @@ static uint32_t memory_places(struct memory *m, const struct request *q)
 uint32_t model_call(struct memory *m, const struct request *q)
 {
     static struct pool p;
-    uint64_t answer[4] = {0};
+    uint64_t answer[ANSWER_WORDS] = {0};
     uint32_t refusal = memory_places(m, q);
-    if (m->answer_len != 4 && SLIP != 35) return 1;
+    if (m->answer_len != ANSWER_WORDS && SLIP != 35) return 1;
     if (refusal == 0 && q->call == SET_UP) {
         set_up(m, q);
     } else if (refusal == 0) {
@@ -331,6 +333,6 @@ uint32_t model_call(struct memory *m, const struct request *q)
         if (refusal == 0) pack(&p, m);
     }
     if (SLIP == 36 && refusal != 0) return refusal;
-    for (size_t k = 0; k < 4 && k < m->answer_len; k++) m->answer[k] = refusal == 0 ? answer[k] : 0;
+    for (size_t k = 0; k < ANSWER_WORDS && k < m->answer_len; k++) m->answer[k] = refusal == 0 ? answer[k] : 0;
     return refusal;
 }

@@ -11,8 +11,8 @@ static const char *const call_names[CALLS] = {"set up", "pin", "unpin", "read", 
 /* the memory before the call, but for pool and store: of the pool each page's first 8 bytes */
 static struct {
     size_t lengths[OWN];
-    uint64_t control[8];
-    uint32_t states[SHOWN], names[5 * SHOWN], rows[6 * SHOWN];
+    uint64_t control[MOST_CONTROL];
+    uint32_t states[SHOWN], names[NAME_WORDS * SHOWN], rows[ROW_WORDS * SHOWN];
     int32_t free[SHOWN], heads[2 * SHOWN], chain[SHOWN];
     uint8_t pages[SHOWN][8];
 } before;
@@ -28,7 +28,7 @@ void keep_before(void)
     memcpy(before.heads, twin.heads, sizeof before.heads);
     memcpy(before.chain, twin.chain, sizeof before.chain);
     for (size_t i = 0; i < SHOWN && i < twin.states_len; i++) {
-        uint64_t p = twin.control[0];
+        uint64_t p = twin.control[CONTROL_SIZE];
         if (p >= 8 && p <= 32768 && (i + 1) * p <= twin.pool_len) memcpy(before.pages[i], twin.pool + i * p, 8);
     }
 }
@@ -45,9 +45,9 @@ void print_request(const struct request *q)
     switch (q->call) {
     case SET_UP: printf("page_size %" PRIu64 " position %" PRIu64, q->page_size, q->position); break;
     case PIN:
-    case PEEK: print_numbers(q->name, 5); break;
+    case PEEK: print_numbers(q->name, NAME_WORDS); break;
     case EXTEND:
-    case DROP: print_numbers(q->name, 4); break;
+    case DROP: print_numbers(q->name, FILE_WORDS); break;
     case UNPIN:
     case FLUSH: printf("buffer %" PRIu64, q->buffer); break;
     case READ: printf("buffer %" PRIu64 " from %" PRIu64 " out of %zu bytes", q->buffer, q->from, q->own_len); break;
@@ -62,10 +62,10 @@ void print_request(const struct request *q)
 
 static void print_buffer(size_t i)
 {
-    uint32_t w = before.states[i], *n = before.names + 5 * i;
+    uint32_t w = before.states[i], *n = before.names + NAME_WORDS * i;
     printf("  buffer %zu: word 0x%08" PRIX32 " (pins %" PRIu32 ", usage %" PRIu32 "%s), name ", i, w, w & 0x3FFFF, w >> 18 & 15,
            w >> 23 & 1 ? ", dirty" : "");
-    print_numbers(n, 5);
+    print_numbers(n, NAME_WORDS);
     printf(", free %" PRId32 ", chain %" PRId32 ", page", before.free[i], before.chain[i]);
     for (int k = 0; k < 8; k++) printf(" %02X", before.pages[i][k]);
     printf("\n");
@@ -73,10 +73,10 @@ static void print_buffer(size_t i)
 
 static void print_row(size_t r)
 {
-    const uint32_t *w = before.rows + 6 * r;
+    const uint32_t *w = before.rows + ROW_WORDS * r;
     printf("  row %zu: ", r);
-    print_numbers(w, 4);
-    printf(" blocks %" PRIu32 " capacity %" PRIu32 "\n", w[4], w[5]);
+    print_numbers(w, FILE_WORDS);
+    printf(" blocks %" PRIu32 " capacity %" PRIu32 "\n", w[ROW_BLOCKS], w[ROW_CAPACITY]);
 }
 
 void print_before(void)
@@ -85,11 +85,11 @@ void print_before(void)
     printf("before the call; lengths:");
     for (int k = 0; k < OWN; k++) printf(" %s %zu", part_names[k], before.lengths[k]);
     printf("\n  control: P %" PRIu64 ", hand %" PRIu64 ", top %" PRId64 ", inserted %" PRIu64 ", flushed %" PRIu64 "\n  heads:",
-           c[0], c[1], (int64_t)c[2], c[3], c[4]);
+           c[CONTROL_SIZE], c[CONTROL_HAND], (int64_t)c[CONTROL_TOP], c[CONTROL_INSERTED], c[CONTROL_FLUSHED]);
     for (size_t k = 0; k < 2 * SHOWN && k < before.lengths[HEADS]; k++) printf(" %" PRId32, before.heads[k]);
     printf("\n");
     for (size_t i = 0; i < SHOWN && i < before.lengths[STATES]; i++) print_buffer(i);
-    for (size_t r = 0; r < SHOWN && r < before.lengths[ROWS] / 6; r++) print_row(r);
+    for (size_t r = 0; r < SHOWN && r < before.lengths[ROWS] / ROW_WORDS; r++) print_row(r);
 }
 
 static void print_element(const uint8_t *at, size_t size)

@@ -2,6 +2,7 @@
 #ifndef REQUEST_H
 #define REQUEST_H
 
+#include "../layout.h"
 #include <stddef.h>
 #include <stdint.h>
 
@@ -9,12 +10,12 @@ enum call { SET_UP, PIN, UNPIN, READ, WRITE, FLUSH, CHECKPOINT, PEEK, EXTEND, DR
 
 struct request {
     enum call call;
-    uint32_t name[5];    /* pin, peek; of an extend and a drop the first four */
-    uint64_t page_size;  /* set up */
-    uint64_t buffer;     /* unpin, read, write, flush */
-    uint64_t from;       /* read, write */
-    uint64_t position;   /* set up, write, log inserted, log flushed */
-    uint8_t *own;        /* a read's out, a write's bytes */
+    uint32_t name[NAME_WORDS]; /* pin, peek; of an extend and a drop the file's words */
+    uint64_t page_size;        /* set up */
+    uint64_t buffer;           /* unpin, read, write, flush */
+    uint64_t from;             /* read, write */
+    uint64_t position;         /* set up, write, log inserted, log flushed */
+    uint8_t *own;              /* a read's out, a write's bytes */
     size_t own_len;
 };
 

@@ -14,7 +14,7 @@
 /* the shelf: a page is the index of its block in the store, files in row order, each with its full capacity */
 static size_t n, files, block_size, places;
 static uint64_t inserted;
-static uint32_t rows[64 * 6];
+static uint32_t rows[64 * ROW_WORDS];
 static uint8_t blocks[MOST_SHELF];
 static uint32_t counts[MOST_PLACES];
 static size_t holding[MOST_NUMBERS];
@@ -29,7 +29,7 @@ static uint8_t store[MOST_SHELF];
 void shelf_begin(const struct memory *m, uint64_t page_size, uint64_t position)
 {
     n = m->states_len;
-    files = m->rows_len / 6;
+    files = m->rows_len / ROW_WORDS;
     block_size = page_size;
     places = m->store_len / page_size;
     inserted = flushed = position;
@@ -45,20 +45,20 @@ void shelf_begin(const struct memory *m, uint64_t page_size, uint64_t position)
 static size_t row_of(const uint32_t *name)
 {
     for (size_t r = 0; r < files; r++)
-        if (memcmp(rows + 6 * r, name, 4 * sizeof *rows) == 0) return r;
+        if (memcmp(rows + ROW_WORDS * r, name, FILE_WORDS * sizeof *rows) == 0) return r;
     return NONE;
 }
 
 static size_t place_of(size_t row, uint32_t block)
 {
     size_t start = 0;
-    for (size_t r = 0; r < row; r++) start += rows[6 * r + 5];
+    for (size_t r = 0; r < row; r++) start += rows[ROW_WORDS * r + ROW_CAPACITY];
     return start + block;
 }
 
 static bool in_file(size_t place, size_t row)
 {
-    return place >= place_of(row, 0) && place < place_of(row, 0) + rows[6 * row + 5];
+    return place >= place_of(row, 0) && place < place_of(row, 0) + rows[ROW_WORDS * row + ROW_CAPACITY];
 }
 
 static uint8_t *bytes_of(size_t place)
@@ -87,9 +87,9 @@ static uint32_t pin_refusal(const struct request *q)
 {
     size_t r = row_of(q->name), place;
     if (r == NONE) return 3;
-    if (q->name[4] >= rows[6 * r + 4]) return 4;
+    if (q->name[NAME_BLOCK] >= rows[ROW_WORDS * r + ROW_BLOCKS]) return 4;
     if (q->call == PEEK) return 0;
-    place = place_of(r, q->name[4]);
+    place = place_of(r, q->name[NAME_BLOCK]);
     if (counts[place] == 262143) return 5;
     return counts[place] == 0 && pages_with_pins() == n - (SHELF_SLIP == 1 && n > 1) ? 6 : 0;
 }
@@ -122,7 +122,7 @@ static uint32_t file_refusal(const struct request *q)
 {
     size_t r = row_of(q->name);
     if (r == NONE) return 3;
-    if (q->call == EXTEND) return rows[6 * r + 4] == rows[6 * r + 5] ? 13 : 0;
+    if (q->call == EXTEND) return rows[ROW_WORDS * r + ROW_BLOCKS] == rows[ROW_WORDS * r + ROW_CAPACITY] ? 13 : 0;
     return drop_refusal(r);
 }
 
@@ -159,11 +159,11 @@ static bool written_back(size_t place, const uint8_t *now)
 
 static const char *pinned(const struct request *q, const uint64_t *answer, const uint8_t *now)
 {
-    size_t place = place_of(row_of(q->name), q->name[4]), i = answer[0];
+    size_t place = place_of(row_of(q->name), q->name[NAME_BLOCK]), i = answer[0];
     if (i >= n) return "a pin's buffer number is below N";
     if (counts[place] > 0 && holding[i] != place) return "a pin of a page with pins answers the number already holding it";
     if (counts[place] == 0 && holding[i] != NONE) return "a pin of a page without pins answers a number that holds none";
-    if (answer[3] > 6 * n) return "at most six probes per buffer";
+    if (answer[3] > (MOST_USAGE + 1) * n) return "at most six probes per buffer";
     if (answer[1] == 1 && (answer[2] != 0 || answer[3] != 0)) return "a hit makes no probes and writes nothing";
     if (answer[2] == 1 && (last[i] == NONE || !dirty[last[i]])) return "a pin that answers wrote had a dirty page at the number";
     if (answer[2] == 1 && !written_back(last[i], now)) return "the page written back at a pin is the shelf's";
@@ -205,26 +205,26 @@ static const char *checkpointed(const uint64_t *answer, const uint8_t *now)
         written_back(k, now);
     }
     for (size_t r = 0; r < files; r++) {
-        size_t start = place_of(r, 0) * block_size;
-        if (memcmp(now + start, blocks + start, rows[6 * r + 4] * block_size) != 0) return "after a checkpoint the store is the shelf";
+        size_t start = place_of(r, 0) * block_size, length = rows[ROW_WORDS * r + ROW_BLOCKS] * block_size;
+        if (memcmp(now + start, blocks + start, length) != 0) return "after a checkpoint the store is the shelf";
     }
     return answer[0] == many ? NULL : "a checkpoint answers how many pages were dirty";
 }
 
 static const char *extended(const struct request *q, const uint64_t *answer, const uint8_t *now)
 {
-    uint32_t *row = rows + 6 * row_of(q->name);
-    size_t place = place_of(row_of(q->name), row[4]);
-    if (answer[0] != row[4]) return "an extend answers the shelf's block number";
+    uint32_t *row = rows + ROW_WORDS * row_of(q->name);
+    size_t place = place_of(row_of(q->name), row[ROW_BLOCKS]);
+    if (answer[0] != row[ROW_BLOCKS]) return "an extend answers the shelf's block number";
     memset(bytes_of(place), 0, block_size);
     if (!put(place, now)) return "an extend's new block is zeros";
-    row[4]++;
+    row[ROW_BLOCKS]++;
     return NULL;
 }
 
 static const char *dropped(size_t r)
 {
-    rows[6 * r + 4] = 0;
+    rows[ROW_WORDS * r + ROW_BLOCKS] = 0;
     for (size_t k = 0; k < places; k++)
         if (in_file(k, r)) dirty[k] = SHELF_SLIP == 3 && dirty[k];
     return NULL;
@@ -236,7 +236,7 @@ static const char *peeked(const struct request *q, const struct memory *after)
     size_t length = answer[0] == 1 ? after->pool_len : after->store_len;
     const uint8_t *slice = answer[0] == 1 ? after->pool : after->store;
     if (answer[1] > length || length - answer[1] < block_size) return "a peek hands back a part of pool or store";
-    const uint8_t *page = bytes_of(place_of(row_of(q->name), q->name[4]));
+    const uint8_t *page = bytes_of(place_of(row_of(q->name), q->name[NAME_BLOCK]));
     return memcmp(slice + answer[1], page, block_size) == 0 ? NULL : "a peek hands back the shelf's bytes";
 }
 
@@ -267,16 +267,17 @@ static bool in_log_order(uint64_t flushed_now)
 
 const char *shelf_follow(const struct request *q, const uint8_t *own, uint32_t result, const struct memory *after)
 {
-    static const uint64_t zeros[4];
+    static const uint64_t zeros[ANSWER_WORDS];
     const char *wrong = NULL;
     if (result != refusal_of(q)) return "the refusal number is the shelf's";
     if (result != 0 && memcmp(after->answer, zeros, sizeof zeros) != 0) return "a refusal has zeros for an answer";
     if (result == 0) wrong = accepted(q, own, after);
     if (wrong != NULL) return wrong;
-    if (memcmp(rows, after->rows, 24 * files) != 0) return "all rows are the shelf's";
-    if (inserted != after->control[3]) return "inserted is the shelf's";
-    if (flushed != after->control[4]) return "flushed is the largest position of set up, log flushed and the pages written back";
+    if (memcmp(rows, after->rows, ROW_BYTES * files) != 0) return "all rows are the shelf's";
+    if (inserted != after->control[CONTROL_INSERTED]) return "inserted is the shelf's";
+    if (flushed != after->control[CONTROL_FLUSHED])
+        return "flushed is the largest position of set up, log flushed and the pages written back";
     if (memcmp(store, after->store, places * block_size) != 0) return "no other block of the store has changed";
-    if (!in_log_order(after->control[4])) return "every block put into the store is at or below flushed";
+    if (!in_log_order(after->control[CONTROL_FLUSHED])) return "every block put into the store is at or below flushed";
     return NULL;
 }

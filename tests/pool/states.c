@@ -68,33 +68,33 @@ static void put_position(uint8_t *page, uint64_t position)
     for (int k = 0; k < 8; k++) page[k] = (uint8_t)(words >> 8 * k);
 }
 
-/* four numbers, with few values, so that files differ in one number only, and zeros and great ones occur */
+/* a file's numbers, with few values, so that files differ in one number only, and zeros and great ones occur */
 static void some_file(uint32_t *row)
 {
     static const uint32_t spaces[] = {1663, 1664, 0, UINT32_MAX}, relations[] = {16384, 16385, 0, 1u << 31};
-    row[0] = spaces[random_below(4)];
-    row[1] = random_below(3) * 5;
-    row[2] = relations[random_below(4)];
-    row[3] = random_below(3);
+    row[FILE_TABLESPACE] = spaces[random_below(4)];
+    row[FILE_DATABASE] = random_below(3) * 5;
+    row[FILE_RELATION] = relations[random_below(4)];
+    row[FILE_FORK] = random_below(3);
 }
 
 static bool file_is_new(const uint32_t *rows, size_t r)
 {
     for (size_t k = 0; k < r; k++)
-        if (memcmp(rows + 6 * k, rows + 6 * r, 4 * sizeof *rows) == 0) return false;
+        if (memcmp(rows + ROW_WORDS * k, rows + ROW_WORDS * r, FILE_WORDS * sizeof *rows) == 0) return false;
     return true;
 }
 
 static void fill_rows(const struct sizes *s)
 {
     for (size_t r = 0; r < s->files; r++) {
-        uint32_t *row = twin.rows + 6 * r, many[4] = {1663, 5, 16384 + (uint32_t)r / 3, (uint32_t)r % 3};
+        uint32_t *row = twin.rows + ROW_WORDS * r, many[FILE_WORDS] = {1663, 5, 16384 + (uint32_t)r / 3, (uint32_t)r % 3};
         do {
             if (s->files > 8) memcpy(row, many, sizeof many);
             else some_file(row);
         } while (!file_is_new(twin.rows, r));
-        row[4] = s->blocks[r];
-        row[5] = s->capacity[r];
+        row[ROW_BLOCKS] = s->blocks[r];
+        row[ROW_CAPACITY] = s->capacity[r];
     }
 }
 
@@ -111,13 +111,13 @@ static void fill_store(const struct sizes *s, uint64_t log)
 
 void fill_unset(const struct sizes *s, uint64_t log)
 {
-    twin.control_len = 5;
-    twin.answer_len = 4;
+    twin.control_len = CONTROL_WORDS;
+    twin.answer_len = ANSWER_WORDS;
     twin.states_len = twin.free_len = twin.chain_len = s->n;
-    twin.names_len = 5 * s->n;
+    twin.names_len = NAME_WORDS * s->n;
     twin.pool_len = s->n * s->page_size;
     twin.heads_len = s->buckets;
-    twin.rows_len = 6 * s->files;
+    twin.rows_len = ROW_WORDS * s->files;
     fill_rows(s);
     fill_store(s, log);
     for (int k = 0; k < OWN; k++)
@@ -139,8 +139,8 @@ static void name_page(const struct sizes *s, uint32_t k, uint32_t *name)
 {
     size_t r = 0;
     for (; k >= s->blocks[r]; r++) k -= s->blocks[r];
-    memcpy(name, twin.rows + 6 * r, 4 * sizeof *name);
-    name[4] = k;
+    memcpy(name, twin.rows + ROW_WORDS * r, FILE_WORDS * sizeof *name);
+    name[NAME_BLOCK] = k;
 }
 
 /* pins: few, on every buffer, or any; the greatest count and the one below it too */
@@ -153,14 +153,14 @@ static uint32_t some_pins(unsigned style)
 
 static void fill_buffer(const struct sizes *s, size_t i, uint32_t page, unsigned style)
 {
-    uint32_t *name = twin.names + 5 * i, dirty = random_below(2), flags = 1u << 31 | 1u << 25 | 1u << 24;
-    uint64_t inserted = twin.control[3];
+    uint32_t *name = twin.names + NAME_WORDS * i, dirty = random_below(2), flags = 1u << 31 | 1u << 25 | 1u << 24;
+    uint64_t inserted = twin.control[CONTROL_INSERTED];
     name_page(s, page, name);
     int32_t *head = &twin.heads[name_hash(name) % s->buckets];
     twin.chain[i] = *head;
     *head = (int32_t)i;
     twin.free[i] = -2;
-    twin.states[i] = flags | dirty << 28 | dirty << 23 | random_below(6) << 18 | some_pins(style);
+    twin.states[i] = flags | dirty << 28 | dirty << 23 | random_below(MOST_USAGE + 1) << 18 | some_pins(style);
     if (dirty || random_below(8) != 0) put_position(twin.pool + i * s->page_size, below(inserted, random_below(60)));
 }
 
@@ -177,9 +177,9 @@ static void fill_lists(const struct sizes *s)
     for (size_t k = used; k < s->n; k++) {
         size_t i = order[k];
         twin.states[i] = 0;
-        memset(twin.names + 5 * i, 0, 5 * sizeof *twin.names);
-        twin.free[i] = twin.control[2] == UINT64_MAX ? -1 : (int32_t)twin.control[2];
-        twin.control[2] = i;
+        memset(twin.names + NAME_WORDS * i, 0, NAME_WORDS * sizeof *twin.names);
+        twin.free[i] = twin.control[CONTROL_TOP] == UINT64_MAX ? -1 : (int32_t)twin.control[CONTROL_TOP];
+        twin.control[CONTROL_TOP] = i;
     }
 }
 
@@ -187,7 +187,8 @@ void fill_sound(const struct sizes *s)
 {
     uint64_t inserted = above(some_log(), random_below(100)), flushed = below(inserted, random_below(60));
     fill_unset(s, inserted);
-    uint64_t control[5] = {s->page_size, random_below((uint32_t)s->n), UINT64_MAX, inserted, random_below(8) == 0 ? inserted : flushed};
+    uint64_t control[CONTROL_WORDS] = {s->page_size, random_below((uint32_t)s->n), UINT64_MAX, inserted,
+                                       random_below(8) == 0 ? inserted : flushed};
     memcpy(twin.control, control, sizeof control);
     memset(twin.heads, 255, s->buckets * sizeof *twin.heads);
     memset(twin.chain, 255, s->n * sizeof *twin.chain);

@@ -8,28 +8,28 @@
 
 enum { NAMES = 100000, CALLS = 200000, POSITIONS = 20000, BUFFERS = MOST_BUFFERS };
 
-static void see_tag(const uint32_t name[5], uint64_t which)
+static void see_tag(const uint32_t name[NAME_WORDS], uint64_t which)
 {
-    uint8_t ours[BUFTAG_NAME_BYTES], theirs[64];
+    uint8_t ours[NAME_BYTES], theirs[64];
     size_t size = published_tag(name, theirs);
     need(size == sizeof ours, "a BufferTag's bytes are not 20 but", size);
-    need(buftag_bytes(name[0], name[1], name[2], name[3], name[4], ours, sizeof ours) == 0, "buftag_bytes refuses name", which);
+    need(buftag_bytes(NAME_OF(name), ours, sizeof ours) == 0, "buftag_bytes refuses name", which);
     need(memcmp(ours, theirs, sizeof ours) == 0, "the bytes differ of name", which);
 }
 
 /* Case A, with the document's bytes, and random names: all numbers but the fork have any 32 bits. */
 static void tags(void)
 {
-    static const uint32_t case_a[5] = {16821, 16384, 37721, 0, 7};
-    static const uint8_t bytes[20] = {0xB5, 0x41, 0, 0, 0, 0x40, 0, 0, 0x59, 0x93, 0, 0, 0, 0, 0, 0, 7, 0, 0, 0};
+    static const uint32_t case_a[NAME_WORDS] = {16821, 16384, 37721, 0, 7};
+    static const uint8_t bytes[NAME_BYTES] = {0xB5, 0x41, 0, 0, 0, 0x40, 0, 0, 0x59, 0x93, 0, 0, 0, 0, 0, 0, 7, 0, 0, 0};
     uint8_t theirs[64];
     published_tag(case_a, theirs);
-    need(memcmp(theirs, bytes, sizeof bytes) == 0, "case A's bytes are not a BufferTag's, block", case_a[4]);
+    need(memcmp(theirs, bytes, sizeof bytes) == 0, "case A's bytes are not a BufferTag's, block", case_a[NAME_BLOCK]);
     see_tag(case_a, 0);
     for (uint64_t k = 1; k <= NAMES; k++) {
-        uint32_t name[5];
-        for (int w = 0; w < 5; w++) name[w] = (uint32_t)random64() >> (8 * random_below(4));
-        name[3] = random_below(3);
+        uint32_t name[NAME_WORDS];
+        for (int w = 0; w < NAME_WORDS; w++) name[w] = (uint32_t)random64() >> (8 * random_below(4));
+        name[FILE_FORK] = random_below(3);
         see_tag(name, k);
     }
 }
@@ -45,7 +45,7 @@ static void constants(void)
 {
     static const int bits[FLAGS] = {23, 24, 25, 28, 31};
     for (int f = 0; f < FLAGS; f++) need(published_flag((enum flag)f) == (uint32_t)1 << bits[f], "another flag is bit", (uint64_t)bits[f]);
-    need(published_most_usage() == 5, "the greatest usage count", published_most_usage());
+    need(published_most_usage() == MOST_USAGE, "the greatest usage count", published_most_usage());
     need(published_most_pins() == BUFPOOL_MAX_PINS, "the greatest pin count", published_most_pins());
 }
 
@@ -65,13 +65,13 @@ static void see_flags(uint32_t word, const struct expected *e)
 
 static void see_word(const struct bufpool *m, uint32_t block, const struct expected *e)
 {
-    const uint32_t word = m->states[block], name[5] = {1663, 5, 16384, 0, block};
+    const uint32_t word = m->states[block], name[NAME_WORDS] = {1663, 5, 16384, 0, block};
     uint8_t tag[64];
     published_tag(name, tag);
     need(word == published_word(e->pins, e->usage, e->dirty), "PostgreSQL's constants make another word than", word);
     need(published_pins(word) == e->pins, "the pin count is wrong in word", word);
     need(published_usage(word) == e->usage, "the usage count is wrong in word", word);
-    need(memcmp(m->names + BUFPOOL_NAME_WORDS * block, tag, 20) == 0, "the pool's name is no BufferTag, of block", block);
+    need(memcmp(m->names + NAME_WORDS * block, tag, NAME_BYTES) == 0, "the pool's name is no BufferTag, of block", block);
     see_flags(word, e);
 }
 

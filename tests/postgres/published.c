@@ -10,17 +10,17 @@
 #define SLIP 0
 #endif
 
-size_t published_tag(const uint32_t name[5], uint8_t *out)
+size_t published_tag(const uint32_t name[NAME_WORDS], uint8_t *out)
 {
     BufferTag tag;
-    ForkNumber fork = (ForkNumber)name[SLIP == 1 ? 4 : 3];
-    BlockNumber block = name[SLIP == 1 ? 3 : 4];
-    Oid space = name[SLIP == 2 ? 1 : 0], database = name[SLIP == 2 ? 0 : 1];
+    ForkNumber fork = (ForkNumber)name[SLIP == 1 ? NAME_BLOCK : FILE_FORK];
+    BlockNumber block = name[SLIP == 1 ? FILE_FORK : NAME_BLOCK];
+    Oid space = name[SLIP == 2 ? FILE_DATABASE : FILE_TABLESPACE], database = name[SLIP == 2 ? FILE_TABLESPACE : FILE_DATABASE];
 #if PG_VERSION_NUM >= 160000
-    RelFileLocator file = {.spcOid = space, .dbOid = database, .relNumber = name[2]};
+    RelFileLocator file = {.spcOid = space, .dbOid = database, .relNumber = name[FILE_RELATION]};
     InitBufferTag(&tag, &file, fork, block);
 #else
-    RelFileNode file = {.spcNode = space, .dbNode = database, .relNode = name[2]};
+    RelFileNode file = {.spcNode = space, .dbNode = database, .relNode = name[FILE_RELATION]};
     INIT_BUFFERTAG(tag, file, fork, block);
 #endif
     memcpy(out, &tag, sizeof tag);

@@ -2,6 +2,7 @@
 #ifndef PUBLISHED_H
 #define PUBLISHED_H
 
+#include "../layout.h"
 #include <stddef.h>
 #include <stdint.h>
 
@@ -10,8 +11,8 @@
 
 enum flag { FLAG_DIRTY, FLAG_VALID, FLAG_TAG_VALID, FLAG_JUST_DIRTIED, FLAG_PERMANENT, FLAGS };
 
-/* A BufferTag of five numbers: its bytes, and how many they are. */
-size_t published_tag(const uint32_t name[5], uint8_t *out);
+/* A BufferTag of a name's numbers: its bytes, and how many they are. */
+size_t published_tag(const uint32_t name[NAME_WORDS], uint8_t *out);
 
 /* The numbers of PostgreSQL's forks: 0 table, 1 free space map, 2 visibility map. */
 uint32_t published_fork(int which);

@@ -1,0 +1,28 @@
+/* The headers and tests/layout.h, which tests and benchmarks have written for themselves, agree: this compiles if they do.
+   With -DWRONG=LINE the number of that line is taken for one more, and it does not compile. */
+#include "../layout.h"
+#include "bufpool.h"
+#include "buftag.h"
+
+#ifndef WRONG
+#define WRONG 0
+#endif
+#define SAME(tests, header) _Static_assert((int)(tests) + (WRONG == __LINE__) == (int)(header), #tests)
+
+SAME(FILE_TABLESPACE, BUFPOOL_TABLESPACE);
+SAME(FILE_DATABASE, BUFPOOL_DATABASE);
+SAME(FILE_RELATION, BUFPOOL_RELATION);
+SAME(FILE_FORK, BUFPOOL_FORK);
+SAME(NAME_BLOCK, BUFPOOL_BLOCK);
+SAME(NAME_WORDS, BUFPOOL_NAME_WORDS);
+SAME(NAME_BYTES, BUFTAG_NAME_BYTES);
+SAME(ROW_BLOCKS, BUFPOOL_BLOCKS);
+SAME(ROW_CAPACITY, BUFPOOL_CAPACITY);
+SAME(ROW_WORDS, BUFPOOL_ROW_WORDS);
+SAME(CONTROL_SIZE, BUFPOOL_PAGE_SIZE);
+SAME(CONTROL_HAND, BUFPOOL_HAND);
+SAME(CONTROL_TOP, BUFPOOL_FREE_TOP);
+SAME(CONTROL_INSERTED, BUFPOOL_INSERTED);
+SAME(CONTROL_FLUSHED, BUFPOOL_FLUSHED);
+SAME(CONTROL_WORDS, BUFPOOL_CONTROL_WORDS);
+SAME(ANSWER_WORDS, BUFPOOL_ANSWER_WORDS);
