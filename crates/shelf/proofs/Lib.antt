@@ -49,3 +49,5 @@ pub mod StepPin
 pub mod Start
 pub mod Lift
 pub mod Demand
+-- the calls of the theorem are the exports' calls
+pub mod Made
