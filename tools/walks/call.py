@@ -18,6 +18,10 @@ from terms import WIDTHS
 BODY = re.compile(r'let (?P<end>\w+) = (?P<core>\w+)\((?P<handed>[^)]*)\); (?P<stores>.*;)? ?(?P<from>\w+)\.(?P<answered>\w+)')
 STORE = re.compile(r'(\w+)\.(\w+) = (\w+)\.(\w+)\.(\w+)')
 
+COMMENT = '''-- `%s` meets its contract: a walk of its MIR. The control record is copied out of the borrow, `%s` is called on
+-- it and on what else is lent, and %s of the record that it gives are stored back.
+-- All that is used of `%s` is that it meets its contract.'''
+
 
 @dataclass(frozen=True)
 class Body:
@@ -59,15 +63,65 @@ def read_passed(source, parameters):
             passed.append(Number(name, type_name))
         else:
             letter = letters.setdefault(type_name, 'B%s' % (len(letters) + 1 if letters else ''))
-            passed.append(Record(name, source.place(type_name), letter))
+            passed.append(Record(name, source.place(type_name), letter, 'val-' + name))
     return passed
 
 
-class Call:
+@dataclass(frozen=True)
+class Cited:
+    """A function whose contract a walk cites, with the names under which the walk has its module, its contract and its theorem."""
+    place: Place
+    module: str
+    contract: str
+    known: str
+
+
+class Subject:
+    """A function that has a walk, and what it is passed beside a record that is lent to it."""
+    lent = True  # whether the record is lent
+
+    @property
+    def less(self):
+        """By how much the numbers of the slices' lifetimes are less than they are where the record is lent."""
+        return int(not self.lent)
+
+    @property
+    def lifetimes(self):
+        return len(self.slices) + self.lent
+
+    @property
+    def slices(self):
+        return [item for item in self.passed if isinstance(item, Slice)]
+
+    @property
+    def mutable(self):
+        return [item for item in self.passed if item.mutable]
+
+    @property
+    def shared(self):
+        return [item for item in self.slices if not item.mutable]
+
+    @property
+    def records(self):
+        """The structs that are passed by value, the record apart."""
+        return [item for item in self.passed if isinstance(item, Record) and item.type != self.record]
+
+    @property
+    def kinds(self):
+        """The types of what the walk names, each with the letter under which it is imported."""
+        return [(self.record, 'T'), (self.end, 'L'), (self.answer, 'E')] + list({item.type: item.letter for item in self.records}.items())
+
+    def source(self, place):
+        """The file in which something is declared."""
+        return Source(self.crates, place.crate, place.module)
+
+
+class Call(Subject):
     """A thin call and its core, with everything that its walk says."""
 
     def __init__(self, crates, place, law, stored_words):
         self.place, self.law, self.stored_words = place, law, stored_words
+        self.laws = [('Rattle.%s.proofs.SizeLaws' % place.crate, law)]
         self.crates, self.crate = crates, place.crate
         source = Source(crates, place.crate, place.module)
         function = source.function(place.name)
@@ -77,12 +131,14 @@ class Call:
         self.passed = read_passed(source, rest)
         self.body = read_body(source.path, function)
         self.core = source.place(self.body.core)
+        self.cited = [Cited(self.core, 'core', 'Core', 'known')]
         self.read_types()
         self.read_core(function)
 
-    def source(self, place):
-        """The file in which something is declared."""
-        return Source(self.crates, place.crate, place.module)
+    @property
+    def comment(self):
+        """What the file says of itself."""
+        return (COMMENT % (self.place.name, self.core.name, self.stored_words, self.core.name)).split('\n')
 
     def read_types(self):
         """The record's fields, and which of them are stored back."""
@@ -137,26 +193,6 @@ class Call:
         if outcome[-1] != '.after' or memory[1] != '(r .%s)' % self.record_part:
             raise Unreadable('%s does not ensure what memory it leaves' % self.core.name)
         self.lists, self.defined_by = len(memory) - 2, outcome[2:-1]
-
-    @property
-    def slices(self):
-        return [item for item in self.passed if isinstance(item, Slice)]
-
-    @property
-    def mutable(self):
-        return [item for item in self.passed if item.mutable]
-
-    @property
-    def shared(self):
-        return [item for item in self.slices if not item.mutable]
-
-    @property
-    def numbers(self):
-        return [item for item in self.passed if isinstance(item, Number)]
-
-    @property
-    def records(self):
-        return [item for item in self.passed if isinstance(item, Record)]
 
 
 def thin_calls(crates, crate):

@@ -13,12 +13,13 @@ import sys
 from pathlib import Path
 
 from call import Call, thin_calls
+from call_statements import call_statements
+from call_walk import call_walk
 from described import DESCRIBED
 from ending import ending
 from imports import head
+from parts import stated
 from source import Unreadable
-from statements import statements
-from walk import walk
 
 
 def written(folder):
@@ -34,7 +35,8 @@ def written(folder):
     for place in places:
         call = Call(crates, place, laws[place.name], stored)
         path = folder.joinpath('proofs', *place.module.split('.'), place.name, 'Proof.antt')
-        yield path, '\n'.join(head(call) + statements(call) + walk(call) + ending(call)) + '\n'
+        body = call_statements(call) + stated(call) + call_walk(call) + ending(call)
+        yield path, '\n'.join(head(call, body) + body) + '\n'
 
 
 def main(words):

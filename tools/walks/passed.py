@@ -8,8 +8,8 @@ from terms import WIDTHS, element_type, part
 
 @dataclass(frozen=True)
 class Slice:
-    """A lent slice. Its lifetime has a number in the function's signature: the record's is 0, and the call by value has no record
-    lent, so its numbers are one less."""
+    """A lent slice. Its lifetime has a number in the signature of a function to which the record is lent, where the record's is 0. Where
+    the record is passed by value the numbers are one less."""
     name: str
     element: str
     mutable: bool
@@ -42,7 +42,7 @@ class Slice:
         return 'q%d' % self.number
 
     def row(self, less=0):
-        """Its type with its lifetime's number, less as many lifetimes as the callee lacks."""
+        """Its type with its lifetime's number."""
         kind = 'MutSlice' if self.mutable else 'ShrSlice'
         return '%s (named %d) %s %s' % (kind, self.number - less, self.lifetime, self.element)
 
@@ -50,15 +50,14 @@ class Slice:
     def typed(self):
         return '(tt, (tt, (record { fits = room-%s .0 }, tt)))' % self.name
 
-    @property
-    def stays(self):
+    def stays(self, less=0):
         form = 'gave-slice (%d ∷ []) tt (plain (λ _. %s))' if self.mutable else 'stay-none-slice (%d ∷ []) tt (plain (λ _. %s)) yes'
-        return form % (self.number, self.element)
+        return form % (self.number - less, self.element)
 
-    def goes(self, lifetimes):
+    def goes(self, lifetimes, less=0):
         if self.mutable:
-            return 'goes-gave-slice 𝓤 H A W %d %d tt (plain (λ _. %s))' % (lifetimes, self.number, self.element)
-        return 'goes-none-slice 𝓤 H A W %d (%d ∷ []) tt (plain (λ _. %s)) yes' % (lifetimes, self.number, self.element)
+            return 'goes-gave-slice 𝓤 H A W %d %d tt (plain (λ _. %s))' % (lifetimes, self.number - less, self.element)
+        return 'goes-none-slice 𝓤 H A W %d (%d ∷ []) tt (plain (λ _. %s)) yes' % (lifetimes, self.number - less, self.element)
 
     def tells(self, less=0):
         kind, number = 'mut' if self.mutable else 'shr', self.number - less
@@ -93,11 +92,10 @@ class ByValue:
     """What is passed by value: the caller keeps nothing of it."""
     mutable = False
 
-    @property
-    def stays(self):
+    def stays(self, less=0):
         return 'stay-none (λ _. %s) yes' % self.row()
 
-    def goes(self, lifetimes):
+    def goes(self, lifetimes, less=0):
         return 'goes-none 𝓤 H A W %d (λ _. %s) yes (λ κs x f. refl)' % (lifetimes, self.row())
 
 
@@ -146,10 +144,11 @@ class Number(ByValue):
 
 @dataclass(frozen=True)
 class Record(ByValue):
-    """A struct by value. Its type's row and laws are imported under a letter."""
+    """A struct by value. Its type's row and laws are imported under a letter, and a function gives its machine value."""
     name: str
     type: Place
     letter: str
+    spelt: str
 
     @property
     def denotes(self):
@@ -157,7 +156,7 @@ class Record(ByValue):
 
     @property
     def machine(self):
-        return 'val-%s %s' % (self.name, self.name)
+        return '%s %s' % (self.spelt, self.name)
 
     @property
     def bound(self):

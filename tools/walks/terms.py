@@ -5,6 +5,11 @@ WIDTHS = {'u8': 8, 'u16': 16, 'u32': 32, 'u64': 64, 'usize': 64}
 SIGNED = {'i8', 'i16', 'i32', 'i64', 'isize'}
 
 
+def over(*words):
+    """An application, without what is empty."""
+    return ' '.join(word for word in words if word)
+
+
 def listed(items):
     """A list."""
     return ' ∷ '.join([str(item) for item in items] + ['[]'])

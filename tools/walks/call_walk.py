@@ -1,37 +1,26 @@
-"""The walk itself: the steps from a call's entry through its MIR to its exit."""
-from context import Context
+"""The walk of a thin call: the steps from its entry through its MIR to its exit."""
 from layout import fill, wrap
-from passed import Slice
+from mir import STOP, Mir, copy, loaded
 from terms import listed, part, product
 
-STOP = '(from ! (stop !))'
 RECORD = 'T.the-row (Is T.the-row)'
-PEEKED = 'T.the-row (Is T.the-row) (shows 𝓤 H A T.the-row)'
+SHOWN = 'T.the-row (Is T.the-row) (shows 𝓤 H A T.the-row)'
+MAKES = '(LL.makes T.the-type T′.the-plain 𝓤 H A)'
 TYPED = '(LL.lawful %s.the-type %s′.the-laws 𝓤 H A W .typed %s _ %s .0)'
 IN_MEMORY = '-- [the record in memory; what it owns; the open borrow; its name, twice; each local and its end, the last first; ..]'
 
 
-def local(number):
-    return 'local %d' % number
-
-
-def end(number):
-    return 'end %d' % number
-
-
-def held(item):
-    return 'held: ' + item.name
-
-
-def copy(item):
-    return 'copy: ' + item.name
-
-
 def lasting(item):
+    """The last value of a slice."""
     return 'last: ' + item.name
 
 
-class Walk:
+def owned_at_exit(call):
+    """What a walk ends with, in the order in which the exit names it."""
+    return ['name', 'borrow', 'token', 'tokens'] + [lasting(item) for item in call.mutable] + [copy(item) for item in call.shared]
+
+
+class CallWalk(Mir):
     """The steps of a thin call's walk. The MIR's locals: the answer, the record's borrow, what else is passed, what the core gives, the
     record's copy, and for each `&mut` slice its address and the slice that is lent on."""
 
@@ -41,22 +30,10 @@ class Walk:
         self.given = 2 + len(call.passed)
         self.copied = self.given + 1
         self.lent = {item.name: self.copied + 1 + 2 * number for number, item in enumerate(call.mutable)}
-        self.locals = self.copied + 1 + 2 * len(call.mutable)
-        self.context = Context('tokens', 'owned')
-
-    def place(self, number):
-        """Where a local stands."""
-        return self.context.at(local(number))
-
-    def look(self, number):
-        return '(look ! %d refl)' % self.place(number)
-
-    def init(self, number, typed):
-        return '(init ! %d refl %s)' % (self.place(number), typed)
+        super().__init__(self.copied + 1 + 2 * len(call.mutable))
 
     def steps(self):
         self.enter()
-        self.pass_parameters()
         self.open_borrow()
         self.copy_and_lend()
         self.hand_over()
@@ -69,28 +46,13 @@ class Walk:
         return self.context.steps
 
     def enter(self):
-        """What is owned at entry is taken apart; a shared slice is had twice, for the core and for the exit."""
+        """The record's borrow and what else is owned at entry are taken apart, and the parameters are passed."""
         context = self.context
         context.step('split ! $', 1, 'token', 'tokens')
         context.front('owned')
         context.step('fsplit ! $ fsplit3 ! $ drop ! $', 1, 'name', 'borrow', 'owned')
-        for item in self.call.passed:
-            context.front('owned')
-            context.step('fsplit ! $', 1, held(item), 'owned')
-            if isinstance(item, Slice) and not item.mutable:
-                context.step('twice ! %s $' % item.copied, 1, held(item), copy(item))
-
-    def pass_parameters(self):
-        """The locals are allocated, and the parameters are put into theirs."""
-        context, count = self.context, self.locals
-        context.say('enter ! C Λ code.function given _ $')
-        context.say(' '.join('alloc1 ! (λ l%d.' % number for number in range(count)) + ' alloc0 ! $ params1 ! $')
-        for number in range(count):
-            context.turn(0, local(number), end(number))
-        context.say('pass1 ! %s $' % self.init(1, '(tt, tt)'))
-        for item in self.call.passed:
-            context.say('pass1 ! %s $' % self.init(self.passed[item.name], item.typed))
-        context.say('pass0 ! $')
+        self.take_parameters(self.call.passed, 1)
+        self.pass_parameters(['(tt, tt)'] + [item.typed for item in self.call.passed])
 
     def open_borrow(self):
         """The borrow is opened: the record lies in memory, and what is known of it is kept."""
@@ -98,9 +60,9 @@ class Walk:
         context.front('name', 'borrow', 'token')
         context.say('opens ! tt T.the-row {h = h} b o (λ vs.')
         laws = '(LL.vals T.the-type T′.the-laws) (LL.tells T.the-type T′.the-laws)'
-        context.step('spelt ! %s %s fullShare h vs b o $' % (PEEKED, laws), 3, 'cell', 'owns', 'opened', 'name', 'name again')
+        context.step('spelt ! %s %s fullShare h vs b o $' % (SHOWN, laws), 3, 'cell', 'owns', 'opened', 'name', 'name again')
         context.front('owns')
-        context.say('peeks ! %s h (mach h ∷ []) (λ gh.' % PEEKED)
+        context.say('peeks ! %s h (mach h ∷ []) (λ gh.' % SHOWN)
         context.front('cell', 'owns')
 
     def copy_and_lend(self):
@@ -108,33 +70,20 @@ class Walk:
         context, mutable = self.context, self.call.mutable
         context.say(IN_MEMORY, '-- the record is copied' + (', and each `&mut` slice is lent on' if mutable else ''))
         load = '(load ! (from ! (hop ! %s (stop !))) (look-raw ! %d refl))' % (self.look(1), context.at('cell'))
-        context.say('assigns ! (of-opd ! %s) %s %s $' % (load, STOP, self.init(self.copied, TYPED % ('T', 'T', 'h', 'gh'))))
+        self.assign('(of-opd ! %s)' % load, self.copied, TYPED % ('T', 'T', 'h', 'gh'))
         for item in mutable:
             address = self.lent[item.name]
             within = 'look-in ! %d (sub ! %%d refl (whole !))' % self.place(self.passed[item.name])
-            reached = '(from ! (fld ! refl (hop ! (%s) (stop !))))' % (within % 0)
-            context.say('assigns ! (addr ! %s) %s %s $' % (reached, STOP, self.init(address, '(tt, tt)')))
+            self.assign('(addr ! (from ! (fld ! refl (hop ! (%s) (stop !)))))' % (within % 0), address, '(tt, tt)')
             length = '(load ! (from ! (fld ! refl (stop !))) (%s))' % (within % 1)
-            parts = self.loads(['(load ! %s %s)' % (STOP, self.look(address)), length])
-            context.say('assigns ! (agg ! %s) %s %s $' % (parts, STOP, self.init(address + 1, item.typed)))
-
-    @staticmethod
-    def loads(operands):
-        """Operands, one after the other."""
-        return ''.join('(and-then ! %s ' % operand for operand in operands) + '(no-more !)' + ')' * len(operands)
+            self.assign('(agg ! %s)' % loaded([self.load(address), length]), address + 1, item.typed)
 
     def hand_over(self):
-        """What the core asks for is put together, the last parameter first."""
+        """What the core asks for is put together."""
         context = self.context
         context.say('-- the call')
-        context.step('nothing ! $', 0, 'asked')
-        for item in reversed(self.call.passed):
-            if isinstance(item, Slice):
-                context.front(held(item), 'asked')
-                context.step('fjoin ! $', 2, 'asked')
-            else:
-                context.say(item.owned + ' fjoin ! $')
-        context.say('owned ! %s (LL.makes T.the-type T′.the-plain 𝓤 H A) h _ gh $ fjoin ! $' % RECORD)
+        self.join_passed(self.call.passed)
+        context.say('owned ! %s %s h _ gh $ fjoin ! $' % (RECORD, MAKES))
         context.front('tokens', 'asked')
         context.step('use2 W (raw (Core 𝓤 H A at-mem run .pre to-core)) asked $', 2, 'asked')
 
@@ -142,17 +91,21 @@ class Walk:
         """The call, and what comes of it: tokens, what the core gives, and what it ensures."""
         context, call = self.context, self.call
         handed = [self.copied] + [self.lent[item.name] + 1 if item.mutable else self.passed[item.name] for item in call.passed]
-        operands = self.loads(['(load ! %s %s)' % (STOP, self.look(number)) for number in handed])
+        operands = loaded([self.load(number) for number in handed])
         context.say('calls-at ! fm (Core 𝓤 H A at-mem run) known to-core %s (λ w.' % operands)
         ensured = '(ensured 𝓤 H A core.ended (core.clauses 𝓤 H A at-mem run) core-lfts args tt r)'
         given = '(λ (r : %s). (tokens ⊛ ‵ (L.the-row .own r (w ∷ []))) ⊛ raw %s)' % (call.end.name, ensured)
         context.say('use1 W (later (some %s)) (id⊢ 𝓤 _) $ await ! tt $ pick ! (λ r.' % given)
         context.step('split ! $', 1, 'given', 'ensured')
 
+    def lasts_of(self, lasts):
+        """The last value of each `&mut` slice as a part of all last values, the record's first."""
+        return ['(%s)' % part(lasts, 1 + number) for number, item in enumerate(self.call.passed) if item.mutable]
+
     def hear(self):
         """What the core ensures: the last values of the slices, its answer, and the memory that it leaves."""
         context, call = self.context, self.call
-        left = self.left_of('zs')
+        left = ' '.join(['Left', 'r'] + self.lasts_of('zs'))
         lasts = product(['Unit {0}'] + [item.list_type if item.mutable else 'Unit {0}' for item in call.passed])
         facts = 'raw (fact 𝓤 (Answered r)) ⊛ raw (fact 𝓤 (%s))' % left
         context.front('ensured')
@@ -160,13 +113,6 @@ class Walk:
         context.step('use1 W (some %s) (id⊢ 𝓤 _) $ pick ! (λ zs. split ! $' % heard, 1, 'lasts', 'facts')
         context.front('facts')
         context.step('split ! $ heard ! (Answered r) (λ e1. heard ! (%s) (λ e2.' % left, 1)
-
-    def left_of(self, lasts):
-        return ' '.join(['Left', 'r'] + self.lasts_of(lasts))
-
-    def lasts_of(self, lasts):
-        """The last value of each `&mut` slice as a part of all last values, the record's first."""
-        return ['(%s)' % part(lasts, 1 + number) for number, item in enumerate(self.call.passed) if item.mutable]
 
     def take_apart(self):
         """The last values are taken apart, each with its length's equation, and then what the core gives."""
@@ -203,7 +149,7 @@ class Walk:
             context.say('assigns ! (of-opd ! %s) %s %s $' % (load, into, store))
         load = '(load ! (from ! (fld ! refl (stop !))) %s)' % (part_of % (call.answer_place, '(whole !)'))
         typed = '(EL.lawful E.the-type E′.the-laws 𝓤 H A W tt .typed (r .%s) _ (is-answer r w is) .0)' % call.answer_part
-        context.say('assigns ! (of-opd ! %s) %s %s $' % (load, STOP, self.init(0, typed)))
+        self.assign('(of-opd ! %s)' % load, 0, typed)
 
     def close_borrow(self):
         """The borrow is closed over the record as it is now."""
@@ -212,37 +158,20 @@ class Walk:
         context.front('owns')
         context.step('drop ! $', 1)
         known = '(is-back h (r .%s) gh (is-record r w is))' % self.call.record_part
-        context.step('owned ! %s (LL.makes T.the-type T′.the-plain 𝓤 H A) %s _ %s $' % (RECORD, now, known), 0, 'owns')
+        context.step('owned ! %s %s %s _ %s $' % (RECORD, MAKES, now, known), 0, 'owns')
         context.front('cell', 'owns', 'opened', 'name', 'name again')
         context.step('closes ! tt T.the-row %s (mach %s ∷ []) b o $' % (now, now), 5, 'name', 'borrow', 'token')
 
     def leave(self):
-        """The locals are forgotten and freed; the rest is what the exit asks for."""
-        context, call = self.context, self.call
-        forgotten = ' '.join('forget ! %d refl $' % self.place(number) for number in reversed(range(self.locals)))
-        context.say('returns ! %s $ %s' % (self.look(0), forgotten))
-        for number in range(self.locals):
-            context.front(local(number), end(number))
-            context.step('free1 ! $', 2)
-        context.say('free0 ! $')
-        kept = context.places(owned_at_exit(call))
-        exits = ' '.join(['exits', 'r'] + self.lasts_of('zs') + ['e1', 'e2'] + [item.length for item in call.mutable])
-        context.say('keep ! (%s) $ by ! (%s (is-answer r w is))' % (kept, exits))
-        context.steps[-1] += ')' * context.open_brackets
+        """The locals are freed; the rest is what the exit asks for."""
+        self.free_locals()
+        lengths = [item.length for item in self.call.mutable]
+        exits = ' '.join(['exits', 'r'] + self.lasts_of('zs') + ['e1', 'e2'] + lengths + ['(is-answer r w is)'])
+        self.close(owned_at_exit(self.call), exits)
 
 
-def owned_at_exit(call):
-    """What a walk ends with, in the order in which the exit names it."""
-    return ['name', 'borrow', 'token', 'tokens'] + [lasting(item) for item in call.mutable] + [copy(item) for item in call.shared]
-
-
-STATED = '''  module _ (C : Calls 𝓤 H) (Λ : Loops 𝓤 H) (fm : FmC 𝓤 H (W .laws) C) (known : Triple 𝓤 (C #core) (Core 𝓤 H A at-mem run)) where
-    walk : ent 𝓤 (onEntry 𝓤 H A f.signature lfts shares x at) (WpFn 𝓤 H C Λ code.function given Post)
-    walk ='''
-
-
-def walk(call):
+def call_walk(call):
     """The walk as lines."""
     rows = listed(['MutRef (named 0) κ T.the-row'] + [item.row() for item in call.passed])
     start = 'qed W ((‵ (flft κ q) ⊛ tokens) ∷ ‵ (owns (%s) x at) ∷ []) ∵' % rows
-    return STATED.split('\n') + wrap(start, 8) + fill(Walk(call).steps(), 8) + ['']
+    return wrap(start, 8) + fill(CallWalk(call).steps(), 8) + ['']
