@@ -195,12 +195,16 @@ class Call(Subject):
         self.lists, self.defined_by = len(memory) - 2, outcome[2:-1]
 
 
-def thin_calls(crates, crate):
-    """Where the functions of a crate are declared that have a record lent."""
+def functions(crates, crate):
+    """The functions of a crate, and where they are declared."""
     for path in sorted((crates / crate / 'src').rglob('*.rt')):
         module = '.'.join(path.relative_to(crates / crate / 'src').with_suffix('').parts)
         source = Source(crates, crate, module)
         for name in source.functions:
-            first = source.function(name).parameters[0][1]
-            if re.fullmatch(r'&mut \w+', first):
-                yield Place(crate, module, name)
+            yield Place(crate, module, name), source.function(name)
+
+
+def thin_calls(crates, crate):
+    """Where the functions of a crate are declared to which a record is lent."""
+    found = functions(crates, crate)
+    return [place for place, function in found if function.parameters and re.fullmatch(r'&mut \w+', function.parameters[0][1])]

@@ -73,8 +73,8 @@ def use(path, names):
 
 def contract(subject, known):
     """The definitions of the contract that is cited."""
-    found = [(path, [name for name in names if name not in known]) for path, names in subject.definitions]
-    return [(path, ' '.join(names)) for path, names in found if names]
+    found = [(path, names and [name for name in names if name not in known]) for path, names in subject.definitions]
+    return [(path, names and ' '.join(names)) for path, names in found if names != []]
 
 
 def declared(subject):

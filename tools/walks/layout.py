@@ -1,6 +1,6 @@
 """How a walk's text is laid out: lines of at most 140 characters, broken where few brackets are open."""
 WIDTH = 140  # a line's characters, the indentation among them
-LEAST = 70  # a line that is broken keeps at least so many
+LEAST = 70  # of a line that is broken so many are kept, the last space among them
 FILLED = 120  # short steps share a line up to so many
 
 
@@ -19,7 +19,7 @@ def wrap(text, indent, hang=None):
     taken."""
     lines = []
     while len(text) > WIDTH - indent:
-        fitting = [(depth, -at) for at, depth in places(text) if LEAST <= at <= WIDTH - indent]
+        fitting = [(depth, -at) for at, depth in places(text) if LEAST - 1 <= at <= WIDTH - indent]
         if not fitting:
             break
         at = -min(fitting)[1]

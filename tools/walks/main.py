@@ -18,6 +18,9 @@ from call_walk import call_walk
 from described import DESCRIBED
 from ending import ending
 from imports import head
+from lender import Lender, lenders
+from lender_statements import lender_statements
+from lender_walk import lender_walk
 from parts import stated
 from source import Unreadable
 
@@ -32,11 +35,19 @@ def written(folder):
     unlike = {place.name for place in places} ^ set(laws)
     if unlike:
         raise Unreadable('described.py and the sources have not the same calls: ' + ', '.join(sorted(unlike)))
-    for place in places:
-        call = Call(crates, place, laws[place.name], stored)
-        path = folder.joinpath('proofs', *place.module.split('.'), place.name, 'Proof.antt')
-        body = call_statements(call) + stated(call) + call_walk(call) + ending(call)
-        yield path, '\n'.join(head(call, body) + body) + '\n'
+    calls = {place: Call(crates, place, laws[place.name], stored) for place in places}
+    for call in calls.values():
+        yield proof(folder, call, call_statements(call), call_walk(call))
+    for place in lenders(crates, crate, calls.values()):
+        lender = Lender(crates, place, calls)
+        yield proof(folder, lender, lender_statements(lender), lender_walk(lender))
+
+
+def proof(folder, subject, statements, walk):
+    """A function's file and its text."""
+    body = statements + stated(subject) + walk + ending(subject)
+    path = folder.joinpath('proofs', *subject.place.module.split('.'), subject.place.name, 'Proof.antt')
+    return path, '\n'.join(head(subject, body) + body) + '\n'
 
 
 def main(words):

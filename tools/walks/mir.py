@@ -1,6 +1,7 @@
 """Steps that every walk has: locals are allocated, loaded and freed, and what is passed is handed on."""
 from context import Context
 from passed import Slice
+from terms import over
 
 STOP = '(from ! (stop !))'
 
@@ -58,8 +59,8 @@ class Mir:
             context.front('owned')
             context.step('fsplit ! $', 1, held(item), 'owned')
             if isinstance(item, Slice) and not item.mutable:
-                for use in reversed(range(calls)):
-                    context.step('twice ! %s $' % item.copied, 1, held(item), held(item, use + 1) if use else copy(item))
+                for other in [copy(item)] + [held(item, use) for use in range(calls, 1, -1)]:
+                    context.step('twice ! %s $' % item.copied, 1, held(item), other)
 
     def pass_parameters(self, typed):
         """The locals are allocated, and the parameters are put into theirs."""
@@ -74,9 +75,8 @@ class Mir:
 
     def join_passed(self, passed, use=1):
         """What is passed is put together for a call, the last parameter first."""
-        context = self.context
-        context.step('nothing ! $', 0, 'asked')
-        join(context, passed, lambda item: held(item, use), 'asked')
+        self.context.turn(0, 'asked')
+        join(self.context, passed, lambda item: held(item, use), 'asked', 'nothing ! $')
 
     def free_locals(self):
         """The result is handed back, and the locals are forgotten and freed."""
@@ -94,11 +94,14 @@ class Mir:
         self.context.steps[-1] += ')' * self.context.open_brackets
 
 
-def join(context, passed, name, joined):
-    """What is passed is joined to what is joined already, the last first: slices as the context has them, values as they are made."""
+def join(context, passed, name, joined, start=''):
+    """What is passed is joined to what is joined already, the last first: slices as the context has them, values as they are made. The
+    step with which this starts goes together with the first value."""
     for item in reversed(passed):
         if isinstance(item, Slice):
+            context.say(*[start] * bool(start))
             context.front(name(item), joined)
             context.step('fjoin ! $', 2, joined)
         else:
-            context.say(item.owned + ' fjoin ! $')
+            context.say(over(start, item.owned, 'fjoin ! $'))
+        start = ''
