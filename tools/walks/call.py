@@ -7,6 +7,9 @@ it was passed, stores fields of the record that the core gives back, and answers
         ..
         END.ANSWERED
     }
+
+What is passed is a slice of numbers, an unsigned number or a struct; the answer is an enum. The core's contract is two equations: of its
+answer, and of the memory that it leaves with the last values of the `&mut` slices.
 """
 import re
 from dataclasses import dataclass
@@ -15,7 +18,7 @@ from passed import Number, Record, Slice
 from source import Place, Source, Unreadable, words
 from terms import WIDTHS
 
-BODY = re.compile(r'let (?P<end>\w+) = (?P<core>\w+)\((?P<handed>[^)]*)\); (?P<stores>.*;)? ?(?P<from>\w+)\.(?P<answered>\w+)')
+BODY = re.compile(r'let (?P<end>\w+) = (?P<core>\w+)\((?P<handed>[^)]*)\); (?P<stores>.*;) (?P<from>\w+)\.(?P<answered>\w+)')
 STORE = re.compile(r'(\w+)\.(\w+) = (\w+)\.(\w+)\.(\w+)')
 
 COMMENT = '''-- `%s` meets its contract: a walk of its MIR. The control record is copied out of the borrow, `%s` is called on
@@ -25,9 +28,8 @@ COMMENT = '''-- `%s` meets its contract: a walk of its MIR. The control record i
 
 @dataclass(frozen=True)
 class Body:
-    """A thin function's body: its core, the core's arguments, the parts of what the core gives, and the fields that are stored."""
+    """A thin function's body: its core, the parts of what the core gives, and the fields that are stored."""
     core: str
-    handed: list
     record_part: str
     answer_part: str
     stored: list
@@ -47,13 +49,12 @@ def read_body(path, function):
     handed = [word.strip() for word in found['handed'].split(',') if word.strip()]
     if handed != ['*' + record] + [name for name, _ in function.parameters[1:]]:
         raise Unreadable('%s: %s hands on something else than its parameters in their order' % (path, function.name))
-    return Body(found['core'], handed, parts.pop(), found['answered'], [store[2] for store in stores])
+    return Body(found['core'], parts.pop(), found['answered'], [store[2] for store in stores])
 
 
 def read_passed(source, parameters):
     """The parameters after the record, as what stands for each in a walk."""
-    passed, letters = [], {}
-    lifetimes = 0
+    passed, letters, lifetimes = [], {}, 0
     for name, type_name in parameters:
         slice_type = re.fullmatch(r'&(mut )?\[(\w+)\]', type_name)
         if slice_type:
@@ -79,6 +80,7 @@ class Cited:
 class Subject:
     """A function that has a walk, and what it is passed beside a record that is lent to it."""
     lent = True  # whether the record is lent
+    order = 'TLE'  # the letters of the record's type, of what is given and of the answer, as they are imported
 
     @property
     def less(self):
@@ -109,7 +111,8 @@ class Subject:
     @property
     def kinds(self):
         """The types of what the walk names, each with the letter under which it is imported."""
-        return [(self.record, 'T'), (self.end, 'L'), (self.answer, 'E')] + list({item.type: item.letter for item in self.records}.items())
+        types = {'T': self.record, 'L': self.end, 'E': self.answer}
+        return [(types[letter], letter) for letter in self.order] + list({item.type: item.letter for item in self.records}.items())
 
     def source(self, place):
         """The file in which something is declared."""
@@ -125,7 +128,7 @@ class Call(Subject):
         self.crates, self.crate = crates, place.crate
         source = Source(crates, place.crate, place.module)
         function = source.function(place.name)
-        (self.record_name, lent), *rest = function.parameters
+        (_, lent), *rest = function.parameters
         self.record = source.place(lent.removeprefix('&mut '))
         self.answer = source.place(function.answer)
         self.passed = read_passed(source, rest)
@@ -138,7 +141,7 @@ class Call(Subject):
     @property
     def comment(self):
         """What the file says of itself."""
-        return (COMMENT % (self.place.name, self.core.name, self.stored_words, self.core.name)).split('\n')
+        return COMMENT % (self.place.name, self.core.name, self.stored_words, self.core.name)
 
     def read_types(self):
         """The record's fields, and which of them are stored back."""
@@ -162,6 +165,8 @@ class Call(Subject):
         self.end = source.place(core.answer)
         parts = [name for name, _ in self.source(self.end).fields(self.end.name)]
         self.record_part, self.answer_part = self.body.record_part, self.body.answer_part
+        if not {self.record_part, self.answer_part} <= set(parts):
+            raise Unreadable('%s lacks a part that %s takes from it' % (self.end.name, function.name))
         self.record_place, self.answer_place = parts.index(self.record_part), parts.index(self.answer_part)
         self.answered, self.left = [self.ensured(core, clause) for clause in core.ensures]
         self.read_definitions(source)
@@ -189,10 +194,10 @@ class Call(Subject):
             if known:
                 own = 'Rattle.%s.specs.' % self.core.crate
                 self.definitions.append((path.replace(own, 'Rattle.%s.' % self.core.crate), known))
-        memory, outcome = [words(side) for side in self.left.split(' ≡ ')]
-        if outcome[-1] != '.after' or memory[1] != '(r .%s)' % self.record_part:
+        sides = [words(side) for side in self.left.split(' ≡ ')]
+        if len(sides) != 2 or sides[0][1:2] != ['(r .%s)' % self.record_part] or sides[1][-1] != '.after':
             raise Unreadable('%s does not ensure what memory it leaves' % self.core.name)
-        self.lists, self.defined_by = len(memory) - 2, outcome[2:-1]
+        self.lists, self.defined_by = len(sides[0]) - 2, sides[1][2:-1]
 
 
 def functions(crates, crate):

@@ -3,7 +3,8 @@ from call_walk import lasting, owned_at_exit
 from context import Context
 from layout import fill, wrap
 from mir import copy, join
-from parts import ENDS, answers, contracts, define, entry, lifetimes, machine_types, machine_values, opening, stayed, tokens
+from parts import (ENDS, ROOM, answers, contracts, define, define_pairs, entry, lifetimes, machine_types, machine_values, opening,
+                   stayed, tokens)
 from terms import listed, over, paired, part, product
 
 
@@ -35,7 +36,7 @@ class CallStatements:
         lent = 'record { ptr = (b, o); name = γ; now = h }'
         lines += tokens(call) + entry(['RefT ' + call.record.name] + types, [lent] + names, ['vptr b o'] + machines)
         lines += ['  -- what the call by value is handed']
-        lines += define('args', product([call.record.name] + types), paired(['h'] + names))
+        lines += define_pairs('args', product([call.record.name] + types), ['h'] + names)
         lines += define('core-at', machine_types(1 + len(machines)), machine_values(['mach h'] + machines))
         return lines + define('to-core', 'Core 𝓤 H A at-mem run .Ghost', '((core-lfts, core-shares, tt, args, core-at), tt)')
 
@@ -81,8 +82,8 @@ class CallStatements:
         """The contract's promise: last values, their lengths, and the facts. The record that is stored back is the one that the core
         gives, since the call leaves the other fields."""
         call = self.call
-        lasts = paired([self.back] + [item.last if item.mutable else 'tt' for item in call.passed])
-        lengths = paired(['tt'] + [item.length if item.mutable else 'tt' for item in call.passed])
+        lasts = paired([self.back] + [item.last if item.mutable else 'tt' for item in call.passed], ROOM)
+        lengths = paired(['tt'] + [item.length if item.mutable else 'tt' for item in call.passed], ROOM)
         ends = '%s (mach-answer %s) %s %s %s' % (ENDS, self.answer, self.answer, lasts, lengths)
         same = over(call.law, '_', *call.defined_by)
         stored = 'stored h %s %s e2 (%s)' % (self.record, ' '.join('_' * (call.lists + 1)), same)

@@ -1,7 +1,10 @@
 """The head of a walk's file: its comment and what it uses. Of what a walk may use, a file has what its text names."""
 import re
+import textwrap
+from collections import Counter
 
 from layout import WIDTH
+from source import Unreadable
 from terms import SIGNED, WIDTHS, dashed
 
 LOGIC = [
@@ -71,9 +74,10 @@ def use(path, names):
     return lines + ['use %s.{%s}' % (path, ', '.join(row))]
 
 
-def contract(subject, known):
-    """The definitions of the contract that is cited."""
-    found = [(path, names and [name for name in names if name not in known]) for path, names in subject.definitions]
+def contract(subject, before):
+    """The definitions of the contract that is cited, without those that are imported before."""
+    known = {(path, name) for path, names in before if names for name in names.split()}
+    found = [(path, names and [name for name in names if (path, name) not in known]) for path, names in subject.definitions]
     return [(path, names and ' '.join(names)) for path, names in found if names != []]
 
 
@@ -106,17 +110,31 @@ def functions(subject):
     ]
 
 
+def check_names(subject, text, imported):
+    """A parameter's name is bound once, an imported one never, and both are not the same."""
+    binders = re.findall(r'[({]([^(){}:]+?) : |λ ([^.()]+)\.|^ *(?:pub |abbrev )*([^\s(){}]+) : ', text, re.M)
+    bound = Counter(name for groups in binders for group in groups for name in group.split())
+    passed = {item.name for item in subject.passed}
+    wrong = {name for name in passed if bound[name] != 1 or name in imported}
+    wrong |= {name for name, times in Counter(imported).items() if times > 1 or bound[name] and name not in AS_TEXT}
+    if wrong:
+        raise Unreadable('%s: the walk has another use for a name: %s' % (subject.place.name, ', '.join(sorted(wrong))))
+
+
 def head(subject, body):
     """The head as lines, for a body of lines."""
     text = '\n'.join(line for line in body if not line.lstrip().startswith('--'))
     used = {word.lstrip('.') for word in re.split(r'[\s(){},;]+', text)}
     before = LOGIC + STEPS + TYPES
-    known = {name for _, names in before if names for name in names.split()}
-    lines = list(subject.comment)
-    for path, names in before + contract(subject, known) + subject.laws + declared(subject) + functions(subject):
+    imported, lines = [], []
+    for comment in subject.comment.split('\n'):
+        lines += textwrap.wrap(comment, WIDTH, subsequent_indent='-- ')
+    for path, names in before + contract(subject, before) + subject.laws + declared(subject) + functions(subject):
         if names is None:
             lines.append('use ' + path)
             continue
         present = [name for name in names.split() if name.strip('_') in used and AS_TEXT.get(name, '') in text]
         lines += use(path, present) if present else []
+        imported += present
+    check_names(subject, text, imported)
     return lines + ['']

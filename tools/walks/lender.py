@@ -23,7 +23,7 @@ COMMENT = '''-- `%s` meets its contract: a walk of its MIR. A local holds the co
 
 class Lender(Subject):
     """A lender, with the two calls to which it lends."""
-    lent = False
+    lent, order = False, 'TEL'
     stored, laws = (), []
 
     def __init__(self, crates, place, calls):
@@ -35,7 +35,7 @@ class Lender(Subject):
         self.passed = [Record('c', self.record, 'T', 'mach')] + read_passed(source, rest)
         self.read_body(function, record, source, calls)
         self.answer = self.calls[0].answer
-        self.cited = [Cited(call.place, 'call%d' % number, 'Call%d' % number, 'known%d' % number) for number, call in enumerate(self.calls, 1)]
+        self.cited = [Cited(self.calls[k].place, *(name + '12'[k] for name in ('call', 'Call', 'known'))) for k in (0, 1)]
         self.read_memory()
 
     def refuse(self, reason):
@@ -78,11 +78,8 @@ class Lender(Subject):
 
     @property
     def comment(self):
-        return (COMMENT % self.place.name).split('\n')
-
-    @property
-    def kinds(self):
-        return [(self.record, 'T'), (self.answer, 'E'), (self.end, 'L')] + list({item.type: item.letter for item in self.records}.items())
+        """What the file says of itself."""
+        return COMMENT % self.place.name
 
     def ensured(self, call, record):
         """What a call ensures of its answer r, and of the record z that it leaves, over the memory before it: one that has this record."""

@@ -2,8 +2,9 @@
 from context import Context
 from layout import fill, wrap
 from mir import copy, join
-from parts import ENDS, answers, contracts, define, entry, lifetimes, machine_types, machine_values, opening, stayed, tokens
-from terms import listed, over, paired, product
+from parts import (ENDS, ROOM, answers, contracts, define, define_pairs, entry, lifetimes, machine_types, machine_values, opening,
+                   stayed, tokens)
+from terms import listed, paired, product
 
 LEFT = '''is-spelt : (r : %(answer)s) (w : Val) → Is E.the-row r (w ∷ []) → Is E.the-row r (mach-answer r ∷ [])
 is-spelt r w is = subst (λ vs. Is E.the-row r vs) (EL.tells E.the-type E′.the-laws r (w ∷ []) is) is
@@ -51,7 +52,7 @@ class LenderStatements:
         lines += entry(types, names, machines)
         lines += ['  -- what each call is handed: the local l, which holds d, lent under the name δ']
         lent = 'GName → ℕ → %s → ' % self.record
-        lines += define('args', lent + product(['RefT ' + self.record] + types[1:]), paired(['borrowed δ l d'] + names[1:]), bound='δ l d')
+        lines += define_pairs('args', lent + product(['RefT ' + self.record] + types[1:]), ['borrowed δ l d'] + names[1:], 'δ l d')
         values = machine_values(['vptr l 0'] + machines[1:])
         return lines + define('call-at', 'ℕ → ' + machine_types(len(machines)), values, bound='l')
 
@@ -100,7 +101,7 @@ class LenderStatements:
         fits = 'Is L.the-row (left z r s) (mach-left (left z r s) ∷ [])'
         lines += wrap('exits : (z : %s) (r s : %s) → %s → Ended z r s' % (self.record, self.answer, fits), 2, 6)
         lines += ['      → ent 𝓤 (⋆ 𝓤 H A at-exit) (Post (mach-left (left z r s)))', '  exits z r s fits e =', '      qed W at-exit ∵']
-        nothing = paired(['tt'] * len(lender.passed))
+        nothing = paired(['tt'] * len(lender.passed), ROOM)
         lines += wrap('suffices ! _ (%s (mach-left (left z r s)) (left z r s) %s %s) $' % (ENDS, nothing, nothing), 6)
         return lines + ['      says ! e $'] + fill(self.exit_steps(), 6) + ['']
 

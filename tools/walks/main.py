@@ -1,14 +1,16 @@
-"""Writes the walks of a crate: the proofs of its thin calls, to which a record is lent by `&mut` and which no tactic covers.
+"""Writes the walks of a crate: the proofs of its functions that a record is lent to by `&mut` or that lend one. The prover covers
+neither, so they are proved by hand: step by step through the function's MIR.
 
-    python3 tools/walks crates/bufcontrol            # writes proofs/MODULE/NAME/Proof.antt for each thin call
+    python3 tools/walks crates/bufcontrol            # writes proofs/MODULE/NAME/Proof.antt for each of them
     python3 tools/walks --check crates/bufcontrol    # writes nothing: says which differ, and ends with status 1 if any does
 
-What is read: the signature and body of each function of CRATE/src whose first parameter is a `&mut` struct; the struct's fields, which
-of them are stored back, and the types of answer and parameters, where they are declared; signature and contract of the function that is
-called. described.py says the rest. A source of another form is refused with status 2.
+What is read, in this crate's sources and in those of the crates that it names: a thin call's signature and body (call.py); where they are
+declared, the types of record, answer and parameters; signature and contract of the function that it calls. Of a function that lends its
+record to two thin calls: signature and body (lender.py). described.py says the rest. A source of another form is refused with status 2.
 
-A walk is the proof by steps (walk.py) that a function's MIR, from what its caller hands over to what the contract promises, keeps to
-the rules. A step names what it works on by its place in the context, so a slice more moves every number: context.py counts."""
+A file has four parts: what it uses (imports.py); definitions of what is passed, asked for, ensured and owned at exit
+(.._statements.py); the walk (.._walk.py), whose steps name what they work on by its place in the context, so that a slice more moves
+every number (context.py); and the theorem for every argument (ending.py). layout.py breaks the lines."""
 import sys
 from pathlib import Path
 
@@ -61,11 +63,11 @@ def main(words):
     except Unreadable as reason:
         print('walks: %s' % reason, file=sys.stderr)
         return 2
-    changed = [(path, text) for path, text in walks if not path.is_file() or path.read_text(encoding='utf8') != text]
+    changed = [(path, text) for path, text in walks if not path.is_file() or path.read_bytes() != text.encode()]
     for path, text in changed:
         print('%s: %s' % ('differs' if check else 'written', path))
         if not check:
             path.parent.mkdir(parents=True, exist_ok=True)
-            path.write_text(text, encoding='utf8')
+            path.write_bytes(text.encode())
     print('%d walks, %d %s' % (len(walks), len(changed), 'differ' if check else 'written'))
     return 1 if check and changed else 0

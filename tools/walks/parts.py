@@ -1,5 +1,5 @@
 """Definitions that the files of all walks have, and how definitions are laid out."""
-from layout import wrap
+from layout import WIDTH, wrap
 from terms import listed, over, paired, product, towered
 
 UNIVERSE = '{M : Type 1} (𝓤 : URA M) (H : Heap 𝓤) (A : Atoms 𝓤)'
@@ -7,6 +7,7 @@ OPENING = 'module _ %s (W : Given 𝓤 H A) (at-mem : Memory → SProp 𝓤) (ru
 ENTRY = '((lfts, shares, tt, x, at), tt)'
 CLAUSES = '(f.clauses 𝓤 H A at-mem run)'
 ENDS = 'ends-at 𝓤 H A f.ended stayed %s W %s' % (CLAUSES, ENTRY)
+ROOM = WIDTH - len('      ) $')  # of pairs in the exit's proof
 STATED = '''    walk : ent 𝓤 (onEntry 𝓤 H A f.signature lfts shares x at) (WpFn 𝓤 H C Λ code.function given Post)
     walk ='''
 
@@ -15,6 +16,11 @@ def define(name, kind, value, indent=2, bound=''):
     """An abbreviation with its type."""
     stated = wrap('abbrev %s : %s' % (name, kind), indent, indent + 4)
     return stated + wrap('%s = %s' % (over(name, bound), value), indent, indent + 4) + ['']
+
+
+def define_pairs(name, kind, items, bound=''):
+    """An abbreviation of pairs."""
+    return define(name, kind, paired(items, WIDTH - len('  %s = ' % over(name, bound))), bound=bound)
 
 
 def stayed(subject):
@@ -45,7 +51,9 @@ def answers(subject, whose):
 def opening(lifetimes, shares, others, items):
     """The module over lifetimes and their shares, and what is passed."""
     bound = '(%s : Lft) (%s : Share) %s' % (' '.join(lifetimes), ' '.join(shares), others)
-    lines = [OPENING] + wrap(bound, 4) + ['    ' + item.bound for item in items]
+    lines = [OPENING] + wrap(bound, 4)
+    for item in items:
+        lines += wrap(item.bound, 4)
     lines[-1] += ' where'
     return lines
 
@@ -53,8 +61,8 @@ def opening(lifetimes, shares, others, items):
 def lifetimes(subject, prefix):
     """The slices' lifetimes and the shares of their tokens."""
     slices = subject.slices
-    lines = define(prefix + 'lfts', 'Lfts %d' % len(slices), paired([item.lifetime for item in slices]))
-    return lines + define(prefix + 'shares', 'Shares %d' % len(slices), paired([item.share for item in slices]))
+    lines = define_pairs(prefix + 'lfts', 'Lfts %d' % len(slices), [item.lifetime for item in slices])
+    return lines + define_pairs(prefix + 'shares', 'Shares %d' % len(slices), [item.share for item in slices])
 
 
 def tokens(subject):
@@ -74,7 +82,7 @@ def machine_values(values):
 def entry(denoted, values, machines):
     """What the function is passed, by its types, as values and as machine values, and what it has to end with."""
     lines = ['  -- what is passed, as values and as machine values']
-    lines += define('x', product(denoted), paired(values))
+    lines += define_pairs('x', product(denoted), values)
     lines += define('at', machine_types(len(machines)), machine_values(machines))
     lines += define('given', 'List Val', listed(machines))
     return lines + define('Post', 'Val → SProp 𝓤', 'walkOf 𝓤 H A f.ended stayed %s .post %s' % (CLAUSES, ENTRY))

@@ -1,5 +1,18 @@
-"""What a call is passed beside the record: slices, numbers and records by value. Each says how it is written at each place of a walk
-where something stands for every parameter."""
+"""What a call is passed beside the record: slices, numbers and structs by value. Each says how it is written at each place of a walk
+where something stands for every parameter:
+
+    denotes     the type of its value
+    machine     its machine value
+    bound       it and what is known of it, as parameters of the walk's module
+    row         its type, as the logic has it
+    typed       why its machine value has its type
+    owned       the step that makes what a value owns
+    stays       what stays with the caller
+    goes        why that is handed back
+    vals        why its type has one machine value
+    tells       which one that is
+    known       what is known of it, as a part of the facts at entry
+"""
 from dataclasses import dataclass
 
 from source import Place
@@ -42,7 +55,6 @@ class Slice:
         return 'q%d' % self.number
 
     def row(self, less=0):
-        """Its type with its lifetime's number."""
         kind = 'MutSlice' if self.mutable else 'ShrSlice'
         return '%s (named %d) %s %s' % (kind, self.number - less, self.lifetime, self.element)
 
@@ -64,16 +76,16 @@ class Slice:
         return '%s-slice-tells (named %d) (%s) %s' % (kind, number, part('κs', number), self.element)
 
     def known(self, facts):
-        """What is known of it, as a part of the facts at entry."""
         return facts + ' .0 .1'
 
-    # at exit
     @property
     def last(self):
+        """The name of what it holds at exit."""
         return 'Z' + self.name
 
     @property
     def length(self):
+        """The name of the equation that its length stays."""
         return 'len-' + self.name
 
     @property
@@ -85,6 +97,7 @@ class Slice:
 
     @property
     def copied(self):
+        """As the laws of shared slices name it."""
         return '%d %s %s %s' % (self.number, self.lifetime, self.element, self.name)
 
 

@@ -15,14 +15,16 @@ def listed(items):
     return ' ∷ '.join([str(item) for item in items] + ['[]'])
 
 
-def paired(items, end='tt'):
-    """Pairs to the right, in brackets."""
-    return ''.join('(%s, ' % item for item in items) + end + ')' * len(items)
-
-
 def towered(items):
     """Pairs to the right, as WalkLaws writes them."""
     return ' ▹ '.join(list(items) + ['tt'])
+
+
+def paired(items, room):
+    """Pairs to the right: in brackets where there is room for so many characters. A line is not broken within them, since rt's layout
+    would spread them over many."""
+    text = ''.join('(%s, ' % item for item in items) + 'tt' + ')' * len(items)
+    return text if len(text) <= room else '(%s)' % towered(items)
 
 
 def product(types):
