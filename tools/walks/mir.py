@@ -105,3 +105,4 @@ def join(context, passed, name, joined, start=''):
         else:
             context.say(over(start, item.owned, 'fjoin ! $'))
         start = ''
+    context.say(*[start] * bool(start))
