@@ -1,0 +1,15 @@
+"""What the sources do not say of the walks of a crate."""
+DESCRIBED = {
+    'bufcontrol': {
+        # in words, the fields that each call stores back
+        'stored': 'hand, top and log positions',
+        # for each call the law of SizeLaws by which it leaves the other fields
+        'laws': {
+            'pin': 'pin-size',
+            'flush': 'flush-size',
+            'checkpoint': 'checkpoint-size',
+            'log_inserted_to': 'inserted-size',
+            'log_flushed_to': 'flushed-size',
+        },
+    },
+}

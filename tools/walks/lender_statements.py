@@ -1,0 +1,122 @@
+"""The definitions of a lender's walk: what is passed and owned, what each call asks for and ensures, and the exit."""
+from context import Context
+from layout import fill, wrap
+from mir import copy, join
+from parts import (ENDS, ROOM, answers, contracts, define, define_pairs, entry, lifetimes, machine_types, machine_values, opening,
+                   stayed, tokens)
+from terms import listed, paired, product
+
+LEFT = '''is-spelt : (r : %(answer)s) (w : Val) → Is E.the-row r (w ∷ []) → Is E.the-row r (mach-answer r ∷ [])
+is-spelt r w is = subst (λ vs. Is E.the-row r vs) (EL.tells E.the-type E′.the-laws r (w ∷ []) is) is
+
+-- what both calls leave, and its machine value
+abbrev left : %(record)s → %(answer)s → %(answer)s → %(end)s
+left z r s = record { %(fields)s }
+
+abbrev mach-left : %(end)s → Val
+mach-left = LL.val L.the-type L′.the-laws
+'''
+IS_LEFT = '''    → Is L.the-row (left z r s) (mach-left (left z r s) ∷ [])
+is-left z r s g h i = LL.owes L.the-type L′.the-laws (left z r s) (g, (h, (i, tt)))
+'''
+# what a call is bound to: the lifetime and the name of the borrow, and the local that is lent; the second has the record too
+BOUND = ['(ν : ℕ) (δ : GName) (l : ℕ)', '(ν : ℕ) (δ : GName) (l : ℕ) (d : %s)']
+NAMES = ['ν δ l', 'ν δ l d']
+RECORDS = ['c', 'd']
+
+
+class LenderStatements:
+    """The definitions of a lender's walk, in their order."""
+
+    def __init__(self, lender):
+        self.lender = lender
+        self.record, self.answer = lender.record.name, lender.answer.name
+
+    def before(self):
+        """What does not depend on what is passed."""
+        lender = self.lender
+        lines = stayed(lender) + contracts(lender) + answers(lender, 'an')
+        fields = '; '.join('%s = %s' % pair for pair in zip(lender.parts, 'zrs'))
+        lines += (LEFT % {'answer': self.answer, 'record': self.record, 'end': lender.end.name, 'fields': fields}).split('\n')
+        known = ['Is T.the-row z (mach z ∷ [])'] + ['Is E.the-row %s (mach-answer %s ∷ [])' % (name, name) for name in 'rs']
+        stated = '(z : %s) (r s : %s)' % (self.record, self.answer)
+        return lines + wrap('is-left : ' + ' → '.join([stated] + known), 0, 4) + IS_LEFT.split('\n')
+
+    def handed(self):
+        """What the lender is passed, and what each call is handed."""
+        lender = self.lender
+        first, *rest = lender.passed
+        lines = opening([item.lifetime for item in lender.slices], [item.share for item in lender.slices], first.bound, rest)
+        lines += lifetimes(lender, '') + tokens(lender)
+        names, types, machines = [[getattr(item, part) for item in lender.passed] for part in ('name', 'denotes', 'machine')]
+        lines += entry(types, names, machines)
+        lines += ['  -- what each call is handed: the local l, which holds d, lent under the name δ']
+        lent = 'GName → ℕ → %s → ' % self.record
+        lines += define_pairs('args', lent + product(['RefT ' + self.record] + types[1:]), ['borrowed δ l d'] + names[1:], 'δ l d')
+        values = machine_values(['vptr l 0'] + machines[1:])
+        return lines + define('call-at', 'ℕ → ' + machine_types(len(machines)), values, bound='l')
+
+    def asked(self, number):
+        """What a call asks for."""
+        contract, module = 'Call%d' % (number + 1), 'call%d' % (number + 1)
+        bound, names = BOUND[number].replace('%s', self.record), NAMES[number]
+        args = '(args δ l %s) (call-at l)' % RECORDS[number]
+        to, asked = 'to%d' % (number + 1), 'asked%d' % (number + 1)
+        ghost = '(((ν ∷ [], lfts), (fullShare, shares), tt, args δ l %s, call-at l), tt)' % RECORDS[number]
+        lines = define(to, '%s → %s 𝓤 H A at-mem run .Ghost' % (bound, contract), ghost, bound=names)
+        lines += ['  %s : %s' % (asked, bound)]
+        entered = 'onEntry 𝓤 H A %s.signature (ν ∷ [], lfts) (fullShare, shares) %s' % (module, args)
+        lines += wrap('→ ent 𝓤 (%s) (%s 𝓤 H A at-mem run .pre (%s %s))' % (entered, contract, to, names), 6)
+        lines += ['  %s %s =' % (asked, names)]
+        rows = listed(['MutRef (named 0) (ν ∷ []) T.the-row'] + [item.row() for item in self.lender.passed[1:]])
+        owned = '(‵ (flft (ν ∷ []) fullShare) ⊛ tokens) ∷ ‵ (owns (%s) %s)' % (rows, args)
+        return lines + wrap('qed W (%s ∷ []) ∵ join ! $ frame ! $ done !' % owned, 6) + ['']
+
+    def ensured(self):
+        """What each call ensures, and what both do: the second's facts are over the memory that the first leaves."""
+        lender, record, answer = self.lender, self.record, self.answer
+        lines = ['  -- what each ensures: its answer, and the memory that it leaves, where the record was d before the second']
+        lines += define('before', '%s → model.Memory' % record, lender.memory.replace(' h ', ' d ', 1), bound='d')
+        (answered1, left1), (answered2, left2) = [lender.ensured(call, name) for call, name in zip(lender.calls, RECORDS)]
+        lines += define('Answered1', '%s → Type 0' % answer, answered1, bound='r')
+        lines += define('Left1', '%s → Type 0' % record, left1, bound='z')
+        lines += define('Answered2', '%s → %s → Type 0' % (record, answer), answered2, bound='d r')
+        lines += define('Left2', '%s → %s → Type 0' % (record, record), left2, bound='d z')
+        between = '(%s)' % left1.split(' ≡ ')[1]
+        both = [text.replace('(before d)', between) for text in (answered2, left2)]
+        lines += ['  -- what both ensure']
+        ended = 'Answered1 r × ((s%s) × (%s))' % (both[0][1:], both[1])
+        lines += define('Ended', '%s → %s → %s → Type 0' % (record, answer, answer), ended, bound='z r s')
+        same = ['ap (λ m. %s) e' % text.split(' ≡ ')[1].replace('(before d)', 'm') for text in (answered2, left2)]
+        facts = 'Answered1 r → Left1 d → Answered2 d s → Left2 d z → Ended z r s'
+        lines += wrap('follows : (d z : %s) (r s : %s) → %s' % (record, answer, facts), 2, 6)
+        lines += ['  follows d z r s a e b g =']
+        return lines + wrap('a ▹ b ∙ %s ▹ g ∙ %s' % tuple(same), 6) + ['']
+
+    def exit(self):
+        """What is owned at exit, and that this is what the contract promises."""
+        lender = self.lender
+        lines = ['  -- what is owned at exit']
+        lines += define('at-exit', 'List (Item 𝓤)', listed(['tokens'] + [item.left for item in lender.slices]))
+        fits = 'Is L.the-row (left z r s) (mach-left (left z r s) ∷ [])'
+        lines += wrap('exits : (z : %s) (r s : %s) → %s → Ended z r s' % (self.record, self.answer, fits), 2, 6)
+        lines += ['      → ent 𝓤 (⋆ 𝓤 H A at-exit) (Post (mach-left (left z r s)))', '  exits z r s fits e =', '      qed W at-exit ∵']
+        nothing = paired(['tt'] * len(lender.passed), ROOM)
+        lines += wrap('suffices ! _ (%s (mach-left (left z r s)) (left z r s) %s %s) $' % (ENDS, nothing, nothing), 6)
+        return lines + ['      says ! e $'] + fill(self.exit_steps(), 6) + ['']
+
+    def exit_steps(self):
+        """What is owned is joined as the contract has it."""
+        context = Context('tokens', *[copy(item) for item in self.lender.slices])
+        context.step('frame ! $', 1)
+        context.step('nothing ! $', 0, 'joined')
+        join(context, self.lender.passed, copy, 'joined')
+        makes = 'owned ! L.the-row (Is L.the-row) (LL.makes L.the-type L′.the-plain 𝓤 H A) (left z r s) _ fits $'
+        context.say(makes + ' move ! (1 ∷ 0 ∷ []) $ done !')
+        return context.steps
+
+
+def lender_statements(lender):
+    """The definitions as lines."""
+    made = LenderStatements(lender)
+    return made.before() + made.handed() + made.asked(0) + made.asked(1) + made.ensured() + made.exit()
