@@ -176,8 +176,8 @@ module _ {M : Type 1} (𝓤 : URA M) (H : Heap 𝓤) (A : Atoms 𝓤) (W : Given
       ‵ (flft κ q) ∷ tokens ∷ ‵ (finally u32 (states .name) Zstates) ∷ ‵ (finally u8 (store .name) Zstore) ∷ shared 2 κ2 u32 names ∷ shared
       3 κ3 u8 pool ∷ shared 4 κ4 i32 free ∷ shared 5 κ5 i32 heads ∷ shared 6 κ6 i32 chain ∷ shared 7 κ7 u32 rows ∷ []
 
-  exits : (r : WrittenEnd) (Zstates : List ℕ) (Zstore : List ℕ) → Answered r → Left r Zstates Zstore → length Zstates ≡ length (states .now) →
-      length Zstore ≡ length (store .now) → Is E.the-row (r .answer) (mach-answer (r .answer) ∷ [])
+  exits : (r : WrittenEnd) (Zstates : List ℕ) (Zstore : List ℕ) → Answered r → Left r Zstates Zstore → length Zstates ≡ length (states .now)
+      → length Zstore ≡ length (store .now) → Is E.the-row (r .answer) (mach-answer (r .answer) ∷ [])
       → ent 𝓤 (⋆ 𝓤 H A (at-exit r Zstates Zstore)) (Post (mach-answer (r .answer)))
   exits r Zstates Zstore e1 e2 len-states len-store fits =
       qed W (at-exit r Zstates Zstore) ∵
