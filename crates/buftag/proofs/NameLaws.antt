@@ -58,7 +58,8 @@ bucket-lt n buckets h = mod-lt _ h
 pub name-of-bytes : (n : PageName) → Fits n → nameOfBytes (nameBytes n) ≡ n
 name-of-bytes n f =
     name-parts (word-of-bytes (n .file .tablespace) (f .file .tablespace)) (word-of-bytes (n .file .database) (f .file .database))
-    (word-of-bytes (n .file .relation) (f .file .relation)) (word-of-bytes (n .file .fork) (f .file .fork)) (word-of-bytes (n .block .0) (f .block))
+    (word-of-bytes (n .file .relation) (f .file .relation)) (word-of-bytes (n .file .fork) (f .file .fork))
+    (word-of-bytes (n .block .0) (f .block))
 
 module _ (bs : List ℕ) (len : length bs ≡ nameSize) (bytes : (i : ℕ) → i < nameSize → getD bs i 0 < 256) where
   -- from place k on there stand its byte and the bytes from the next place on

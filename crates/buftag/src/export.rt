@@ -37,7 +37,8 @@ pub extern "C" fn buftag_bytes(
     ensures { λ r. ⌜ r ≡ cond (eqb (length (now (out .entry))) nameSize) 0 1 ⌝ }
     ensures { λ _.
         ⌜ now (out .exit)
-        ≡ cond (eqb (length (now (out .entry))) nameSize) (nameBytes (nameOf tablespace database relation fork block)) (now (out .entry)) ⌝ }
+        ≡ cond (eqb (length (now (out .entry))) nameSize) (nameBytes (nameOf tablespace database relation fork block))
+        (now (out .entry)) ⌝ }
 {
     if out.len() != NAME_SIZE {
         return 1;
