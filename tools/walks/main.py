@@ -17,7 +17,7 @@ from pathlib import Path
 from call import Call, thin_calls
 from call_statements import call_statements
 from call_walk import call_walk
-from described import DESCRIBED
+from described import DESCRIBED, LENDERS
 from ending import ending
 from imports import head
 from lender import Lender, lenders
@@ -27,9 +27,8 @@ from parts import stated
 from source import Unreadable
 
 
-def written(folder):
-    """The walks of a crate: the file of each and its text."""
-    crates, crate = folder.parent, folder.name
+def described(crates, crate):
+    """The thin calls of a crate, by their places."""
     if crate not in DESCRIBED:
         raise Unreadable('described.py says nothing of %s' % crate)
     laws, stored = DESCRIBED[crate]['laws'], DESCRIBED[crate]['stored']
@@ -37,9 +36,16 @@ def written(folder):
     unlike = {place.name for place in places} ^ set(laws)
     if unlike:
         raise Unreadable('described.py and the sources have not the same calls: ' + ', '.join(sorted(unlike)))
-    calls = {place: Call(crates, place, laws[place.name], stored) for place in places}
+    return {place: Call(crates, place, laws[place.name], stored) for place in places}
+
+
+def written(folder):
+    """The walks of a crate: the file of each and its text."""
+    crates, crate = folder.parent, folder.name
+    calls = described(crates, LENDERS.get(crate, crate))
     for call in calls.values():
-        yield proof(folder, call, call_statements(call), call_walk(call))
+        if call.crate == crate:
+            yield proof(folder, call, call_statements(call), call_walk(call))
     for place in lenders(crates, crate, calls.values()):
         lender = Lender(crates, place, calls)
         yield proof(folder, lender, lender_statements(lender), lender_walk(lender))
