@@ -91,7 +91,7 @@ def declared(subject):
 
 
 def functions(subject):
-    """The functions that are called and their theorems, the laws of this crate, and the function itself."""
+    """The functions that are called and their theorems, the laws of walks, and the function itself."""
     found, proofs = [], 'Rattle.%s%s.proofs' % (subject.home, '·proofs' * (subject.home == subject.crate))
     for cited in subject.cited:
         path, module = cited.place.antt('proofs', subject.crate), cited.module

@@ -20,10 +20,10 @@ from source import Source, Unreadable, words
 BODY = re.compile(r'let mut (?P<lent>\w+) = (?P<record>\w+); (?P<calls>.*; )(?P<end>\w+) \{ (?P<parts>[^}]*?),? \}')
 CALL = re.compile(r'let (\w+) = (\w+)\( ?&mut (\w+), ([^)]*?),? ?\); ')
 
-COMMENTS = ['''-- `%s` meets its contract: a walk of its MIR. A local holds the control record, and is lent to `%s`.
--- All that is used of the call is that it meets its contract.''',
-            '''-- `%s` meets its contract: a walk of its MIR. A local holds the control record, and is lent to one call and then to the other.
--- All that is used of the two calls is that they meet their contracts.''']
+ONCE = '''-- `%s` is safe and ends: a walk of its MIR. A local holds the control record, and is lent to `%s`.
+-- All that is used of the call is that it meets its contract.'''
+TWICE = '''-- `%s` meets its contract: a walk of its MIR. A local holds the control record, and is lent to one call and then to the other.
+-- All that is used of the two calls is that they meet their contracts.'''
 
 
 class Lender(Subject):
@@ -42,8 +42,8 @@ class Lender(Subject):
         self.answer = self.calls[0].answer
         self.cited = [Cited(call.place, *(name + str(number) for name in ('call', 'Call', 'known')))
                       for number, call in enumerate(self.calls, 1)]
-        self.definitions = []
-        if len(self.calls) == 2:
+        self.stated, self.definitions = len(self.calls) == 2, []
+        if self.stated:
             self.read_memory()
         elif function.requires or function.ensures:
             self.refuse('it lends to one call, and has a contract')
@@ -90,9 +90,7 @@ class Lender(Subject):
     @property
     def comment(self):
         """What the file says of itself."""
-        if len(self.calls) == 1:
-            return COMMENTS[0] % (self.place.name, self.calls[0].place.name)
-        return COMMENTS[1] % self.place.name
+        return TWICE % self.place.name if self.stated else ONCE % (self.place.name, self.calls[0].place.name)
 
     @property
     def home(self):

@@ -9,7 +9,7 @@ from terms import listed, over, paired, product
 LEFT = '''is-spelt : (r : %(answer)s) (w : Val) → Is E.the-row r (w ∷ []) → Is E.the-row r (mach-answer r ∷ [])
 is-spelt r w is = subst (λ vs. Is E.the-row r vs) (EL.tells E.the-type E′.the-laws r (w ∷ []) is) is
 
--- what %(calls)s leave%(s)s, and its machine value
+-- what %(leaves)s, and its machine value
 abbrev left : %(type)s
 %(left)s = record { %(fields)s }
 
@@ -31,8 +31,7 @@ class LenderStatements:
     def __init__(self, lender):
         self.lender = lender
         self.record, self.answer = lender.record.name, lender.answer.name
-        self.stated = bool(lender.definitions)
-        self.answers = 'rs'[:len(lender.calls)]
+        self.stated, self.answers = lender.stated, 'rs'[:len(lender.calls)]
         self.left = over('left', 'z', *self.answers)
         self.bound = '(z : %s) (%s : %s)' % (self.record, ' '.join(self.answers), self.answer)
 
@@ -42,7 +41,7 @@ class LenderStatements:
         lines = stayed(lender) + contracts(lender) + answers(lender, 'an')
         known = 'ghi'[:1 + len(self.answers)]
         texts = {'answer': self.answer, 'end': lender.end.name, 'left': self.left, 'known': ' '.join(known), 'parts': paired(known, ROOM)}
-        texts['calls'], texts['s'] = ('the call', 's') if len(lender.calls) == 1 else ('both calls', '')
+        texts['leaves'] = 'both calls leave' if self.stated else 'the call leaves'
         texts['type'] = ' → '.join([self.record] + [self.answer] * len(self.answers) + [lender.end.name])
         texts['fields'] = '; '.join('%s = %s' % pair for pair in zip(lender.parts, 'z' + self.answers))
         lines += (LEFT % texts).split('\n')
@@ -57,7 +56,7 @@ class LenderStatements:
         lines += lifetimes(lender, '') + tokens(lender)
         names, types, machines = [[getattr(item, part) for item in lender.passed] for part in ('name', 'denotes', 'machine')]
         lines += entry(types, names, machines)
-        lines += ['  -- what each call is handed: the local l, which holds d, lent under the name δ']
+        lines += ['  -- what %s call is handed: the local l, which holds d, lent under the name δ' % ('each' if self.stated else 'the')]
         lent = 'GName → ℕ → %s → ' % self.record
         lines += define_pairs('args', lent + product(['RefT ' + self.record] + types[1:]), ['borrowed δ l d'] + names[1:], 'δ l d')
         values = machine_values(['vptr l 0'] + machines[1:])

@@ -81,7 +81,7 @@ class LenderWalk(Mir):
         context.front('ensured')
         lasts = product([self.lender.record.name] + [item.list_type if item.mutable else 'Unit {0}' for item in self.lender.passed[1:]])
         ended = '‵ (lasts call%d.ended %s zs)' % (number, args)
-        facts, hear = self.facts(number, record) if self.lender.definitions else self.ignored(number, args)
+        facts, hear = self.facts(number, record) if self.lender.stated else self.ignored(number, args)
         heard = 'use1 W (some (λ (zs : %s). %s ⊛ %s)) (id⊢ 𝓤 _) $' % (lasts, ended, facts)
         context.step(heard + ' pick ! (λ z%d. split ! $' % number, 1, 'lasts', 'facts')
         context.front('facts')
@@ -129,7 +129,7 @@ class LenderWalk(Mir):
     def answer(self, record, known):
         """What the calls leave is the result."""
         lender, numbers = self.lender, range(1, self.count + 1)
-        self.context.say('-- what %s is the result' % ('it leaves' if self.count == 1 else 'both leave'))
+        self.context.say('-- what %s is the result' % ('both leave' if lender.stated else 'it leaves'))
         self.assign('(of-opd ! %s)' % self.load(self.lent), self.copied, TYPED % (record, known))
         parts = loaded([self.load(place) for place in [self.copied] + self.answers])
         left = over(record, *['r%d' % number for number in numbers])
@@ -137,7 +137,7 @@ class LenderWalk(Mir):
         self.assign('(agg ! %s)' % parts, 0, '(LL.lawful L.the-type L′.the-laws 𝓤 H A W .typed (left %s) _ %s .0)' % (left, fits))
         self.free_locals()
         lasts = ['(%s)' % part('z1', number) for number, item in enumerate(lender.passed) if item.mutable]
-        ended = over('(follows (z1 .0)', left, 'a1 e1 a2 e2)') if lender.definitions else ''
+        ended = over('(follows (z1 .0)', left, 'a1 e1 a2 e2)') if lender.stated else ''
         kept = ['tokens'] + [lasting(item) for item in lender.mutable] + [copy(item) for item in lender.shared]
         self.close(kept, over('exits', left, *lasts, fits, *[item.length for item in lender.mutable], ended))
 

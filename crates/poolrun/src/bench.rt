@@ -8,9 +8,10 @@ use bufmodel::control::Control;
 use buftag::name::PageName;
 use buftag::name::page_name;
 
-// P.
+// The block size.
 const SIZE: usize = 1024;
 
+// The log's position at set-up.
 const POSITION: u64 = 100;
 
 // The lent memory.
@@ -31,6 +32,7 @@ pub(crate) fn page(block: u32) -> PageName {
     page_name(1663, 5, 16384, 0, block)
 }
 
+// Names, words and links are lent with numbers that set up has to clear.
 pub(crate) fn set_up() -> Bench {
     let mut states = [7; 3];
     let mut names = [7; 15];

@@ -1,5 +1,5 @@
-// The control record in a local, lent to a call of `bufcontrol` by `&mut`: one function for each of these calls. Their proofs are walks,
-// which `tools/walks` writes. Whatever else the program does is covered.
+// The control record in a local, lent by `&mut` to a call of `bufcontrol`. (To `log_flushed_to` it is lent by `log_through`, there.)
+// The prover does not cover a reference to a record: these functions are proved by walks, which `tools/walks` writes.
 
 use bufcalls::ends::AcceptedEnd;
 use bufcalls::ends::WrittenEnd;
