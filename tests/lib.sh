@@ -29,6 +29,22 @@ library() { # CRATE
     fi
 }
 
+# A copy of the repository's crates in which other crates can be added or changed. What was proved here, of the crates named or of all, is
+# not proved again there: rt holds each stamp to the files' sums.
+repository() { # FOLDER [CRATE..]
+    local folder=$1 crate
+    mkdir -p "$folder/target/rlib" "$folder/target/stamp"
+    cp -R crates crates.txt "$folder"
+    shift
+    # shellcheck disable=SC2046
+    [ $# -gt 0 ] || set -- $(ls target/stamp 2>/dev/null)
+    for crate; do
+        [ -e "target/stamp/$crate" ] && [ -d "target/rlib/$crate.rlib" ] || continue
+        ln -s "$PWD/target/rlib/$crate.rlib" "$folder/target/rlib/"
+        cp "target/stamp/$crate" "$folder/target/stamp/"
+    done
+}
+
 finish() {
     printf '%d passed, %d failed\n' "$passed" "$failed"
     [ "$failed" -eq 0 ]

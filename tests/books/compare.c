@@ -1,5 +1,6 @@
-/* compare SEED COUNT: the library's check, the benchmark's and the judge's, on so many memories, sound ones and damaged ones.
-   Prints how many memories the library gave 0, 1 and 2, and on how many the benchmark's check and the judge differ from it. */
+/* compare SEED COUNT ENOUGH: the library's check, the benchmark's and the judge's, on so many memories, sound ones and damaged ones, or
+   until so many differ. Prints how many memories the library gave 0, 1 and 2, and on how many the benchmark's check and the judge
+   differ from it. */
 #include "bufbooks.h"
 #include "memory.h"
 #include <stdio.h>
@@ -50,12 +51,14 @@ static void some_damage(struct memory *m)
 int main(int argc, char **argv)
 {
     const struct shape most = {.buffers = 1024, .buckets = 4096, .files = 65, .page = 2048, .capacity = 1024};
-    unsigned long count = argc == 3 ? strtoul(argv[2], NULL, 10) : 0, answers[3] = {0}, differ[2] = {0};
+    unsigned long count = argc == 4 ? strtoul(argv[2], NULL, 10) : 0, answers[3] = {0}, differ[2] = {0};
+    /* the difference after which no further memory is looked at */
+    unsigned long enough = argc == 4 ? strtoul(argv[3], NULL, 10) : 0;
     struct memory m;
-    if (count == 0) return fprintf(stderr, "usage: compare SEED COUNT\n"), 2;
+    if (count == 0) return fprintf(stderr, "usage: compare SEED COUNT ENOUGH\n"), 2;
     seed_random(strtoull(argv[1], NULL, 10));
     memory_new(&m, &most);
-    for (unsigned long k = 0; k < count; k++) {
+    for (unsigned long k = 0; k < count && differ[0] + differ[1] < enough; k++) {
         struct shape s = k % 400 == 0 ? great_shape() : some_shape();
         memory_fill(&m, &s);
         some_damage(&m);

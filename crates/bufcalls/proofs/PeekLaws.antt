@@ -26,10 +26,10 @@ use Rattle.bufmodel.proofs.AnswerLaws.{end-first, end-own, end-done, peeked-ref
 use Rattle.bufmodel.proofs.HeldLaws.{held-at}
 use Rattle.bufmodel.proofs.RowsLaws.{place-in}
 use Rattle.bufmodel.proofs.SizesLaws.{sized-page}
-use Rattle.bufmem.specs.declared.name.Sought.{Sought}
-use Rattle.bufmem.specs.declared.name.Sought.the-variants.{At, Refused}
-use Rattle.bufmem.specs.Name.{sought}
-use Rattle.bufmem.proofs.NameLaws.{name-refused, name-at, looked-up}
+use Rattle.bufmem.specs.declared.seek.Sought.{Sought}
+use Rattle.bufmem.specs.declared.seek.Sought.the-variants.{At, Refused}
+use Rattle.bufmem.specs.Seek.{sought}
+use Rattle.bufmem.proofs.SeekLaws.{name-refused, name-at, looked-up}
 
 -- ---- what the code answers
 module _ (m : Memory) (n : PageName) where

@@ -1,7 +1,6 @@
-pub mod PackLaws
+pub mod WordLaws
 pub mod PositionLaws
 pub mod RowsLaws
 pub mod PlaceLaws
-pub mod FillLaws
-pub mod NameLaws
+pub mod SeekLaws
 pub mod ControlLaws

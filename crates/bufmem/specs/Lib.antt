@@ -1,4 +1,4 @@
 pub mod Rows
 pub mod Place
 pub mod Control
-pub mod Name
+pub mod Seek

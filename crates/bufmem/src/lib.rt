@@ -3,10 +3,10 @@
 pub mod block;
 pub mod control;
 pub mod flag;
-pub mod name;
 pub mod page;
 pub mod place;
 pub mod position;
 pub mod rows;
+pub mod seek;
 pub mod state;
 pub mod word;

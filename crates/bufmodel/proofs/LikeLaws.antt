@@ -10,10 +10,8 @@ use lib.IntN.{ℤ}
 use lib.Dec.{eqb}
 use Rattle.laws.specs.Block.{block}
 use Rattle.laws.proofs.Tests.{lt-or-le}
-use Rattle.buftag.specs.Name.{bucketOf}
-use Rattle.buftag.specs.Names.{nameAt}
 use Rattle.buftag.specs.Lookup.{used}
-use Rattle.buftag.specs.Chain.{inBucket, ChainsSound, Distinct}
+use Rattle.buftag.specs.Chain.{inBucketBy, ChainsBy, Distinct}
 use Rattle.buftag.proofs.LinkLaws.{holds-like}
 use Rattle.buftag.proofs.HoldsLaws.{used-out}
 use Rattle.bufmodel.specs.Word.{empty, dirty, soundWord}
@@ -46,16 +44,16 @@ module _ (words news : List ℕ) (many : length news ≡ length words) where
   used-like same i =
       ⊎-elim (λ l. ap not (same i l)) (λ l. used-out news i (omega arith) ∙ sym (used-out words i l)) (lt-or-le i (length words))
 
-module _ (words news names : List ℕ) (same : (i : ℕ) → used news i ≡ used words i) where
-  distinct-like : Distinct words names → Distinct news names
-  distinct-like d i j u v e = d i j (sym (same i) ∙ u) (sym (same j) ∙ v) e
+module _ (words news : List ℕ) (same : (i : ℕ) → used news i ≡ used words i) where
+  distinct-like : (names : List ℕ) → Distinct words names → Distinct news names
+  distinct-like names d i j u v e = d i j (sym (same i) ∙ u) (sym (same j) ∙ v) e
 
-  chains-like : {heads chain : List ℤ} → ChainsSound words names heads chain → ChainsSound news names heads chain
-  chains-like {heads} s =
+  chains-like : {home : ℕ → ℕ} {heads chain : List ℤ} → ChainsBy words home heads chain → ChainsBy news home heads chain
+  chains-like {home} s =
       record {
         each = λ b l.
-            holds-like (inBucket words names (length heads) b) (inBucket news names (length heads) b)
-            (λ i h. ap (λ (t : Bool). t && eqb (bucketOf (nameAt names i) (length heads)) b) (sym (same i))) (s .each b l);
+            holds-like (inBucketBy words home b) (inBucketBy news home b)
+            (λ i h. ap (λ (t : Bool). t && eqb (home i) b) (sym (same i))) (s .each b l);
         idle = λ i l u. s .idle i l (sym (same i) ∙ u);
       }
 
@@ -98,9 +96,9 @@ module _ (m : Memory) (k : Good m) (hand inserted flushed : ℕ) (words pool sto
         free = holds-like (λ i. empty (getD (m .states) i 0)) (λ i. empty (getD words i 0))
             (λ i n. sym (same i (rw (k .sizes .free) at n))) (b .free);
         off = λ i n z. b .off i (rw e at n) (sym (same i (rw e at n)) ∙ z);
-        distinct = distinct-like (m .states) words (m .names) u (b .distinct);
+        distinct = distinct-like (m .states) words u (m .names) (b .distinct);
         page = λ i n z. b .page i (rw e at n) (sym (same i (rw e at n)) ∙ z);
-        chains = chains-like (m .states) words (m .names) u (b .chains);
+        chains = chains-like (m .states) words u (b .chains);
         low = λ i n d. lows i (rw e at n) d;
       }
 

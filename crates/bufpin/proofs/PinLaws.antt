@@ -27,9 +27,9 @@ use Rattle.bufmodel.proofs.GoodLaws.{Good, checked-good, checked-early}
 use Rattle.bufmodel.proofs.AnswerLaws.{end-at, pinned-refused}
 use Rattle.bufmodel.proofs.HeldLaws.{pinned-full}
 use Rattle.bufmodel.proofs.FreeListLaws.{top-full}
-use Rattle.bufmem.specs.declared.name.Sought as name
-use Rattle.bufmem.specs.Name.{sought}
-use Rattle.bufmem.proofs.NameLaws.{name-refused, name-at}
+use Rattle.bufmem.specs.declared.seek.Sought as name
+use Rattle.bufmem.specs.Seek.{sought}
+use Rattle.bufmem.proofs.SeekLaws.{name-refused, name-at}
 use Rattle.bufpin.specs.Pin.{heldAt, heldWords}
 use Rattle.bufpin.proofs.SweptLaws.{swept-stuck}
 use Rattle.bufpin.proofs.NewLaws.{new-swept}

@@ -13,11 +13,9 @@ use Rattle.laws.specs.Sum.{ind}
 use Rattle.laws.specs.Times.{times}
 use Rattle.laws.proofs.Tests.{and-true, and-left, and-right, lt-or-le, never}
 use Rattle.laws.proofs.Sum.{ind-one, ind-some}
-use Rattle.buftag.specs.Name.{bucketOf}
-use Rattle.buftag.specs.Names.{nameAt}
 use Rattle.buftag.specs.Link.{linkAt, Links}
 use Rattle.buftag.specs.Lookup.{used}
-use Rattle.buftag.specs.Chain.{inBucket, ChainsSound}
+use Rattle.buftag.specs.Chain.{inBucketBy, ChainsBy}
 use Rattle.buftag.proofs.LinkLaws.{links-same, links-in}
 
 -- past the last buffer none is in use
@@ -28,29 +26,29 @@ used-out words i h = ap (λ (w : ℕ). not (eqb w 0)) (List·getD-eq-default wor
 pub used-in : (words : List ℕ) (i : ℕ) → used words i ≡ true → i < length words
 used-in words i u = ⊎-elim (λ h. h) (λ h. never u (used-out words i h)) (lt-or-le i (length words))
 
-module _ {words names : List ℕ} {heads chain : List ℤ} (sound : ChainsSound words names heads chain) where
+module _ {words : List ℕ} {home : ℕ → ℕ} {heads chain : List ℤ} (sound : ChainsBy words home heads chain) where
   module _ {b : ℕ} {xs : List ℕ} (h : b < length heads) (r : Links chain (linkAt heads b) xs) (k : ℕ) where
     -- how often a buffer stands in a bucket's list
-    pub times-in : k < length chain → times k xs ≡ ind (inBucket words names (length heads) b k)
+    pub times-in : k < length chain → times k xs ≡ ind (inBucketBy words home b k)
     times-in w = ap (times k) (links-same r (sound .each b h .linked)) ∙ sound .each b h .once k w
 
-    -- what stands there is in use, and its name falls there
-    in-bucket : 0 < times k xs → inBucket words names (length heads) b k ≡ true
+    -- what stands there is in use, and its home is there
+    in-bucket : 0 < times k xs → inBucketBy words home b k ≡ true
     in-bucket m = ind-some _ (omega (arith, times-in (links-in r k m)))
 
     pub in-used : 0 < times k xs → used words k ≡ true
-    in-used m = and-left _ (eqb (bucketOf (nameAt names k) (length heads)) b) (in-bucket m)
+    in-used m = and-left _ (eqb (home k) b) (in-bucket m)
 
-    pub in-its-bucket : 0 < times k xs → bucketOf (nameAt names k) (length heads) ≡ b
+    pub in-its-bucket : 0 < times k xs → home k ≡ b
     in-its-bucket m = eqb-true _ _ (and-right (used words k) _ (in-bucket m))
 
-    -- and what is in use, with its name there, stands there
-    pub stands-in : k < length chain → used words k ≡ true → bucketOf (nameAt names k) (length heads) ≡ b → 0 < times k xs
+    -- and what is in use, with its home there, stands there
+    pub stands-in : k < length chain → used words k ≡ true → home k ≡ b → 0 < times k xs
     stands-in w u e = omega (arith, times-in w, ind-one (and-true u (eq-eqb _ _ e)))
 
     -- an empty buffer stands nowhere, another bucket's buffer not here
     pub empty-out : used words k ≡ false → times k xs ≡ 0
     empty-out u = ⊎-elim (λ m. never (in-used m) u) (λ m. omega arith) (lt-or-le 0 (times k xs))
 
-    pub other-out : b ≢ bucketOf (nameAt names k) (length heads) → times k xs ≡ 0
+    pub other-out : b ≢ home k → times k xs ≡ 0
     other-out ne = ⊎-elim (λ m. absurd (ne (sym (in-its-bucket m)))) (λ m. omega arith) (lt-or-le 0 (times k xs))

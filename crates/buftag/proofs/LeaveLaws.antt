@@ -19,7 +19,8 @@ use Rattle.buftag.specs.Name.{bucketOf}
 use Rattle.buftag.specs.Names.{nameAt}
 use Rattle.buftag.specs.Link.{none, numberAt, linkAt, isTo, Links, done, step}
 use Rattle.buftag.specs.Lookup.{used}
-use Rattle.buftag.specs.Chain.{ChainsSound, past, unchainHeads, unchainChain, prev, pastAt, pastHeads, pastChain, leaveChain}
+use Rattle.buftag.specs.Chain.{ChainsBy, ChainsSound}
+use Rattle.buftag.specs.Chain.{past, unchainHeads, unchainChain, prev, pastAt, pastHeads, pastChain, leaveChain}
 use Rattle.buftag.proofs.LinkLaws.{isTo-true, to-isTo, To-same, end-to, links-in, links-fit, links-fresh}
 use Rattle.buftag.proofs.NameLaws.{bucket-lt}
 use Rattle.buftag.proofs.HoldsLaws.{in-its-bucket, stands-in, other-out}
@@ -93,82 +94,85 @@ module _ (chain : List ℤ) (i : ℕ) where
       (s .0, prev-step chain i n j h t ∙ s .1, times-later (s .0) j js (s .2), s .3))
       (true-or-false (isTo i (linkAt chain j)))
 
--- ---- leaving bucket b, whose list is xs
-module _ {words names : List ℕ} {heads chain : List ℤ} (sound : ChainsSound words names heads chain) (some : 0 < length heads)
-    (i b : ℕ) (home : bucketOf (nameAt names i) (length heads) ≡ b) (h : b < length heads)
-    {xs : List ℕ} (r : Links chain (linkAt heads b) xs) where
-  -- a place whose link leads to i is in the list
-  leads-in : (k : ℕ) → k < length chain → linkAt chain k ≡ To i → 0 < times k xs
-  leads-in k w e =
-      let at = bucketOf (nameAt names k) (length heads) in
-      let ha = bucket-lt (nameAt names k) (length heads) some in
-      let s = sound .each at ha in
-      ⊎-elim
-      (λ u.
-      let m = links-next k i (s .linked) (stands-in sound ha (s .linked) k w u refl) e .0 in
-      stands-in sound h r k w u (sym (in-its-bucket sound ha (s .linked) i m) ∙ home))
-      (λ u. end-to (sym (sound .idle k w u) ∙ e))
-      (true-or-false (used words k))
-
+-- ---- a buffer leaves its home
+module _ {words : List ℕ} {home : ℕ → ℕ} {heads chain : List ℤ} (sound : ChainsBy words home heads chain)
+    (below : (k : ℕ) → home k < length heads) (i : ℕ) where
   -- no other bucket's head leads to i
-  head-not : (c : ℕ) → c < length heads → c ≢ b → isTo i (linkAt heads c) ≡ false
+  head-not : (c : ℕ) → c < length heads → c ≢ home i → isTo i (linkAt heads c) ≡ false
   head-not c w ne =
       let s = sound .each c w .linked in
-      links-not-to i s (other-out sound w s i (λ q. ne (q ∙ home)))
+      links-not-to i s (other-out sound w s i ne)
 
   -- the heads
-  leave-heads : pastHeads heads chain b i ≡ unchainHeads heads chain i
+  leave-heads : pastHeads heads chain (home i) i ≡ unchainHeads heads chain i
   unfolding pastHeads unchainHeads
   leave-heads =
       ⊎-elim
       (λ t.
       rw t
-      (past-one heads i (numberAt chain i) b h t
-      (λ c w e. ⊎-elim (λ q. q) (λ ne. never e (head-not c w ne)) (eq-or-ne c b))))
+      (past-one heads i (numberAt chain i) (home i) (below i) t
+      (λ c w e. ⊎-elim (λ q. q) (λ ne. never e (head-not c w ne)) (eq-or-ne c (home i)))))
       (λ t.
       rw t
       (past-none heads i (numberAt chain i)
-      (λ c w. ⊎-elim (λ q. rw q t) (λ ne. head-not c w ne) (eq-or-ne c b))))
-      (true-or-false (isTo i (linkAt heads b)))
+      (λ c w. ⊎-elim (λ q. rw q t) (λ ne. head-not c w ne) (eq-or-ne c (home i)))))
+      (true-or-false (isTo i (linkAt heads (home i))))
 
-  -- the chain, where the head leads to i, and where another link does
-  chain-by-head : isTo i (linkAt heads b) ≡ true → chain ≡ map (past i (numberAt chain i)) chain
-  chain-by-head t =
-      past-none chain i (numberAt chain i)
-      (λ k w.
-      ⊎-elim
-      (λ e.
-      let q = isTo-true i (linkAt chain k) e in
-      absurd (links-next k i r (leads-in k w q) q .1 (isTo-true i (linkAt heads b) t)))
-      (λ e. e)
-      (true-or-false (isTo i (linkAt chain k))))
+  -- with its home's list xs
+  module _ {xs : List ℕ} (r : Links chain (linkAt heads (home i)) xs) where
+    -- a place whose link leads to i is in the list
+    leads-in : (k : ℕ) → k < length chain → linkAt chain k ≡ To i → 0 < times k xs
+    leads-in k w e =
+        let s = sound .each (home k) (below k) .linked in
+        ⊎-elim
+        (λ u.
+        let m = links-next k i s (stands-in sound (below k) s k w u refl) e .0 in
+        stands-in sound (below i) r k w u (sym (in-its-bucket sound (below k) s i m)))
+        (λ u. end-to (sym (sound .idle k w u) ∙ e))
+        (true-or-false (used words k))
 
-  chain-by-link : 0 < times i xs → isTo i (linkAt heads b) ≡ false
-      → pastAt chain i (prev chain i (length chain) (linkAt heads b)) ≡ map (past i (numberAt chain i)) chain
-  chain-by-link m t =
-      let s = prev-finds chain i (length chain) r (links-fit r) m t in
-      let p = s .0 in
-      rw (s .1)
-      (past-one chain i (numberAt chain i) p (links-in r p (s .2)) (to-isTo i _ (s .3))
-      (λ k w e.
-      let q = isTo-true i (linkAt chain k) e in
-      links-before k p i r (leads-in k w q) (s .2) q (s .3)))
+    -- the chain, where the head leads to i, and where another link does
+    chain-by-head : isTo i (linkAt heads (home i)) ≡ true → chain ≡ map (past i (numberAt chain i)) chain
+    chain-by-head t =
+        past-none chain i (numberAt chain i)
+        (λ k w.
+        ⊎-elim
+        (λ e.
+        let q = isTo-true i (linkAt chain k) e in
+        absurd (links-next k i r (leads-in k w q) q .1 (isTo-true i (linkAt heads (home i)) t)))
+        (λ e. e)
+        (true-or-false (isTo i (linkAt chain k))))
 
-  past-chain : 0 < times i xs → pastChain heads chain b i ≡ map (past i (numberAt chain i)) chain
-  unfolding pastChain
-  past-chain m =
-      ⊎-elim (λ t. rw t (chain-by-head t)) (λ t. rw t (chain-by-link m t)) (true-or-false (isTo i (linkAt heads b)))
+    chain-by-link : 0 < times i xs → isTo i (linkAt heads (home i)) ≡ false
+        → pastAt chain i (prev chain i (length chain) (linkAt heads (home i))) ≡ map (past i (numberAt chain i)) chain
+    chain-by-link m t =
+        let s = prev-finds chain i (length chain) r (links-fit r) m t in
+        let p = s .0 in
+        rw (s .1)
+        (past-one chain i (numberAt chain i) p (links-in r p (s .2)) (to-isTo i _ (s .3))
+        (λ k w e.
+        let q = isTo-true i (linkAt chain k) e in
+        links-before k p i r (leads-in k w q) (s .2) q (s .3)))
 
-  leave-chain : 0 < times i xs → leaveChain heads chain b i ≡ unchainChain chain i
-  unfolding leaveChain unchainChain
-  leave-chain m = ap (λ (c : List ℤ). set c i none) (past-chain m)
+    past-chain : 0 < times i xs → pastChain heads chain (home i) i ≡ map (past i (numberAt chain i)) chain
+    unfolding pastChain
+    past-chain m =
+        ⊎-elim (λ t. rw t (chain-by-head t)) (λ t. rw t (chain-by-link m t)) (true-or-false (isTo i (linkAt heads (home i))))
 
--- what the code does is that, where the chains are sound
+    leave-chain : 0 < times i xs → leaveChain heads chain (home i) i ≡ unchainChain chain i
+    unfolding leaveChain unchainChain
+    leave-chain m = ap (λ (c : List ℤ). set c i none) (past-chain m)
+
+  -- what the code does is the chain entry's going
+  pub leave-by : i < length chain → used words i ≡ true
+      → (pastHeads heads chain (home i) i ≡ unchainHeads heads chain i) × (leaveChain heads chain (home i) i ≡ unchainChain chain i)
+  leave-by within u =
+      let r = sound .each (home i) (below i) .linked in
+      (leave-heads, leave-chain r (stands-in sound (below i) r i within u refl))
+
+-- where a buffer's home is the bucket that its name falls in
 pub leave-is : (words names : List ℕ) (heads chain : List ℤ) (i : ℕ) → i < length chain → 0 < length heads
     → ChainsSound words names heads chain → used words i ≡ true → let b = bucketOf (nameAt names i) (length heads) in
     (pastHeads heads chain b i ≡ unchainHeads heads chain i) × (leaveChain heads chain b i ≡ unchainChain chain i)
 leave-is words names heads chain i within some sound u =
-    let b = bucketOf (nameAt names i) (length heads) in
-    let h = bucket-lt (nameAt names i) (length heads) some in
-    let r = sound .each b h .linked in
-    (leave-heads sound some i b refl h r, leave-chain sound some i b refl h r (stands-in sound h r i within u refl))
+    leave-by sound (λ k. bucket-lt (nameAt names k) (length heads) some) i within u

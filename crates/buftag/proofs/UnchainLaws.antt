@@ -17,7 +17,7 @@ use Rattle.buftag.specs.declared.link.Link.{Link}
 use Rattle.buftag.specs.declared.link.Link.the-variants.{End}
 use Rattle.buftag.specs.Link.{none, numberAt, linkOf, linkAt, isTo, Links, done, step, Holds}
 use Rattle.buftag.specs.Lookup.{used}
-use Rattle.buftag.specs.Chain.{inBucket, ChainsSound, past, unchainHeads, unchainChain}
+use Rattle.buftag.specs.Chain.{inBucketBy, ChainsBy, past, unchainHeads, unchainChain}
 use Rattle.buftag.proofs.LinkLaws.{links-once, links-fresh}
 use Rattle.buftag.proofs.ChainLaws.{Apart, apart-once}
 
@@ -42,12 +42,16 @@ module _ (chain : List ℤ) (i : ℕ) where
   link-past : (ls : List ℤ) (k : ℕ) → k < length ls → linkAt (map (past i (numberAt chain i)) ls) k ≡ pastLink chain i (linkAt ls k)
   link-past ls k h = ap linkOf (map-past ls i (numberAt chain i) k h) ∙ link-cond (isTo i (linkAt ls k)) (numberAt chain i) (numberAt ls k)
 
-  -- a head afterwards, and another place's link
-  pub unchain-head : (heads : List ℤ) (c : ℕ) → c < length heads → linkAt (unchainHeads heads chain i) c ≡ pastLink chain i (linkAt heads c)
+  -- a head afterwards, i's own link and another place's
+  unchain-head : (heads : List ℤ) (c : ℕ) → c < length heads → linkAt (unchainHeads heads chain i) c ≡ pastLink chain i (linkAt heads c)
   unfolding unchainHeads
   unchain-head heads c h = link-past heads c h
 
-  pub unchain-link : (k : ℕ) → k < length chain → k ≢ i → linkAt (unchainChain chain i) k ≡ pastLink chain i (linkAt chain k)
+  unchain-own : i < length chain → linkAt (unchainChain chain i) i ≡ End
+  unfolding unchainChain
+  unchain-own within = ap linkOf (getD-set-same (map (past i (numberAt chain i)) chain) i none (pos 0) (rw length-map within))
+
+  unchain-link : (k : ℕ) → k < length chain → k ≢ i → linkAt (unchainChain chain i) k ≡ pastLink chain i (linkAt chain k)
   unfolding unchainChain
   unchain-link k h ne = ap linkOf (getD-set-other (map (past i (numberAt chain i)) chain) i k none (pos 0) ne) ∙ link-past chain k h
 
@@ -82,13 +86,13 @@ module _ (chain : List ℤ) (i : ℕ) where
       (step {i = j} {is = without i js} (rw length-unchain h) (rw (unchain-link j h ne) (unchain-lost r))))
       (eq-or-ne j i)
 
-module _ (words names words′ names′ : List ℕ) (heads chain : List ℤ) (i : ℕ) (apart : Apart i words names words′ names′)
-    (within : i < length chain) (some : 0 < length heads) (sound : ChainsSound words names heads chain) where
+module _ {words words′ : List ℕ} {home home′ : ℕ → ℕ} {heads chain : List ℤ} {i : ℕ} (apart : Apart i words home words′ home′)
+    (sound : ChainsBy words home heads chain) where
   unchain-each : used words′ i ≡ false → (c : ℕ) → c < length heads
-      → Holds (unchainChain chain i) (linkAt (unchainHeads heads chain i) c) (inBucket words′ names′ (length heads) c)
+      → Holds (unchainChain chain i) (linkAt (unchainHeads heads chain i) c) (inBucketBy words′ home′ c)
   unchain-each after c h =
       let s = sound .each c h in
-      let away : inBucket words′ names′ (length heads) c i ≡ false = rw after in
+      let away : inBucketBy words′ home′ c i ≡ false = rw after in
       record {
         list = without i (s .list);
         linked = rw (unchain-head chain i heads c h) (unchain-lost chain i (s .linked));
@@ -97,22 +101,17 @@ module _ (words names words′ names′ : List ℕ) (heads chain : List ℤ) (i 
       }
 
   -- i's own link becomes −1, and an empty buffer's stays
-  unchain-own : linkAt (unchainChain chain i) i ≡ End
-  unfolding unchainChain
-  unchain-own = ap linkOf (getD-set-same (map (past i (numberAt chain i)) chain) i none (pos 0) (rw length-map within))
-
-  unchain-idle : (k : ℕ) → k < length chain → used words′ k ≡ false → linkAt (unchainChain chain i) k ≡ End
-  unchain-idle k w e =
+  unchain-idle : i < length chain → (k : ℕ) → k < length chain → used words′ k ≡ false → linkAt (unchainChain chain i) k ≡ End
+  unchain-idle within k w e =
       ⊎-elim
-      (λ q. rw q unchain-own)
+      (λ q. rw q (unchain-own chain i within))
       (λ ne. unchain-link chain i k w ne ∙ ap (pastLink chain i) (sound .idle k w (sym (apart .used k ne) ∙ e)))
       (eq-or-ne k i)
 
-  -- a buffer in use leaves
-  pub unchain-sound : used words i ≡ true → used words′ i ≡ false
-      → ChainsSound words′ names′ (unchainHeads heads chain i) (unchainChain chain i)
-  unchain-sound before after =
+  -- a buffer leaves
+  pub unchain-sound : i < length chain → used words′ i ≡ false → ChainsBy words′ home′ (unchainHeads heads chain i) (unchainChain chain i)
+  unchain-sound within after =
       record {
         each = rw (length-unchain-heads chain i heads) (unchain-each after);
-        idle = rw (length-unchain chain i) unchain-idle;
+        idle = rw (length-unchain chain i) (unchain-idle within);
       }

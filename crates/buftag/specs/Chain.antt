@@ -14,16 +14,28 @@ use Rattle.buftag.specs.Names.{nameAt}
 use Rattle.buftag.specs.Link.{none, numberAt, linkOf, linkAt, isEnd, isTo, Holds, holdsTest}
 use Rattle.buftag.specs.Lookup.{used}
 
--- ---- when they are sound
--- buffer i is in use, and its name falls in bucket b
-abbrev pub inBucket : List ℕ → List ℕ → ℕ → ℕ → ℕ → Bool
-inBucket words names buckets b i = used words i && eqb (bucketOf (nameAt names i) buckets) b
+-- ---- when they are sound, whichever bucket is a buffer's home
+-- buffer i is in use, and its home is bucket b
+abbrev pub inBucketBy : List ℕ → (ℕ → ℕ) → ℕ → ℕ → Bool
+inBucketBy words home b i = used words i && eqb (home i) b
 
-pub record ChainsSound (words names : List ℕ) (heads chain : List ℤ) : Type 0 where
-  -- each chain holds exactly the buffers in use whose name falls in its bucket, once
-  pub each : (b : ℕ) → b < length heads → Holds chain (linkAt heads b) (inBucket words names (length heads) b)
+pub record ChainsBy (words : List ℕ) (home : ℕ → ℕ) (heads chain : List ℤ) : Type 0 where
+  -- each chain holds exactly the buffers in use whose home is its bucket, once
+  pub each : (b : ℕ) → b < length heads → Holds chain (linkAt heads b) (inBucketBy words home b)
   -- an empty buffer's chain link is −1
   pub idle : (i : ℕ) → i < length chain → used words i ≡ false → linkAt chain i ≡ End
+
+-- a buffer's home is the bucket that its name falls in
+abbrev pub bucketAt : List ℕ → ℕ → ℕ → ℕ
+bucketAt names buckets i = bucketOf (nameAt names i) buckets
+
+-- buffer i is in use, and its name falls in bucket b
+abbrev pub inBucket : List ℕ → List ℕ → ℕ → ℕ → ℕ → Bool
+inBucket words names buckets b i = inBucketBy words (bucketAt names buckets) b i
+
+-- each chain holds exactly the buffers in use whose name falls in its bucket, once, and an empty buffer's chain link is −1
+abbrev pub ChainsSound : List ℕ → List ℕ → List ℤ → List ℤ → Type 0
+ChainsSound words names heads chain = ChainsBy words (bucketAt names (length heads)) heads chain
 
 -- the names of the buffers in use are distinct
 abbrev pub Distinct : List ℕ → List ℕ → Type 0

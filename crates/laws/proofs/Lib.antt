@@ -8,3 +8,4 @@ pub mod Block
 pub mod Says
 pub mod Sets
 pub mod Lists
+pub mod Fill

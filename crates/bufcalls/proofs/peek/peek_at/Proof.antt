@@ -9,8 +9,8 @@ use Rattle.bufmodel.specs.declared.answer.Peeked.the-variants.{InPool}
 use Rattle.bufmodel.specs.Memory.{Memory, memory}
 use Rattle.bufmodel.proofs.GoodLaws.{Good, passed-good}
 use Rattle.bufmodel.proofs.SizesLaws.{rows-say}
-use Rattle.bufmem.specs.declared.name.Sought.the-variants.{At}
-use Rattle.bufmem.specs.Name.{sought}
+use Rattle.bufmem.specs.declared.seek.Sought.the-variants.{At}
+use Rattle.bufmem.specs.Seek.{sought}
 use Rattle.bufcalls.proofs.PeekLaws.{peek-early, peek-refused, peek-pool, peek-store, place-small, buffer-in}
 use Rattle.bufcalls.proofs.peek.peek_at.Statement.{statement}
 use Rattle.bufcalls.proofs.peek.peek_at.Tie as tie

@@ -5,7 +5,7 @@ use lib.ListN.{length, length-set, replicate, length-replicate, getD-replicate}
 use mathlib.Core.Path.{_≡_, sym, _∙_}
 use Prim.Native.Nat.{_≤_, _-_}
 use Rattle.buftag.specs.Link.{none}
-use Rattle.bufmem.proofs.FillLaws.{Filled, fill-none, fill-more, fill-done}
+use Rattle.laws.proofs.Fill.{Filled, fill-none, fill-more, fill-done}
 use Rattle.bufcalls.proofs.set_up.clear_links.Statement.{statement}
 use Rattle.bufcalls.proofs.set_up.clear_links.Tie as tie
 

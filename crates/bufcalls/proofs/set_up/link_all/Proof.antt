@@ -11,7 +11,7 @@ use Rattle.buftag.specs.Link.{none}
 use Rattle.buftag.proofs.SignedLaws.{index-back}
 use Rattle.bufmodel.specs.Calls.{freeLinks}
 use Rattle.bufmodel.proofs.FreshLaws.{length-freeLinks}
-use Rattle.bufmem.proofs.FillLaws.{Filled, fill-none, fill-more, fill-done}
+use Rattle.laws.proofs.Fill.{Filled, fill-none, fill-more, fill-done}
 use Rattle.bufcalls.proofs.set_up.link_all.Statement.{statement}
 use Rattle.bufcalls.proofs.set_up.link_all.Tie as tie
 

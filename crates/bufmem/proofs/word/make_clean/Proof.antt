@@ -1,4 +1,4 @@
-use Rattle.bufmem.proofs.PackLaws.{other-flags}
+use Rattle.bufmem.proofs.WordLaws.{other-flags}
 use Rattle.bufmodel.specs.Word.{makeClean, cleanFlags}
 use mathlib.Core.Path.{sym}
 use borrow.Author.Needs.{needs}

@@ -1,4 +1,4 @@
-use Rattle.bufmem.proofs.PackLaws.{pin-less-is}
+use Rattle.bufmem.proofs.WordLaws.{pin-less-is}
 use Rattle.bufmodel.specs.Word.{pins}
 use Rattle.bufmodel.proofs.WordLaws.{pinned-pins}
 use mathlib.Core.Path.{sym}

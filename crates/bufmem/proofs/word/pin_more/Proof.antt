@@ -1,4 +1,4 @@
-use Rattle.bufmem.proofs.PackLaws.{pin-more-most, pin-more-below, pin-more-room}
+use Rattle.bufmem.proofs.WordLaws.{pin-more-most, pin-more-below, pin-more-room}
 use Rattle.bufmodel.specs.Word.{usage}
 use mathlib.Core.Path.{sym}
 use native.Mathlib.Omega.{arith}

@@ -1,4 +1,4 @@
-use Rattle.bufmem.proofs.PackLaws.{use-less-is}
+use Rattle.bufmem.proofs.WordLaws.{use-less-is}
 use Rattle.bufmodel.specs.Word.{usage}
 use mathlib.Core.Path.{sym}
 use native.Mathlib.Omega.{arith}

@@ -1,4 +1,4 @@
-use Rattle.bufmem.proofs.PackLaws.{sound-empty, sound-above, sound-clean, sound-other}
+use Rattle.bufmem.proofs.WordLaws.{sound-empty, sound-above, sound-clean, sound-other}
 use Rattle.bufmodel.specs.Word.{usage, flags}
 use mathlib.Core.Path.{sym}
 use native.Mathlib.Omega.{arith}

@@ -12,10 +12,10 @@ use Rattle.bufmodel.specs.Pin.{heldIn}
 use Rattle.bufmodel.proofs.SizesLaws.{rows-say}
 use Rattle.bufmodel.proofs.GoodLaws.{Good, good-sized, good-sound}
 use Rattle.bufmodel.proofs.HeldLaws.{held-at}
-use Rattle.bufmem.specs.declared.name.Sought as name
-use Rattle.bufmem.specs.Name.{sought}
+use Rattle.bufmem.specs.declared.seek.Sought as name
+use Rattle.bufmem.specs.Seek.{sought}
 use Rattle.bufmodel.proofs.GoodLaws.{passed-good}
-use Rattle.bufmem.proofs.NameLaws.{name-at, looked-up}
+use Rattle.bufmem.proofs.SeekLaws.{name-at, looked-up}
 use Rattle.bufpin.proofs.PinLaws.{pin-early, pin-nameless, pin-held, pin-new}
 use Rattle.bufpin.proofs.pin.pin_page.Statement.{statement}
 use Rattle.bufpin.proofs.pin.pin_page.Tie as tie

@@ -16,9 +16,9 @@ use Rattle.bufmodel.specs.Memory.{Memory}
 use Rattle.bufmodel.specs.Outcome.{Place, place, refusalOf}
 use Rattle.bufmodel.specs.Pin.{noRow, noBlock, heldIn, namePlaces}
 use Rattle.bufmodel.proofs.GoodLaws.{Good}
-use Rattle.bufmem.specs.declared.name.Sought as name
+use Rattle.bufmem.specs.declared.seek.Sought as name
 use Rattle.bufmem.specs.Place.{placedIn, placed}
-use Rattle.bufmem.specs.Name.{soughtAt, sought}
+use Rattle.bufmem.specs.Seek.{soughtAt, sought}
 
 -- ---- the places 3 and 4
 at-found : {g h : ℕ} → name.the-variants.At g ≡ name.the-variants.At h → found g ≡ found h

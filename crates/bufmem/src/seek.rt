@@ -3,7 +3,7 @@
 ghost use mathlib.Core.Path.{_≡_};
 ghost use mathlib.Core.Bool.{true};
 ghost use Rattle.bufmodel.specs.Sizes.{soundRows};
-ghost use Rattle.bufmem.specs.Name.{sought};
+ghost use Rattle.bufmem.specs.Seek.{sought};
 use crate::place::Place;
 use crate::place::place_of;
 use bufmodel::refusal::NO_BLOCK;

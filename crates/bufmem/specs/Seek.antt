@@ -4,8 +4,8 @@ use mathlib.Core.List.{List}
 use Rattle.buftag.specs.declared.name.PageName.{PageName}
 use Rattle.bufmem.specs.declared.place.Place as place
 use Rattle.bufmem.specs.Place.{placed}
-use Rattle.bufmem.specs.declared.name.Sought.{Sought}
-use Rattle.bufmem.specs.declared.name.Sought.the-variants.{At, Refused}
+use Rattle.bufmem.specs.declared.seek.Sought.{Sought}
+use Rattle.bufmem.specs.declared.seek.Sought.the-variants.{At, Refused}
 
 unfoldable pub soughtAt : place.Place → Sought
 soughtAt (place.the-variants.At g) = At g

@@ -1,8 +1,8 @@
 use borrow.Author.Needs.{needs}
 use mathlib.Core.Path.{sym, _∙_, ap}
-use Rattle.bufmem.specs.Name.{soughtAt, sought}
-use Rattle.bufmem.proofs.name.seek.Statement.{statement}
-use Rattle.bufmem.proofs.name.seek.Tie as tie
+use Rattle.bufmem.specs.Seek.{soughtAt, sought}
+use Rattle.bufmem.proofs.seek.seek.Statement.{statement}
+use Rattle.bufmem.proofs.seek.seek.Tie as tie
 
 place-of-requires : tie.Need-place-of-requires
 place-of-requires c κs = search needs
