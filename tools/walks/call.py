@@ -139,6 +139,11 @@ class Call(Subject):
         self.read_core(function)
 
     @property
+    def home(self):
+        """The crate that has the laws of walks."""
+        return self.crate
+
+    @property
     def comment(self):
         """What the file says of itself."""
         return COMMENT % (self.place.name, self.core.name, self.stored_words, self.core.name)

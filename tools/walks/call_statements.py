@@ -1,8 +1,8 @@
 """The definitions of a thin call's walk: what is passed and owned, what the core asks for and ensures, and the exit."""
-from call_walk import lasting, owned_at_exit
+from call_walk import owned_at_exit
 from context import Context
 from layout import fill, wrap
-from mir import copy, join
+from mir import copy, join, lasting
 from parts import (ENDS, ROOM, answers, contracts, define, define_pairs, entry, lifetimes, machine_types, machine_values, opening,
                    stayed, tokens)
 from terms import listed, over, paired, part, product

@@ -1,6 +1,6 @@
 """The walk of a thin call: the steps from its entry through its MIR to its exit."""
 from layout import fill, wrap
-from mir import STOP, Mir, copy, loaded
+from mir import STOP, Mir, copy, lasting, loaded
 from terms import listed, part, product
 
 RECORD = 'T.the-row (Is T.the-row)'
@@ -8,11 +8,6 @@ SHOWN = 'T.the-row (Is T.the-row) (shows 𝓤 H A T.the-row)'
 MAKES = '(LL.makes T.the-type T′.the-plain 𝓤 H A)'
 TYPED = '(LL.lawful %s.the-type %s′.the-laws 𝓤 H A W .typed %s _ %s .0)'
 IN_MEMORY = '-- [the record in memory; what it owns; the open borrow; its name, twice; each local and its end, the last first; ..]'
-
-
-def lasting(item):
-    """The last value of a slice."""
-    return 'last: ' + item.name
 
 
 def owned_at_exit(call):
@@ -72,11 +67,7 @@ class CallWalk(Mir):
         load = '(load ! (from ! (hop ! %s (stop !))) (look-raw ! %d refl))' % (self.look(1), context.at('cell'))
         self.assign('(of-opd ! %s)' % load, self.copied, TYPED % ('T', 'T', 'h', 'gh'))
         for item in mutable:
-            address = self.lent[item.name]
-            within = 'look-in ! %d (sub ! %%d refl (whole !))' % self.place(self.passed[item.name])
-            self.assign('(addr ! (from ! (fld ! refl (hop ! (%s) (stop !)))))' % (within % 0), address, '(tt, tt)')
-            length = '(load ! (from ! (fld ! refl (stop !))) (%s))' % (within % 1)
-            self.assign('(agg ! %s)' % loaded([self.load(address), length]), address + 1, item.typed)
+            self.lend_on(item, self.passed[item.name], self.lent[item.name])
 
     def hand_over(self):
         """What the core asks for is put together."""
@@ -118,15 +109,7 @@ class CallWalk(Mir):
         """The last values are taken apart, each with its length's equation, and then what the core gives."""
         context = self.context
         context.say('fsplit ! $ drop ! $')
-        for item in self.call.passed:
-            context.front('lasts')
-            context.step('fsplit ! $', 1, 'part', 'lasts')
-            if item.mutable:
-                context.step('fsplit ! $', 1, lasting(item), 'length')
-                context.front('length')
-                context.step('feqL ! (λ %s.' % item.length, 1)
-            else:
-                context.step('drop ! $', 1)
+        self.take_lasts(self.call.passed)
         context.front('given')
         context.step('split ! $', 1, 'tokens', 'given')
         context.front('given')

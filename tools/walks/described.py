@@ -13,3 +13,5 @@ DESCRIBED = {
         },
     },
 }
+# a crate that has only lenders, with the crate that has the calls
+LENDERS = {'poolrun': 'bufcontrol'}

@@ -53,7 +53,7 @@ TYPES = [
     ('denote.Triple.Spec', 'Meets tripleOf'),
     ('denote.Triple.Statement', 'Contract Triple'),
     ('denote.Triple.Call', 'calls-at'),
-    ('denote.Triple.Clauses', 'ensured lasts'),
+    ('denote.Triple.Clauses', 'ensured atExit lasts'),
     ('denote.Triple.Table', 'entered cited'),
     ('denote.Triple.Walked', 'says Stays stay-ref stay-none stay-none-slice gave-slice walkOf Walks ends-at walked walk-meets'),
     ('denote.Triple.Walked', 'AllGo goes-none goes-none-slice goes-gave-slice goes-ref'),
@@ -91,8 +91,8 @@ def declared(subject):
 
 
 def functions(subject):
-    """The functions that are called and their theorems, the laws of this crate, and the function itself."""
-    found, proofs = [], 'Rattle.%s.proofs' % subject.crate
+    """The functions that are called and their theorems, the laws of walks, and the function itself."""
+    found, proofs = [], 'Rattle.%s%s.proofs' % (subject.home, '·proofs' * (subject.home == subject.crate))
     for cited in subject.cited:
         path, module = cited.place.antt('proofs', subject.crate), cited.module
         found += [('%s as %s' % (path, module), None), ('%s.Symbol as %s-def' % (path, module), None)]
@@ -102,7 +102,7 @@ def functions(subject):
     return found + [
         (proofs + '.StoredLaws', 'mach back is-back %s stored' % fits),
         (proofs + '.LendLaws', 'borrowed lends comes-home'),
-        (proofs + '.WalkLaws', '_▹_ slice shared twice says-both'),
+        (proofs + '.WalkLaws', '_▹_ slice shared twice says-both says-none'),
         ('%s.Key.{name as #%s}' % (own, dashed(subject.place.name)), None),
         (own + ' as f', None),
         (own + '.Statement as stated', None),

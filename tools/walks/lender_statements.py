@@ -1,23 +1,23 @@
 """The definitions of a lender's walk: what is passed and owned, what each call asks for and ensures, and the exit."""
 from context import Context
 from layout import fill, wrap
-from mir import copy, join
+from mir import copy, join, lasting
 from parts import (ENDS, ROOM, answers, contracts, define, define_pairs, entry, lifetimes, machine_types, machine_values, opening,
                    stayed, tokens)
-from terms import listed, paired, product
+from terms import listed, over, paired, product
 
 LEFT = '''is-spelt : (r : %(answer)s) (w : Val) → Is E.the-row r (w ∷ []) → Is E.the-row r (mach-answer r ∷ [])
 is-spelt r w is = subst (λ vs. Is E.the-row r vs) (EL.tells E.the-type E′.the-laws r (w ∷ []) is) is
 
--- what both calls leave, and its machine value
-abbrev left : %(record)s → %(answer)s → %(answer)s → %(end)s
-left z r s = record { %(fields)s }
+-- what %(leaves)s, and its machine value
+abbrev left : %(type)s
+%(left)s = record { %(fields)s }
 
 abbrev mach-left : %(end)s → Val
 mach-left = LL.val L.the-type L′.the-laws
 '''
-IS_LEFT = '''    → Is L.the-row (left z r s) (mach-left (left z r s) ∷ [])
-is-left z r s g h i = LL.owes L.the-type L′.the-laws (left z r s) (g, (h, (i, tt)))
+IS_LEFT = '''    → Is L.the-row (%(left)s) (mach-left (%(left)s) ∷ [])
+is-%(left)s %(known)s = LL.owes L.the-type L′.the-laws (%(left)s) %(parts)s
 '''
 # what a call is bound to: the lifetime and the name of the borrow, and the local that is lent; the second has the record too
 BOUND = ['(ν : ℕ) (δ : GName) (l : ℕ)', '(ν : ℕ) (δ : GName) (l : ℕ) (d : %s)']
@@ -31,16 +31,22 @@ class LenderStatements:
     def __init__(self, lender):
         self.lender = lender
         self.record, self.answer = lender.record.name, lender.answer.name
+        self.stated, self.answers = lender.stated, 'rs'[:len(lender.calls)]
+        self.left = over('left', 'z', *self.answers)
+        self.bound = '(z : %s) (%s : %s)' % (self.record, ' '.join(self.answers), self.answer)
 
     def before(self):
         """What does not depend on what is passed."""
         lender = self.lender
         lines = stayed(lender) + contracts(lender) + answers(lender, 'an')
-        fields = '; '.join('%s = %s' % pair for pair in zip(lender.parts, 'zrs'))
-        lines += (LEFT % {'answer': self.answer, 'record': self.record, 'end': lender.end.name, 'fields': fields}).split('\n')
-        known = ['Is T.the-row z (mach z ∷ [])'] + ['Is E.the-row %s (mach-answer %s ∷ [])' % (name, name) for name in 'rs']
-        stated = '(z : %s) (r s : %s)' % (self.record, self.answer)
-        return lines + wrap('is-left : ' + ' → '.join([stated] + known), 0, 4) + IS_LEFT.split('\n')
+        known = 'ghi'[:1 + len(self.answers)]
+        texts = {'answer': self.answer, 'end': lender.end.name, 'left': self.left, 'known': ' '.join(known), 'parts': paired(known, ROOM)}
+        texts['leaves'] = 'both calls leave' if self.stated else 'the call leaves'
+        texts['type'] = ' → '.join([self.record] + [self.answer] * len(self.answers) + [lender.end.name])
+        texts['fields'] = '; '.join('%s = %s' % pair for pair in zip(lender.parts, 'z' + self.answers))
+        lines += (LEFT % texts).split('\n')
+        known = ['Is T.the-row z (mach z ∷ [])'] + ['Is E.the-row %s (mach-answer %s ∷ [])' % (name, name) for name in self.answers]
+        return lines + wrap('is-left : ' + ' → '.join([self.bound] + known), 0, 4) + (IS_LEFT % texts).split('\n')
 
     def handed(self):
         """What the lender is passed, and what each call is handed."""
@@ -50,7 +56,7 @@ class LenderStatements:
         lines += lifetimes(lender, '') + tokens(lender)
         names, types, machines = [[getattr(item, part) for item in lender.passed] for part in ('name', 'denotes', 'machine')]
         lines += entry(types, names, machines)
-        lines += ['  -- what each call is handed: the local l, which holds d, lent under the name δ']
+        lines += ['  -- what %s call is handed: the local l, which holds d, lent under the name δ' % ('each' if self.stated else 'the')]
         lent = 'GName → ℕ → %s → ' % self.record
         lines += define_pairs('args', lent + product(['RefT ' + self.record] + types[1:]), ['borrowed δ l d'] + names[1:], 'δ l d')
         values = machine_values(['vptr l 0'] + machines[1:])
@@ -95,23 +101,35 @@ class LenderStatements:
 
     def exit(self):
         """What is owned at exit, and that this is what the contract promises."""
-        lender = self.lender
+        lender, left, mutable = self.lender, self.left, self.lender.mutable
+        lasts, lengths = [item.last for item in mutable], [item.length for item in mutable]
         lines = ['  -- what is owned at exit']
-        lines += define('at-exit', 'List (Item 𝓤)', listed(['tokens'] + [item.left for item in lender.slices]))
-        fits = 'Is L.the-row (left z r s) (mach-left (left z r s) ∷ [])'
-        lines += wrap('exits : (z : %s) (r s : %s) → %s → Ended z r s' % (self.record, self.answer, fits), 2, 6)
-        lines += ['      → ent 𝓤 (⋆ 𝓤 H A at-exit) (Post (mach-left (left z r s)))', '  exits z r s fits e =', '      qed W at-exit ∵']
-        nothing = paired(['tt'] * len(lender.passed), ROOM)
-        lines += wrap('suffices ! _ (%s (mach-left (left z r s)) (left z r s) %s %s) $' % (ENDS, nothing, nothing), 6)
-        return lines + ['      says ! e $'] + fill(self.exit_steps(), 6) + ['']
+        owned = listed(['tokens'] + [item.left for item in mutable + lender.shared])
+        types = ' → '.join([item.list_type for item in mutable] + ['List (Item 𝓤)'])
+        lines += define('at-exit', types, owned, bound=' '.join(lasts))
+        bound = over(self.bound, *['(%s : %s)' % (item.last, item.list_type) for item in mutable])
+        facts = ['Is L.the-row (%s) (mach-left (%s) ∷ [])' % (left, left)]
+        facts += ['length %s ≡ length (%s .now)' % (item.last, item.name) for item in mutable]
+        facts += [over('Ended', 'z', *self.answers)] * self.stated
+        lines += wrap('exits : ' + ' → '.join([bound] + facts), 2, 6)
+        ends = over('at-exit', *lasts)
+        ended = '(%s)' % ends if lasts else ends
+        lines += wrap('→ ent 𝓤 (⋆ 𝓤 H A %s) (Post (mach-left (%s)))' % (ended, left), 6)
+        lines += wrap(over('exits', 'z', *self.answers, *lasts, 'fits', *lengths, 'e' * self.stated, '='), 2, 6)
+        lines += ['      qed W %s ∵' % ended]
+        lasts = paired([item.last if item.mutable else 'tt' for item in lender.passed], ROOM)
+        lengths = paired([item.length if item.mutable else 'tt' for item in lender.passed], ROOM)
+        lines += wrap('suffices ! _ (%s (mach-left (%s)) (%s) %s %s) $' % (ENDS, left, left, lasts, lengths), 6)
+        return lines + ['      says ! e $' if self.stated else '      says-none ! $'] + fill(self.exit_steps(), 6) + ['']
 
     def exit_steps(self):
         """What is owned is joined as the contract has it."""
-        context = Context('tokens', *[copy(item) for item in self.lender.slices])
+        lender = self.lender
+        context = Context('tokens', *[lasting(item) for item in lender.mutable], *[copy(item) for item in lender.shared])
         context.step('frame ! $', 1)
         context.step('nothing ! $', 0, 'joined')
-        join(context, self.lender.passed, copy, 'joined')
-        makes = 'owned ! L.the-row (Is L.the-row) (LL.makes L.the-type L′.the-plain 𝓤 H A) (left z r s) _ fits $'
+        join(context, lender.passed, lambda item: lasting(item) if item.mutable else copy(item), 'joined')
+        makes = 'owned ! L.the-row (Is L.the-row) (LL.makes L.the-type L′.the-plain 𝓤 H A) (%s) _ fits $' % self.left
         context.say(makes + ' move ! (1 ∷ 0 ∷ []) $ done !')
         return context.steps
 
@@ -119,4 +137,5 @@ class LenderStatements:
 def lender_statements(lender):
     """The definitions as lines."""
     made = LenderStatements(lender)
-    return made.before() + made.handed() + made.asked(0) + made.asked(1) + made.ensured() + made.exit()
+    asked = [line for number in range(len(lender.calls)) for line in made.asked(number)]
+    return made.before() + made.handed() + asked + (made.ensured() if made.stated else []) + made.exit()

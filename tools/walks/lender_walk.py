@@ -1,44 +1,50 @@
 """The walk of a lender: the steps from its entry through its MIR to its exit."""
 from layout import fill, wrap
-from mir import STOP, Mir, copy, loaded, local
-from terms import listed, over, product
+from mir import STOP, Mir, copy, lasting, loaded, local
+from terms import listed, over, part, product
 
 TYPED = '(LL.lawful T.the-type T′.the-laws 𝓤 H A W .typed %s _ %s .0)'
-BOTH = '(is-left (z2 .0) r1 r2 g2 (is-spelt r1 w1 is1) (is-spelt r2 w2 is2))'
 
 
 class LenderWalk(Mir):
-    """The steps of a lender's walk. The MIR's locals: what is answered, the parameters, the record that is lent, both answers, the
-    reference for each call, and the record's copy."""
+    """The steps of a lender's walk. The MIR's locals: what is answered, the parameters, the record that is lent, the answers; for each call
+    the reference, and of each `&mut` slice its address and the slice that is lent on; and the record's copy."""
 
     def __init__(self, lender):
-        self.lender = lender
-        self.passed = list(range(1, 1 + len(lender.passed)))
+        self.lender, self.count = lender, len(lender.calls)
+        self.passed = {item.name: number for number, item in enumerate(lender.passed, 1)}
         self.lent = 1 + len(lender.passed)
-        self.answers = [self.lent + 1, self.lent + 2]
-        self.references = [self.lent + 3, self.lent + 4]
-        self.copied = self.lent + 5
+        self.answers = [self.lent + number for number in range(1, self.count + 1)]
+        each = 1 + 2 * len(lender.mutable)
+        self.references = [self.answers[-1] + 1 + each * number for number in range(self.count)]
+        self.lent_on = {item.name: self.references[0] + 1 + 2 * number for number, item in enumerate(lender.mutable)}
+        self.copied = self.references[-1] + each
         super().__init__(self.copied + 1)
 
     def steps(self):
-        self.take_parameters(self.lender.passed, 2)
+        self.take_parameters(self.lender.passed, self.count)
         self.pass_parameters([item.typed for item in self.lender.passed])
         self.assign('(of-opd ! %s)' % self.load(1), self.lent, TYPED % ('c', 'is-c'))
-        self.call(1, 'c', 'is-c')
-        self.call(2, '(z1 .0)', 'g1')
-        self.answer()
+        record, known = 'c', 'is-c'
+        for number in range(1, self.count + 1):
+            self.call(number, record, known)
+            record, known = '(z%d .0)' % number, 'g%d' % number
+        self.answer(record, known)
         return self.context.steps
 
     def call(self, number, record, known):
         """The record, as it is now, is lent to a call, and comes home."""
         self.lend(number, record, known)
+        for item in self.lender.mutable:
+            self.lend_on(item, self.passed[item.name], self.lent_on[item.name])
         self.hand_over(number, record)
         self.hear(number, record)
         self.come_home(number)
 
     def lend(self, number, record, known):
         context = self.context
-        context.say('-- the record is lent to `%s`' % self.lender.calls[number - 1].place.name)
+        on = ', and each `&mut` slice is lent on' if self.lender.mutable else ''
+        context.say('-- the record is lent to `%s`%s' % (self.lender.calls[number - 1].place.name, on))
         self.assign('(addr ! %s)' % STOP, self.references[number - 1], '(tt, tt)')
         context.front(local(self.lent))
         lent = 'lends ! tt %s l%d %s (λ ν%d δ%d.' % (record, self.lent, known, number, number)
@@ -58,7 +64,8 @@ class LenderWalk(Mir):
         context.step('join ! $', 2, 'tokens')
         contract, to = '(Call%d 𝓤 H A at-mem run' % number, '(to%d %s)' % (number, bound)
         context.step('use2 W (raw %s .pre %s)) (asked%d %s) $' % (contract, to, number, bound), 2, 'asked')
-        operands = loaded([self.load(place) for place in [self.references[number - 1]] + self.passed[1:]])
+        handed = [self.lent_on[item.name] + 1 if item.mutable else self.passed[item.name] for item in self.lender.passed[1:]]
+        operands = loaded([self.load(place) for place in [self.references[number - 1]] + handed])
         context.say('calls-at ! fm %s) known%d %s %s (λ w%d.' % (contract, number, to, operands, number))
         args = '(ν%d ∷ [], lfts) (args δ%d l%d %s)' % (number, number, self.lent, record)
         ensured = '(ensured 𝓤 H A call%d.ended (call%d.clauses 𝓤 H A at-mem run) %s tt r)' % (number, number, args)
@@ -69,22 +76,36 @@ class LenderWalk(Mir):
         context.step('split ! $', 1, 'given', 'ensured')
 
     def hear(self, number, record):
-        """What the call ensures: its answer, and the memory that it leaves with the record's last value."""
-        context, before = self.context, record if number == 2 else ''
-        answered = over('Answered%d' % number, before, 'r%d' % number)
-        left = over('Left%d' % number, before, '(%s .0)')
+        """What the call ensures: the record's last value and those of the slices; its answer, and the memory that it leaves."""
+        context, args = self.context, '(ν%d ∷ [], lfts) (args δ%d l%d %s)' % (number, number, self.lent, record)
         context.front('ensured')
-        lasts = product([self.lender.record.name] + ['Unit {0}'] * (len(self.lender.passed) - 1))
-        ended = '‵ (lasts call%d.ended (ν%d ∷ [], lfts) (args δ%d l%d %s) zs)' % (number, number, number, self.lent, record)
-        facts = 'raw (fact 𝓤 (%s)) ⊛ raw (fact 𝓤 (%s))' % (answered, left % 'zs')
+        lasts = product([self.lender.record.name] + [item.list_type if item.mutable else 'Unit {0}' for item in self.lender.passed[1:]])
+        ended = '‵ (lasts call%d.ended %s zs)' % (number, args)
+        facts, hear = self.facts(number, record) if self.lender.stated else self.ignored(number, args)
         heard = 'use1 W (some (λ (zs : %s). %s ⊛ %s)) (id⊢ 𝓤 _) $' % (lasts, ended, facts)
         context.step(heard + ' pick ! (λ z%d. split ! $' % number, 1, 'lasts', 'facts')
         context.front('facts')
-        facts = 'split ! $ heard ! (%s) (λ a%d. heard ! (%s) (λ e%d.' % (answered, number, left % ('z%d' % number), number)
-        context.step(facts, 1)
+        context.step(hear, 1)
         context.step('fsplit ! $', 1, 'last record', 'lasts')
-        context.front('lasts')
-        context.step('drop ! $', 1)
+        if self.lender.mutable:
+            self.take_lasts(self.lender.passed[1:])
+        else:
+            context.front('lasts')
+            context.step('drop ! $', 1)
+
+    def facts(self, number, record):
+        """The call's two facts, and the step that keeps them."""
+        before = record if number == 2 else ''
+        answered = over('Answered%d' % number, before, 'r%d' % number)
+        left = over('Left%d' % number, before, '(%s .0)')
+        hear = 'split ! $ heard ! (%s) (λ a%d. heard ! (%s) (λ e%d.' % (answered, number, left % ('z%d' % number), number)
+        return 'raw (fact 𝓤 (%s)) ⊛ raw (fact 𝓤 (%s))' % (answered, left % 'zs'), hear
+
+    def ignored(self, number, args):
+        """What the call ensures, whatever it is, and the step that drops it."""
+        call = 'call%d' % number
+        ensured = '%s.clauses 𝓤 H A at-mem run %s .ensures tt r%d (atExit %s.ended %s zs)' % (call, args, number, call, args)
+        return 'raw (%s)' % ensured, 'drop ! $'
 
     def come_home(self, number):
         """The answer lands, the lifetime ends, and the local holds the record's last value."""
@@ -105,15 +126,20 @@ class LenderWalk(Mir):
         home = 'comes-home ! tt (z%d .0) l%d ν%d δ%d (λ g%d.' % (number, self.lent, number, number, number)
         context.step(home, 3, local(self.lent))
 
-    def answer(self):
-        """What both calls leave is the result."""
-        self.context.say('-- what both leave is the result')
-        self.assign('(of-opd ! %s)' % self.load(self.lent), self.copied, TYPED % ('(z2 .0)', 'g2'))
+    def answer(self, record, known):
+        """What the calls leave is the result."""
+        lender, numbers = self.lender, range(1, self.count + 1)
+        self.context.say('-- what %s is the result' % ('both leave' if lender.stated else 'it leaves'))
+        self.assign('(of-opd ! %s)' % self.load(self.lent), self.copied, TYPED % (record, known))
         parts = loaded([self.load(place) for place in [self.copied] + self.answers])
-        self.assign('(agg ! %s)' % parts, 0, '(LL.lawful L.the-type L′.the-laws 𝓤 H A W .typed (left (z2 .0) r1 r2) _ %s .0)' % BOTH)
+        left = over(record, *['r%d' % number for number in numbers])
+        fits = over('(is-left', left, known, *['(is-spelt r%d w%d is%d)' % (number, number, number) for number in numbers]) + ')'
+        self.assign('(agg ! %s)' % parts, 0, '(LL.lawful L.the-type L′.the-laws 𝓤 H A W .typed (left %s) _ %s .0)' % (left, fits))
         self.free_locals()
-        kept = ['tokens'] + [copy(item) for item in self.lender.slices]
-        self.close(kept, 'exits (z2 .0) r1 r2 %s (follows (z1 .0) (z2 .0) r1 r2 a1 e1 a2 e2)' % BOTH)
+        lasts = ['(%s)' % part('z1', number) for number, item in enumerate(lender.passed) if item.mutable]
+        ended = over('(follows (z1 .0)', left, 'a1 e1 a2 e2)') if lender.stated else ''
+        kept = ['tokens'] + [lasting(item) for item in lender.mutable] + [copy(item) for item in lender.shared]
+        self.close(kept, over('exits', left, *lasts, fits, *[item.length for item in lender.mutable], ended))
 
 
 def lender_walk(lender):

@@ -24,6 +24,11 @@ def copy(item):
     return 'copy: ' + item.name
 
 
+def lasting(item):
+    """The last value of a slice."""
+    return 'last: ' + item.name
+
+
 def loaded(places):
     """Operands, one after the other."""
     return ''.join('(and-then ! %s ' % place for place in places) + '(no-more !)' + ')' * len(places)
@@ -72,6 +77,26 @@ class Mir:
         for number, value in enumerate(typed, 1):
             context.say('pass1 ! %s $' % self.init(number, value))
         context.say('pass0 ! $')
+
+    def lend_on(self, item, passed, address):
+        """A `&mut` slice in a local is lent on: its address, and with its length the slice in the local after that."""
+        within = 'look-in ! %d (sub ! %%d refl (whole !))' % self.place(passed)
+        self.assign('(addr ! (from ! (fld ! refl (hop ! (%s) (stop !)))))' % (within % 0), address, '(tt, tt)')
+        length = '(load ! (from ! (fld ! refl (stop !))) (%s))' % (within % 1)
+        self.assign('(agg ! %s)' % loaded([self.load(address), length]), address + 1, item.typed)
+
+    def take_lasts(self, passed):
+        """The last values are taken apart, each with its length's equation."""
+        context = self.context
+        for item in passed:
+            context.front('lasts')
+            context.step('fsplit ! $', 1, 'part', 'lasts')
+            if item.mutable:
+                context.step('fsplit ! $', 1, lasting(item), 'length')
+                context.front('length')
+                context.step('feqL ! (λ %s.' % item.length, 1)
+            else:
+                context.step('drop ! $', 1)
 
     def join_passed(self, passed, use=1):
         """What is passed is put together for a call, the last parameter first."""

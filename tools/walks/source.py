@@ -25,7 +25,8 @@ class Place:
 
 @dataclass(frozen=True)
 class Function:
-    """A function: its parameters with their types, what it answers, requires and ensures, and its body, each on one line."""
+    """A function: its parameters with their types, what it answers, if anything, what it requires and ensures, and its body, each on one
+    line."""
     name: str
     parameters: tuple
     answer: str
@@ -71,14 +72,14 @@ class Source:
         if not self.path.is_file():
             raise Unreadable('there is no %s' % self.path)
         self.text = re.sub(r'//.*', '', self.path.read_text(encoding='utf8'))
-        self.functions = re.findall(r'^pub fn (\w+)\(', self.text, re.M)
+        self.functions = re.findall(r'^pub(?:\(crate\))? fn (\w+)\(', self.text, re.M)
         self.uses = {name: path.split('::') for path, name in re.findall(r'^use ([\w:]+)::(\w+);', self.text, re.M)}
         ghosts = re.findall(r'^ghost use (\S+)\.\{(.*?)\};', self.text, re.M)
         self.ghosts = [(path, names.split(', ')) for path, names in ghosts]
 
     def declaration(self, name):
         """The start of a function's, struct's or enum's declaration, and its first bracket's place."""
-        return re.search(r'^pub (fn|struct|enum) %s\s*[({]' % name, self.text, re.M)
+        return re.search(r'^pub(?:\(crate\))? (fn|struct|enum) %s\s*[({]' % name, self.text, re.M)
 
     def place(self, name):
         """Where a name that the file knows is declared."""
@@ -107,9 +108,7 @@ class Source:
         if self.kind(name) != 'fn':
             raise Unreadable('%s: %s is no function' % (self.path, name))
         parameters, at = enclosed(self.text, self.declaration(name).end() - 1)
-        answer = re.compile(r'\s*->\s*(\w+)').match(self.text, at)
-        if not answer:
-            raise Unreadable('%s: %s has no answer' % (self.path, name))
+        answer = re.compile(r'(?:\s*->\s*(\w+))?').match(self.text, at)
         at, clauses = answer.end(), {'requires': [], 'ensures': []}
         while clause := re.compile(r'\s*(requires|ensures)\s*\{').match(self.text, at):
             text, at = enclosed(self.text, clause.end() - 1)

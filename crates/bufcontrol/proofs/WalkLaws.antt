@@ -46,3 +46,7 @@ module _ {M : Type 1} {𝓤 : URA M} {H : Heap 𝓤} {A : Atoms 𝓤} {K : Type 
       let second : ent 𝓤 (sep 𝓤 (emp 𝓤) F) (sep 𝓤 G F) = monoL 𝓤 F (factI 𝓤 ψ (emp 𝓤) y) in
       let both : ent 𝓤 (emp 𝓤) (sep 𝓤 F G) = via 𝓤 _ first (via 𝓤 _ (comm∗ 𝓤 F (emp 𝓤)) (via 𝓤 _ second (comm∗ 𝓤 G F))) in
       step (λ s. record { prf = via 𝓤 P (s .prf) (via 𝓤 _ (emp∗ 𝓤 P) (via 𝓤 _ (monoL 𝓤 P both) (comm∗ 𝓤 (sep 𝓤 F G) P))) })
+
+  -- of a function that ensures nothing, only what is owned at exit is left to show
+  pub says-none : K → {P : SProp 𝓤} → Step K W Γ (prop P) Γ (prop (sep 𝓤 P (emp 𝓤)))
+  says-none t {P} = step (λ s. record { prf = via 𝓤 P (s .prf) (via 𝓤 _ (emp∗ 𝓤 P) (comm∗ 𝓤 (emp 𝓤) P)) })
