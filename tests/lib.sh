@@ -20,6 +20,15 @@ check() { # NAME COMMAND [ARGUMENT..]
     if "$@"; then pass "$name"; else fail "$name"; fi
 }
 
+# Beside rt ci (GATE, see .ci/run) a test waits until these crates are proved, or rt ci has ended.
+proved_first() { # CRATE..
+    local crate
+    [ -n "${GATE:-}" ] || return 0
+    for crate; do
+        until [ -e "target/stamp/$crate" ] || [ -e "$GATE/proved" ]; do sleep 0.5; done
+    done
+}
+
 # The static library of a crate, built unless it is newer than every file of the crates. Without it the run ends here.
 library() { # CRATE
     archive=target/staticlib/lib$1.a
