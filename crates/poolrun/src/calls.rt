@@ -4,7 +4,6 @@ use crate::bench::Bench;
 use crate::bench::page;
 use crate::lend::lend_to_checkpoint;
 use crate::lend::lend_to_flush;
-use crate::lend::lend_to_inserted;
 use crate::lend::lend_to_pin;
 use crate::text::say;
 use crate::text::say_accepted;
@@ -172,36 +171,6 @@ pub(crate) fn checkpoint_all(mut bench: Bench) -> Bench {
     bench.control = control;
     bench.states = states;
     bench.store = store;
-    bench
-}
-
-pub(crate) fn insert_log(mut bench: Bench, position: u64) -> Bench {
-    let states = bench.states;
-    let names = bench.names;
-    let pool = bench.pool;
-    let free = bench.free;
-    let heads = bench.heads;
-    let chain = bench.chain;
-    let rows = bench.rows;
-    let store = bench.store;
-    let end = lend_to_inserted(
-        bench.control,
-        &states,
-        &names,
-        &pool,
-        &free,
-        &heads,
-        &chain,
-        &rows,
-        &store,
-        position,
-    );
-    let control = end.control;
-    let answer = end.answer;
-    say_number(b"log inserted to ", position);
-    say_accepted(answer);
-    say_log(control);
-    bench.control = control;
     bench
 }
 

@@ -1,11 +1,9 @@
-// The control record in a local, lent by `&mut` to a call of `bufcontrol`. (To `log_flushed_to` it is lent by `log_through`, there.)
+// The control record in a local, lent by `&mut` to a call of `bufcontrol`. (To the log's calls it is lent by `log_through`, there.)
 // The prover does not cover a reference to a record: these functions are proved by walks, which `tools/walks` writes.
 
-use bufcalls::ends::AcceptedEnd;
 use bufcalls::ends::WrittenEnd;
 use bufcontrol::back::checkpoint;
 use bufcontrol::back::flush;
-use bufcontrol::log::log_inserted_to;
 use bufcontrol::pin::pin;
 use bufmodel::control::Control;
 use bufpin::ends::PinnedEnd;
@@ -98,37 +96,6 @@ pub(crate) fn lend_to_checkpoint(
         store,
     );
     WrittenEnd {
-        control: lent,
-        answer: answer,
-    }
-}
-
-pub(crate) fn lend_to_inserted(
-    control: Control,
-    states: &[u32],
-    names: &[u32],
-    pool: &[u8],
-    free: &[i32],
-    heads: &[i32],
-    chain: &[i32],
-    rows: &[u32],
-    store: &[u8],
-    position: u64,
-) -> AcceptedEnd {
-    let mut lent = control;
-    let answer = log_inserted_to(
-        &mut lent,
-        states,
-        names,
-        pool,
-        free,
-        heads,
-        chain,
-        rows,
-        store,
-        position,
-    );
-    AcceptedEnd {
         control: lent,
         answer: answer,
     }

@@ -11,7 +11,6 @@ use bench::Bench;
 use bench::set_up;
 use calls::checkpoint_all;
 use calls::flush_one;
-use calls::insert_log;
 use calls::move_log;
 use calls::peek_block;
 use calls::pin_block;
@@ -92,8 +91,8 @@ fn written(b: Bench) {
 
 fn logged(b: Bench) -> Bench {
     say(b"the log moved, and pages written back\n");
-    let b = insert_log(b, 99);
-    let b = insert_log(b, 300);
+    let b = move_log(b, 99);
+    let b = move_log(b, 300);
     let b = write_to(b, 1, 250);
     let b = flush_one(b, 1);
     let b = flush_one(b, 3);
