@@ -25,7 +25,7 @@ proved_first() { # CRATE..
     local crate
     [ -n "${GATE:-}" ] || return 0
     for crate; do
-        until [ -e "target/stamp/$crate" ] || [ -e "$GATE/proved" ]; do sleep 0.5; done
+        until [ -s "target/stamp/$crate" ] || [ -e "$GATE/proved" ]; do sleep 0.5; done
     done
 }
 
@@ -48,7 +48,7 @@ repository() { # FOLDER [CRATE..]
     # shellcheck disable=SC2046
     [ $# -gt 0 ] || set -- $(ls target/stamp 2>/dev/null)
     for crate; do
-        [ -e "target/stamp/$crate" ] && [ -d "target/rlib/$crate.rlib" ] || continue
+        [ -s "target/stamp/$crate" ] && [ -d "target/rlib/$crate.rlib" ] || continue
         ln -s "$PWD/target/rlib/$crate.rlib" "$folder/target/rlib/"
         cp "target/stamp/$crate" "$folder/target/stamp/"
     done

@@ -1,0 +1,62 @@
+"""contracts.py CRATES: the contracts of the exports of CRATES/bufpool, as theorem and documents speak of them, and of the other exports
+that they ask nothing. Prints what differs; status 1 if anything does."""
+import glob
+import re
+import sys
+
+EXPORT = re.compile(r'#\[no_mangle\]\npub extern "C" fn (\w+)\((.*?)\n\) -> u32\n(.*?)\n\{\n', re.S)
+SLICES = ['control', 'states', 'names', 'pool', 'free', 'heads', 'chain', 'rows', 'store']
+# each call with its arguments, as the equations of Made.antt.in have it, and the caller's own bytes
+CALLS = {
+    'bufpool_set_up': ('setUp m «page_size» position', None),
+    'bufpool_pin': ('pin m (nameOf tablespace database relation fork block)', None),
+    'bufpool_unpin': ('unpin m buffer', None),
+    'bufpool_read': ('read m buffer from (now (out .entry))', 'out'),
+    'bufpool_write': ('write m buffer from (now (bytes .entry)) position', 'bytes'),
+    'bufpool_flush': ('flush m buffer', None),
+    'bufpool_checkpoint': ('checkpoint m', None),
+    'bufpool_peek': ('peek m (nameOf tablespace database relation fork block)', None),
+    'bufpool_extend': ('extend m (fileOf tablespace database relation fork)', None),
+    'bufpool_drop': ('dropFile m (fileOf tablespace database relation fork)', None),
+    'bufpool_log_inserted': ('logInserted m position', None),
+    'bufpool_log_flushed': ('logFlushed m position', None),
+}
+
+
+def now(name, moment):
+    return '(now (%s .%s))' % (name, moment)
+
+
+def wanted(name, parameters):
+    """The contract of an export: a slice that it takes by `&mut` is at exit what the call's definition makes of it."""
+    call, own = CALLS[name]
+    moment = {slice: 'exit' if re.search(r'\b%s: &mut ' % slice, parameters) else 'entry' for slice in SLICES + [own]}
+    after = ' '.join(now(slice, moment[slice]) for slice in SLICES)
+    before = ' '.join(now(slice, 'entry') for slice in SLICES)
+    return 'ensures { λ r. ⌜ ends r (now (answer .exit)) %s (lent %s) ≡ called (λ m. %s) (lent %s) %s (now (answer .entry)) ⌝ }' % (
+        now(own, moment[own]) if own else '[]', after, call, before, now(own, 'entry') if own else '[]')
+
+
+def exports(crates, crate):
+    for path in sorted(glob.glob('%s/%s/src/*.rt' % (crates, crate))):
+        yield from EXPORT.findall(open(path, encoding='utf8').read())
+
+
+def main(crates):
+    found, wrong = {}, []
+    for crate in ('buftag', 'bufbooks', 'bufpool'):
+        for name, parameters, contract in exports(crates, crate):
+            found[name] = crate
+            said = ' '.join(contract.split())
+            if 'requires' in said:
+                wrong.append('%s asks something of its caller' % name)
+            if crate == 'bufpool' and said != wanted(name, parameters):
+                wrong.append('%s says: %s' % (name, said))
+    wrong += ['%s is not exported by bufpool' % name for name in CALLS if found.get(name) != 'bufpool']
+    if len(found) != len(CALLS) + 3:
+        wrong.append('%d exports were read' % len(found))
+    print('\n'.join(wrong))
+    return bool(wrong)
+
+
+sys.exit(main(sys.argv[1]))
