@@ -16,7 +16,7 @@ use Rattle.shelf.specs.Shelf.{Shelf, refuses, pinnedAt, unpinnedAt, writ
 use Rattle.shelf.specs.Ledger.{Ledger, bufferIn, putBy, acceptedBy, ledgerAfter, puts}
 use Rattle.shelf.specs.Statement.{Answers, Shows}
 use Rattle.shelf.proofs.Kept.{View, shelfOf, ledgerOf, viewOf, Kept, Ended}
-use Rattle.shelf.proofs.Refused.{PinSays}
+use Rattle.shelf.proofs.ShelfPlaces.{six-of}
 
 -- the ledger after an accepted call that answered so
 abbrev pub ledgerThen : Memory → View → Call → List ℕ → Ledger
@@ -30,7 +30,6 @@ pub record Accepted (m : Memory) (v : View) (c : Call) (answer bytes : List ℕ)
   pub number : refuses (shelfOf m v) c ≡ 0
   pub answers : Answers (done answer bytes m′) c
   pub shows : Shows (shelfOf m v) (done answer bytes m′) c
-  pub pin : PinSays m v c (done answer bytes m′)
   -- what the ledger shares with the memory
   pub many : buffers m ≡ buffers m′
   pub wide : size m ≡ size m′
@@ -113,11 +112,9 @@ module _ (m : Memory) (v : View) (c : Call) (answer bytes : List ℕ) (m′ : Me
               shows = λ z. a .shows;
               blank = λ h. absurd (h refl);
               kept = λ h. absurd (h refl);
-              same = λ h. absurd (h refl);
               rows = sym (a .rows);
               inserted = sym (a .inserted);
-              six = a .pin .six;
-              sought = a .pin .sought;
+              six = six-of (shelfOf m v) c (sym (a .number));
               flushed = sym (a .flushed);
               ordered = λ g h.
                   subst (λ (f : ℕ). position (block (size m) g (m′ .store)) ≤ f) (sym (a .flushed))

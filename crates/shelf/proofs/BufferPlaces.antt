@@ -5,7 +5,7 @@ use mathlib.Core.Bool.{true, false, not}
 use mathlib.Core.Logic.{⊎-elim}
 use mathlib.Core.List.{List}
 use native.Mathlib.Omega.{arith}
-use borrow.Author.Tests.{leb-false, le-leb, lt-leb, not-false}
+use borrow.Author.Tests.{le-leb, lt-leb}
 use Rattle.laws.specs.First.{Found, found, missing}
 use Rattle.laws.proofs.Tests.{lt-or-le, true-or-false}
 use Rattle.bufmodel.specs.Word.{pins, pinned}
@@ -15,10 +15,11 @@ use Rattle.bufmodel.specs.Outcome.{Place, refusalOf}
 use Rattle.bufmodel.specs.Calls.{bufferPlaces}
 use Rattle.bufmodel.proofs.WordLaws.{Held, pinned-pins}
 use Rattle.bufmodel.proofs.HeldLaws.{pinned-full}
-use Rattle.bufmodel.proofs.OutcomeLaws.{refusal-past, refusal-at, refusal-passed}
+use Rattle.bufmodel.proofs.OutcomeLaws.{refusal-past, refusal-at}
 use Rattle.shelf.specs.Shelf.{Shelf, numberPlaces}
 use Rattle.shelf.proofs.Kept.{View, shelfOf, Has, Same, Kept}
 use Rattle.shelf.proofs.KeptLaws.{has-page, holds-page, holds-none}
+use Rattle.shelf.proofs.MemoryPlaces.{number-passed}
 use Rattle.shelf.proofs.Refused.{Neither, neither-place}
 
 -- ---- the tests, one by one
@@ -27,15 +28,6 @@ module _ (m : Memory) (i : ℕ) (ps : List Place) where
   pub number-neither : Neither (refusalOf ps) → Neither (refusalOf (bufferPlaces m i ps))
   unfolding bufferPlaces
   number-neither h = neither-place 7 _ _ (omega arith) (neither-place 8 _ ps (omega arith) h)
-
-  -- where no place refuses, the number is a pinned buffer's, and no later place refuses
-  pub number-passed : refusalOf (bufferPlaces m i ps) ≡ 0
-      → (i < buffers m) × (pinned (wordOf m i) ≡ true) × (refusalOf ps ≡ 0)
-  unfolding bufferPlaces
-  number-passed e =
-      let a = refusal-passed 7 _ _ (omega arith) e in
-      let b = refusal-passed 8 _ ps (omega arith) (a .1) in
-      (leb-false _ _ (a .0), not-false _ (b .0), b .1)
 
 -- a number past the last buffer gives 7, one of a buffer without pins 8; a pinned buffer's number hands on to the later places
 module _ (m : Memory) (i : ℕ) (ps : List Place) where

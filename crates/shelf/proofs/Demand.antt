@@ -1,11 +1,11 @@
 -- DEMAND 3, proved: an accepted set up starts the relation between memory and ledger, and each call keeps it.
 use mathlib.Core.Path.{sym, subst}
 use Rattle.bufmodel.specs.Calls.{setUp}
-use Rattle.bufmodel.specs.Step.{Pin, Unpin, Read, Write, Flush, Checkpoint, Peek, Extend, Drop, LogInserted, LogFlushed}
+use Rattle.bufmodel.specs.Step.{Pin, Unpin, Read, Write, Flush, Checkpoint, Peek, Extend, Drop, LogInserted, LogFlushed, step}
 use Rattle.bufmodel.specs.Lent.{Lent, opened}
 use Rattle.bufmodel.proofs.CalledLaws.{called-accepted}
 use Rattle.shelf.specs.Ledger.{Ledger, firstLedger}
-use Rattle.shelf.specs.Statement.{Claim, Demand3}
+use Rattle.shelf.specs.Statement.{calling, ClaimFor, Demand3}
 use Rattle.shelf.proofs.Kept.{viewOf, Runs, Steps, runs-of}
 use Rattle.shelf.proofs.Start.{start-kept, start-ledger}
 use Rattle.shelf.proofs.StepPin.{pin-step}
@@ -38,7 +38,7 @@ demand-3 m p at answer calls fm fp fat fa fc e =
     let k = opened m in
     let s = called-accepted (λ k. setUp k p at) m _ answer fa e in
     let kept = start-kept k p at (s .0) in
-    subst (λ (n : Lent). Claim n (firstLedger k p at) calls) (sym (s .1))
-    (lift (setUp k p at .after) (firstLedger k p at) calls (kept .good) fc
+    subst (λ (n : Lent). ClaimFor (calling step) n (firstLedger k p at) calls) (sym (s .1))
+    (lift (setUp k p at .after) (firstLedger k p at) calls (kept .good) (kept .words) fc
     (subst (λ (l : Ledger). Runs (setUp k p at .after) l (callsOf calls)) (sym (start-ledger k p at (s .0)))
     (runs-of steps (setUp k p at .after) (viewOf (firstLedger k p at)) (callsOf calls) kept (fits-calls calls fc))))

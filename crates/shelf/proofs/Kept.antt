@@ -1,6 +1,6 @@
 -- The relation between memory and ledger that every call keeps, and what a call has to show.
 use Prim.Native.Nat.{ℕ, _≤_, _<_}
-use mathlib.Core.Path.{_≡_, sym, subst}
+use mathlib.Core.Path.{_≡_, sym, ap, subst}
 use mathlib.Core.Bool.{Bool, true, false, cond}
 use mathlib.Core.List.{List, [], _∷_}
 use Rattle.laws.specs.First.{Found, found, missing}
@@ -14,10 +14,10 @@ use Rattle.bufmodel.specs.Outcome.{Outcome}
 use Rattle.bufmodel.specs.Step.{Call, step}
 use Rattle.buftag.specs.declared.name.PageName.{PageName}
 use Rattle.bufmodel.proofs.GoodLaws.{Good}
-use Rattle.bufmodel.proofs.WordLaws.{Held}
 use Rattle.shelf.specs.Shelf.{Shelf}
 use Rattle.shelf.specs.Ledger.{Ledger, ledgerAfter}
 use Rattle.shelf.specs.Statement.{Agrees, FitsCall}
+use Rattle.shelf.proofs.PublishedWords.{HeldWords}
 
 -- ---- the ledger, less what it shares with the memory: those parts are equal by computation
 pub record View : Type 0 where
@@ -78,7 +78,7 @@ pub record Same (m : Memory) (v : View) (i g : ℕ) : Type 0 where
 -- what holds between them after every call
 pub record Kept (m : Memory) (v : View) : Type 0 where
   pub good : Good m
-  pub words : (i : ℕ) → i < buffers m → emptyAt m i ≡ false → Held (wordOf m i)
+  pub words : HeldWords m
   pub same : (i g : ℕ) → Has m i g → Same m v i g
   -- a page that no buffer has has no pins, is not dirty, and its bytes are the store's
   pub unpinned : (g : ℕ) → Nobody m g → v .counts g ≡ 0
@@ -102,12 +102,19 @@ pub record Ended (m : Memory) (v : View) (c : Call) (o : Outcome) : Type 0 where
   pub shared : ledgerNext m v c o ≡ ledgerOf (o .after) (viewOf (ledgerNext m v c o))
 
 -- ---- a list of calls over the memory, by induction
+-- a call that ended so
+pub record Ran (m : Memory) (l : Ledger) (c : Call) (o : Outcome) (l′ : Ledger) : Type 0 where
+  pub good : Good (o .after)
+  pub words : HeldWords (o .after)
+  pub size : l′ .shelf .size ≡ size (o .after)
+  pub agrees : Agrees m l c o l′
+
 abbrev pub Runs : Memory → Ledger → List Call → Type 0
 Runs m l [] = Unit {0}
 Runs m l (c ∷ cs) =
     let o = step m c in
     let l′ = ledgerAfter l c (o .answer) (o .refusal) in
-    Good (o .after) × Agrees m l c o l′ × Runs (o .after) l′ cs
+    Ran m l c o l′ × Runs (o .after) l′ cs
 
 abbrev pub FitsCalls : List Call → Type 0
 FitsCalls [] = Unit {0}
@@ -122,7 +129,6 @@ pub runs-of : Steps → (m : Memory) (v : View) (calls : List Call) → Kept m v
 runs-of steps m v [] k f = tt
 runs-of steps m v (c ∷ cs) k f =
     let s = steps m v c k (f .0) in (
-      s .kept .good,
-      s .agrees,
+      record { good = s .kept .good; words = s .kept .words; size = ap (λ (l : Ledger). l .shelf .size) (s .shared); agrees = s .agrees },
       subst (λ (l : Ledger). Runs (step m c .after) l cs) (sym (s .shared)) (runs-of steps _ _ cs (s .kept) (f .1)),
     )

@@ -1,11 +1,21 @@
--- The proof of demand 3, each module after those that it uses.
+-- The proofs of demands 2 and 3, each module after those that it uses.
+-- demand 2: what calls' numbers say of the memory, its words, what each call leaves, and the theorem
+pub mod WithLaws
+pub mod CallKinds
+pub mod MemoryPlaces
+pub mod PublishedWords
+pub mod PublishedLeaves
+pub mod PublishedCalls
+pub mod PublishedBack
+pub mod PublishedDrop
+pub mod PublishedPin
+pub mod Published
 -- the relation between memory and ledger, its laws, and laws of what the ledger is made of
 pub mod Kept
 pub mod KeptLaws
-pub mod WithLaws
 pub mod HighestLaws
-pub mod CallKinds
 -- a refused call, an accepted one, and one that changes nothing
+pub mod ShelfPlaces
 pub mod Refused
 pub mod Accepted
 pub mod Unchanged
@@ -35,7 +45,6 @@ pub mod StepDrop
 -- pin: its tests; then held, from the free list, and the victim of a sweep
 pub mod PinnedPages
 pub mod PinPlaces
-pub mod PinSix
 pub mod LoadKept
 pub mod PinAccepted
 pub mod PinHit

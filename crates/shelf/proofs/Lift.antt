@@ -1,16 +1,22 @@
 -- A list of calls over the memory, as calls of the memory as it is lent.
+use Prim.Native.Nat.{ℕ}
 use mathlib.Core.Path.{_≡_, sym, ap, subst}
 use mathlib.Core.List.{List, [], _∷_}
 use Rattle.bufmodel.specs.Memory.{Memory}
 use Rattle.bufmodel.specs.Outcome.{Outcome}
 use Rattle.bufmodel.specs.Step.{Call, step}
-use Rattle.bufmodel.specs.Lent.{Called, closed, called}
+use Rattle.bufmodel.specs.Sizes.{SizedFor}
+use Rattle.bufmodel.specs.Books.{BooksSound}
+use Rattle.bufmodel.specs.Lent.{Lent, Called, topWord, wordsOf, closed, called}
 use Rattle.bufmodel.proofs.GoodLaws.{Good}
 use Rattle.bufmodel.proofs.LentLaws.{opened-closed, calledOf, called-closed}
 use Rattle.bufmodel.proofs.CalledLaws.{top-fits}
 use Rattle.shelf.specs.Ledger.{Ledger, ledgerAfter}
-use Rattle.shelf.specs.Statement.{Agrees, Made, FitsMade, own, outcomeOf, Claim}
-use Rattle.shelf.proofs.Kept.{Runs, FitsCalls}
+use Rattle.shelf.specs.Published.{Published}
+use Rattle.shelf.specs.Statement.{Agrees, Left, Made, FitsMade, own, outcomeOf, calling, ClaimFor}
+use Rattle.shelf.proofs.Kept.{Ran, Runs, FitsCalls}
+use Rattle.shelf.proofs.PublishedWords.{HeldWords}
+use Rattle.shelf.proofs.Published.{published, refused-same}
 
 -- the calls that the till program makes, without the lists that it passes for answers
 abbrev pub callsOf : List Made → List Call
@@ -27,24 +33,51 @@ outcome-is o g =
     ap (λ (m : Memory). record { refusal = o .refusal; answer = o .answer; bytes = o .bytes; after = m })
     (opened-closed (o .after) (top-fits (o .after) g))
 
--- the claim's two halves, at what a call leaves
-abbrev Says : Memory → Ledger → Made → List Made → Called → Type 0
-Says m l c cs r =
+-- the claim's parts, at what a call leaves: m the memory, k as it is lent
+abbrev Says : Memory → Lent → Ledger → Made → List Made → Called → Type 0
+Says m k l c cs r =
     let o = outcomeOf r in
     let l′ = ledgerAfter l (c .call) (o .answer) (o .refusal) in
-    Agrees m l (c .call) o l′ × Claim (r .lent) l′ cs
+    Agrees m l (c .call) o l′ × Left k r l′ × Published m (c .call) o × ClaimFor (calling step) (r .lent) l′ cs
+
+-- the words of a control record, one by one
+words-are : {a b c d a′ b′ c′ d′ : ℕ} (top : ℕ) → a ≡ a′ → b ≡ b′ → c ≡ c′ → d ≡ d′
+    → _≡_ {A = List ℕ} (a ∷ b ∷ top ∷ c ∷ d ∷ []) (a′ ∷ b′ ∷ top ∷ c′ ∷ d′ ∷ [])
+words-are top e f g h = cc
+
+-- what a call leaves of the lent memory
+left-is : (m : Memory) (l : Ledger) (c : Call) → let o = step m c in
+    let l′ = ledgerAfter l c (o .answer) (o .refusal) in
+    Ran m l c o l′ → Left (closed m) (calledOf o) l′
+unfolding closed wordsOf
+left-is m l c r =
+    let o = step m c in
+    let back = opened-closed (o .after) (top-fits (o .after) (r .good)) in
+    record {
+      same = λ h. ap closed (refused-same m c h);
+      sizes = subst (SizedFor _) (sym back) (subst (λ (p : ℕ). SizedFor p (o .after)) (sym (r .size)) (r .good .sizes));
+      books = subst BooksSound (sym back) (r .good .books);
+      control = (
+        topWord (o .after .control .top),
+        words-are _ (sym (r .size)) (ap (λ (x : Memory). x .control .hand) (sym back)) (r .agrees .inserted) (r .agrees .flushed),
+      );
+    }
 
 -- what holds of the calls over the memory holds of those that the till program makes
-pub lift : (m : Memory) (l : Ledger) (cs : List Made) → Good m → FitsMade cs → Runs m l (callsOf cs) → Claim (closed m) l cs
-lift m l [] g f r = tt
-lift m l (c ∷ cs) g f r =
+pub lift : (m : Memory) (l : Ledger) (cs : List Made) → Good m → HeldWords m → FitsMade cs → Runs m l (callsOf cs)
+    → ClaimFor (calling step) (closed m) l cs
+lift m l [] g w f r = tt
+lift m l (c ∷ cs) g w f r =
     let o = step m (c .call) in
-    let back = outcome-is o (r .0) in
-    let says : Says m l c cs (calledOf o) = (
-      subst (λ (x : Outcome). Agrees m l (c .call) x (ledgerAfter l (c .call) (x .answer) (x .refusal))) (sym back) (r .1),
-      lift (o .after) _ cs (r .0) (f .2) (r .2),
+    let back = outcome-is o (r .0 .good) in
+    let says : Says m (closed m) l c cs (calledOf o) = (
+      subst (λ (x : Outcome). Agrees m l (c .call) x (ledgerAfter l (c .call) (x .answer) (x .refusal))) (sym back) (r .0 .agrees),
+      left-is m l (c .call) (r .0),
+      subst (Published m (c .call)) (sym back) (published m (c .call) g w),
+      lift (o .after) _ cs (r .0 .good) (r .0 .words) (f .2) (r .1),
     ) in
-    let e = called-closed (λ k. step k (c .call)) m (own (c .call)) (c .answer) (top-fits m g) (f .1) (r .1 .same) in
-    subst (λ (k : Memory). Says k l c cs (called (λ x. step x (c .call)) (closed m) (own (c .call)) (c .answer)))
-    (sym (opened-closed m (top-fits m g)))
-    (subst (Says m l c cs) (sym e) says)
+    let fits = top-fits m g in
+    let e = called-closed (λ k. step k (c .call)) m (own (c .call)) (c .answer) fits (f .1) (refused-same m (c .call)) in
+    subst (λ (k : Memory). Says k (closed m) l c cs (called (λ x. step x (c .call)) (closed m) (own (c .call)) (c .answer)))
+    (sym (opened-closed m fits))
+    (subst (Says m (closed m) l c cs) (sym e) says)

@@ -23,7 +23,6 @@ use Rattle.shelf.proofs.CallKinds.{not-checkpoint}
 use Rattle.shelf.proofs.Kept.{View, shelfOf, ledgerOf, viewOf, Nobody, Kept}
 use Rattle.shelf.proofs.KeptLaws.{isPlace-true, isPlace-self, Alike, kept-alike, pins-nobody, holds-none}
 use Rattle.shelf.proofs.HighestLaws.{highest-still, highest-one}
-use Rattle.shelf.proofs.Refused.{PinSays}
 use Rattle.shelf.proofs.Accepted.{Accepted, ledgerThen}
 use Rattle.shelf.proofs.LoadKept.{viewLoad}
 
@@ -90,7 +89,6 @@ module _ (m : Memory) (v : View) (n : PageName) (g : ℕ) (answer : List ℕ) (m
     pub number : refuses (shelfOf m v) (Pin n) ≡ 0
     pub words : Answers (done answer [] m′) (Pin n)
     pub rule : PinRule (shelfOf m v) (done answer [] m′) g
-    pub pin : PinSays m v (Pin n) (done answer [] m′)
     pub many : buffers m ≡ buffers m′
     pub wide : size m ≡ size m′
     pub rows : m .rows ≡ m′ .rows
@@ -110,7 +108,6 @@ module _ (m : Memory) (v : View) (n : PageName) (g : ℕ) (answer : List ℕ) (m
         number = a .number;
         answers = a .words;
         shows = (g, place, a .rule);
-        pin = a .pin;
         many = a .many;
         wide = a .wide;
         rows = ap (λ (f : Found). pinnedAt s b f .rows) place ∙ a .rows;

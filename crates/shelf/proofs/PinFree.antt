@@ -2,7 +2,6 @@
 use Prim.Native.Nat.{ℕ}
 use mathlib.Core.Path.{_≡_, refl, sym, subst}
 use mathlib.Core.List.{List, [], _∷_}
-use native.Mathlib.Omega.{arith}
 use Rattle.laws.specs.First.{found}
 use Rattle.buftag.specs.declared.link.Link.the-variants.{To}
 use Rattle.buftag.specs.declared.lookup.Held.the-variants.{Nowhere}
@@ -11,7 +10,6 @@ use Rattle.buftag.specs.Link.{linkOf}
 use Rattle.bufmodel.specs.Rows.{storeBlocks, placeOf}
 use Rattle.bufmodel.specs.Memory.{Memory}
 use Rattle.bufmodel.specs.Moves.{loadAt, load}
-use Rattle.bufmodel.specs.Outcome.{done}
 use Rattle.bufmodel.specs.Pin.{heldIn}
 use Rattle.bufmodel.specs.Step.{Pin}
 use Rattle.bufmodel.proofs.HeldLaws.{empty-unpinned}
@@ -19,36 +17,26 @@ use Rattle.bufmodel.proofs.FreeListLaws.{top-empty}
 use Rattle.bufmodel.proofs.LoadLaws.{load-is, load-buffers}
 use Rattle.shelf.specs.Shelf.{refuses}
 use Rattle.shelf.specs.Ledger.{bufferIn, wroteIn}
-use Rattle.shelf.specs.Statement.{Sought, free}
 use Rattle.shelf.proofs.Kept.{View, shelfOf, ledgerOf, Kept}
-use Rattle.shelf.proofs.Refused.{PinSays}
 use Rattle.shelf.proofs.Accepted.{Accepted}
 use Rattle.shelf.proofs.HighestLaws.{highest-still}
 use Rattle.shelf.proofs.NamePage.{held-nobody}
 use Rattle.shelf.proofs.LoadKept.{kept-load}
 use Rattle.shelf.proofs.PinAccepted.{PinAccepted, new-rule, pin-accepted}
 
--- its probes are none
-pub sought-free : (m : Memory) (n : PageName) (i : ℕ) (m′ : Memory) → heldIn m n ≡ Nowhere → linkOf (m .control .top) ≡ To i
-    → m′ .control .hand ≡ m .control .hand → Sought m n (done (i ∷ 0 ∷ 0 ∷ 0 ∷ []) [] m′)
-sought-free m n i m′ new top hand =
-    record { probes = 0; looked = free new top hand; bound = omega arith; atSix = λ e. absurd (omega arith); answered = λ e. refl }
-
 module _ (m : Memory) (v : View) (k : Kept m v) (n : PageName) (i g : ℕ) (new : heldIn m n ≡ Nowhere)
     (top : linkOf (m .control .top) ≡ To i) (place : placeOf (m .rows) n ≡ found g) where
   abbrev answer : List ℕ
   answer = i ∷ 0 ∷ 0 ∷ 0 ∷ []
 
-  free-new : refuses (shelfOf m v) (Pin n) ≡ 0 → PinSays m v (Pin n) (done answer [] (loadAt m n i g))
-      → PinAccepted m v n g answer (loadAt m n i g)
+  free-new : refuses (shelfOf m v) (Pin n) ≡ 0 → PinAccepted m v n g answer (loadAt m n i g)
   unfolding loadAt bufferIn wroteIn
-  free-new number pin =
+  free-new number =
       let t = top-empty m (k .good) i top in
       record {
         number = number;
         words = (i, 0, 0, 0, refl);
         rule = new-rule m v k g (held-nobody m (k .good) n g place new) i (t .0) (empty-unpinned m i (t .1)) _ _;
-        pin = pin;
         many = sym (load-buffers m n i g);
         wide = refl;
         rows = refl;
@@ -60,10 +48,9 @@ module _ (m : Memory) (v : View) (k : Kept m v) (n : PageName) (i g : ℕ) (new 
       }
 
   -- the pin as the program makes it, accepted
-  pub free-accepted : refuses (shelfOf m v) (Pin n) ≡ 0 → PinSays m v (Pin n) (done (i ∷ 0 ∷ 0 ∷ 0 ∷ []) [] (load m n))
+  pub free-accepted : refuses (shelfOf m v) (Pin n) ≡ 0
       → Accepted m v (Pin n) (i ∷ 0 ∷ 0 ∷ 0 ∷ []) [] (load m n)
-  free-accepted number pin =
+  free-accepted number =
       let e = load-is m n i g top place in
       subst (λ (o : Memory). Accepted m v (Pin n) answer [] o) (sym e)
-      (pin-accepted m v n g answer (loadAt m n i g) place
-      (free-new number (subst (λ (o : Memory). PinSays m v (Pin n) (done answer [] o)) e pin)))
+      (pin-accepted m v n g answer (loadAt m n i g) place (free-new number))

@@ -18,7 +18,7 @@ use Rattle.bufmodel.specs.Step.{Pin}
 use Rattle.bufmodel.proofs.WordLaws.{pins-pinned, pin-more}
 use Rattle.shelf.specs.Shelf.{with}
 use Rattle.shelf.specs.Ledger.{bufferIn, wroteIn}
-use Rattle.shelf.specs.Statement.{PinRule, hit, Sought}
+use Rattle.shelf.specs.Statement.{PinRule}
 use Rattle.shelf.proofs.Kept.{View, shelfOf, ledgerOf, Has, Kept}
 use Rattle.shelf.proofs.KeptLaws.{pins-has, holds-page, holds-none}
 use Rattle.shelf.proofs.WithLaws.{with-old}
@@ -27,8 +27,8 @@ use Rattle.shelf.proofs.HighestLaws.{highest-still}
 use Rattle.shelf.proofs.NamePage.{held-has}
 use Rattle.shelf.proofs.LoadKept.{viewLoad}
 use Rattle.shelf.proofs.TurnKept.{pins-kept}
-use Rattle.shelf.proofs.PinPlaces.{pin-number, pin-place, pin-room}
-use Rattle.shelf.proofs.PinSix.{pin-says}
+use Rattle.shelf.proofs.MemoryPlaces.{pin-place, pin-room}
+use Rattle.shelf.proofs.PinPlaces.{pin-number}
 use Rattle.shelf.proofs.PinAccepted.{pin-accepted}
 
 module _ (m : Memory) (v : View) (k : Kept m v) (n : PageName) (b : BufferNumber) (e : heldIn m n ≡ At b)
@@ -60,10 +60,6 @@ module _ (m : Memory) (v : View) (k : Kept m v) (n : PageName) (b : BufferNumber
         fresh = λ f. holds-none m v k (b .0) (has .below) (sym p ∙ f);
       }
 
-  hit-sought : Sought m n (done answer [] now)
-  hit-sought =
-      record { probes = 0; looked = hit {b = b} e refl; bound = omega arith; atSix = λ q. absurd (omega arith); answered = λ q. refl }
-
   hit-kept : Kept now (viewLoad v (b .0) g)
   hit-kept =
       let f = pin-more (k .words (b .0) (has .below) (has .full)) (pin-room m n z b e) in
@@ -82,7 +78,6 @@ module _ (m : Memory) (v : View) (k : Kept m v) (n : PageName) (b : BufferNumber
         number = sym (pin-number m v k n) ∙ z;
         words = (b .0, 1, 0, 0, refl);
         rule = hit-rule;
-        pin = pin-says m v k n (done answer [] now) z hit-sought;
         many = sym (length-set (m .states) (b .0) (pinMore word));
         wide = refl;
         rows = refl;

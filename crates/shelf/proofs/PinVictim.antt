@@ -3,9 +3,6 @@ use Prim.Native.Nat.{ℕ, _+_, _*_, _≤_, _<_}
 use mathlib.Core.Path.{_≡_, refl, sym, _∙_, subst}
 use mathlib.Core.Bool.{Bool, true, false}
 use mathlib.Core.List.{List, [], _∷_}
-use native.Mathlib.Omega.{arith}
-use lib.ListN.{set}
-use lib.Seq.{set-set}
 use lib.Dec.{eqb}
 use Rattle.laws.specs.Sum.{ind}
 use Rattle.laws.specs.First.{found}
@@ -13,12 +10,11 @@ use Rattle.buftag.specs.declared.link.Link.the-variants.{End}
 use Rattle.buftag.specs.declared.lookup.Held.the-variants.{Nowhere}
 use Rattle.buftag.specs.declared.name.PageName.{PageName}
 use Rattle.buftag.specs.Link.{linkOf}
-use Rattle.bufmodel.specs.Word.{usage, pinned, dirty, maxUsage, loaded}
+use Rattle.bufmodel.specs.Word.{usage, pinned, dirty, maxUsage}
 use Rattle.bufmodel.specs.Rows.{storeBlocks, placeOf}
 use Rattle.bufmodel.specs.Memory.{Memory, buffers, wordOf, nameOf, withStates, withHand}
 use Rattle.bufmodel.specs.Sweep.{Swept, Sweeps, sweepAll}
 use Rattle.bufmodel.specs.Moves.{writeBack, release, loadAt, load}
-use Rattle.bufmodel.specs.Outcome.{done}
 use Rattle.bufmodel.specs.Pin.{heldIn}
 use Rattle.bufmodel.specs.Step.{Pin}
 use Rattle.bufmodel.proofs.RowsLaws.{place-in}
@@ -30,10 +26,8 @@ use Rattle.bufmodel.proofs.FreeListLaws.{top-end}
 use Rattle.bufmodel.proofs.LoadLaws.{load-is, load-buffers}
 use Rattle.shelf.specs.Shelf.{refuses}
 use Rattle.shelf.specs.Ledger.{bufferIn, wroteIn}
-use Rattle.shelf.specs.Statement.{Sought, taken}
 use Rattle.shelf.proofs.Kept.{View, shelfOf, ledgerOf, Has, Nobody, Kept}
 use Rattle.shelf.proofs.KeptLaws.{has-page}
-use Rattle.shelf.proofs.Refused.{PinSays}
 use Rattle.shelf.proofs.Accepted.{Accepted}
 use Rattle.shelf.proofs.SweptKept.{sweptIn, swept-from, swept-has, has-swept, kept-swept}
 use Rattle.shelf.proofs.ReleaseKept.{has-release, kept-release}
@@ -61,20 +55,6 @@ module _ (m : Memory) (v : View) (k : Kept m v) (top : linkOf (m .control .top) 
   victim-sweeps : Sweeps (buffers m) 0 (m .control .hand) (m .states) (sweepOf m)
       × (sweepOf m .probes ≤ (maxUsage + 1) * buffers m)
   victim-sweeps = sweepAll-relates (m .states) (m .control .hand) (k .good .books .hand) few-used
-
-  -- its probes are answered
-  sought-victim : (n : PageName) (w x : ℕ) (m′ : Memory) → heldIn m n ≡ Nowhere → sweepOf m .victim ≡ found w
-      → m′ .control .hand ≡ sweepOf m .hand → m′ .states ≡ set (sweepOf m .words) w loaded
-      → Sought m n (done (w ∷ 0 ∷ x ∷ sweepOf m .probes ∷ []) [] m′)
-  unfolding bufferIn
-  sought-victim n w x m′ new victim hand words =
-      record {
-        probes = sweepOf m .probes;
-        looked = taken new top refl (victim-sweeps .0) victim hand words;
-        bound = victim-sweeps .1;
-        atSix = λ e. absurd (omega arith);
-        answered = λ e. refl;
-      }
 
 -- ---- a buffer with a clean unpinned page is released, and another page that no buffer has is loaded there
 module _ (m : Memory) (v : View) (k : Kept m v) (w h : ℕ) (own : Has m w h) (free : pinned (wordOf m w) ≡ false)
@@ -149,28 +129,18 @@ module _ (m : Memory) (v : View) (k : Kept m v) (n : PageName) (w g : ℕ) (new 
     after-kept : Kept after (viewLoad (viewWrote v (wroteIn answer) w) w g)
     after-kept = kept-changed backed _ (back .kept) w (page .0) (back .has) (back .free) (back .clean) n g backed-place none
 
-    -- the hand and the words are those that the sweep left, but for the page just loaded
-    after-hand : after .control .hand ≡ s .hand
-    unfolding loadAt release writeBack
-    after-hand = refl
-
-    after-words : after .states ≡ set (s .words) w loaded
-    unfolding loadAt release writeBack
-    after-words = set-set (set (s .words) w _) w 0 loaded ∙ set-set (s .words) w _ loaded
-
     after-many : buffers m ≡ buffers after
     after-many =
         sym (load-buffers (release backed w) n w g ∙ release-buffers backed w ∙ back-buffers swept w ∙ from .same-length)
 
-    victim-new : refuses (shelfOf m v) (Pin n) ≡ 0 → PinSays m v (Pin n) (done answer [] after) → PinAccepted m v n g answer after
+    victim-new : refuses (shelfOf m v) (Pin n) ≡ 0 → PinAccepted m v n g answer after
     unfolding loadAt release writeBack bufferIn
-    victim-new number pin =
+    victim-new number =
         record {
           number = number;
           words = (w, 0, ind (dirty (wordOf m w)), s .probes, refl);
           rule = new-rule m v k g (held-nobody m (k .good) n g place new) w below
               (sym (less-pinned (from .each w)) ∙ from .taken w victim .1) _ _;
-          pin = pin;
           many = after-many;
           wide = refl;
           rows = refl;
@@ -186,17 +156,8 @@ module _ (m : Memory) (v : View) (k : Kept m v) (n : PageName) (w g : ℕ) (new 
   -- the pin as the program makes it, accepted
   pub victim-accepted : s .victim ≡ found w → refuses (shelfOf m v) (Pin n) ≡ 0
       → let m′ = load (release (writeBack (withHand (s .hand) (withStates (s .words) m)) w) w) n in
-      PinSays m v (Pin n) (done answer [] m′) → Accepted m v (Pin n) answer [] m′
-  victim-accepted victim number pin =
+      Accepted m v (Pin n) answer [] m′
+  victim-accepted victim number =
       let e = after-is victim in
       subst (λ (o : Memory). Accepted m v (Pin n) answer [] o) (sym e)
-      (pin-accepted m v n g answer (after victim) place
-      (victim-new victim number (subst (λ (o : Memory). PinSays m v (Pin n) (done answer [] o)) e pin)))
-
-  -- and its probes
-  pub victim-sought : s .victim ≡ found w
-      → let m′ = load (release (writeBack (withHand (s .hand) (withStates (s .words) m)) w) w) n in
-      Sought m n (done answer [] m′)
-  victim-sought victim =
-      subst (λ (o : Memory). Sought m n (done answer [] o)) (sym (after-is victim))
-      (sought-victim m v k top n w _ (after victim) new victim (after-hand victim) (after-words victim))
+      (pin-accepted m v n g answer (after victim) place (victim-new victim number))

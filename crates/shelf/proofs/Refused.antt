@@ -1,22 +1,18 @@
 -- A call is refused or accepted: refused, it has the same number on the shelf, and nothing changes on either side.
 use Prim.Native.Nat.{ℕ, zero, suc, _<_}
 use mathlib.Core.Path.{_≡_, refl, sym, ap, _∙_, subst}
-use mathlib.Core.Logic.{_≢_, _↔_}
+use mathlib.Core.Logic.{_≢_}
 use mathlib.Core.Bool.{Bool, true, false}
 use mathlib.Core.List.{List, [], _∷_}
 use native.Mathlib.Omega.{arith}
-use lib.ListN.{length}
-use Rattle.laws.specs.First.{found}
-use Rattle.buftag.specs.declared.name.PageName.{PageName}
-use Rattle.bufmodel.specs.Rows.{placeOf}
 use Rattle.bufmodel.specs.Memory.{Memory}
 use Rattle.bufmodel.specs.Outcome.{Outcome, Place, place, refusalOf, checked, refused, outcome}
-use Rattle.bufmodel.specs.Calls.{part, partAt}
-use Rattle.bufmodel.specs.Step.{Call, Pin, step}
+use Rattle.bufmodel.specs.Step.{Call, step}
 use Rattle.bufmodel.proofs.GoodLaws.{checked-good}
-use Rattle.shelf.specs.Shelf.{hasPins, pinnedPages, refuses}
+use Rattle.shelf.specs.Shelf.{refuses}
 use Rattle.shelf.specs.Ledger.{ledgerAfter, puts}
-use Rattle.shelf.specs.Statement.{Sought, own}
+use Rattle.shelf.specs.Statement.{own}
+use Rattle.shelf.proofs.ShelfPlaces.{six-of}
 use Rattle.shelf.proofs.Kept.{View, shelfOf, Kept, Ended}
 
 -- ---- neither 1 nor 2
@@ -32,22 +28,12 @@ unfolding refusalOf
 neither-place k true later h c = (omega arith, omega arith)
 neither-place k false later h c = c
 
--- ---- what a pin has to say besides
-pub record PinSays (m : Memory) (v : View) (c : Call) (o : Outcome) : Type 0 where
-  pub six : (n : PageName) → c ≡ Pin n → (g : ℕ) → placeOf (m .rows) n ≡ found g
-      → (o .refusal ≡ 6) ↔ ((pinnedPages (shelfOf m v) ≡ length (m .states)) × (hasPins (shelfOf m v) g ≡ false))
-  pub sought : (n : PageName) → c ≡ Pin n → Sought m n o
-
--- the other calls have nothing to say there
-pub no-pin : (m : Memory) (v : View) (c : Call) (o : Outcome) → ((n : PageName) → c ≡ Pin n → ⊥) → PinSays m v c o
-no-pin m v c o not = record { six = λ n e. absurd (not n e); sought = λ n e. absurd (not n e) }
-
 -- ---- the step
 module _ (m : Memory) (v : View) (c : Call) (kept : Kept m v) where
-  refused-ended : (k : ℕ) → Neither (suc k) → suc k ≡ refuses (shelfOf m v) c → PinSays m v c (refused (suc k) (own c) m)
+  refused-ended : (k : ℕ) → Neither (suc k) → suc k ≡ refuses (shelfOf m v) c
       → Ended m v c (refused (suc k) (own c) m)
-  unfolding ledgerAfter puts part partAt
-  refused-ended k neither number pin =
+  unfolding ledgerAfter puts
+  refused-ended k neither number =
       record {
         agrees =
             record {
@@ -56,12 +42,10 @@ module _ (m : Memory) (v : View) (c : Call) (kept : Kept m v) where
               answers = λ z. absurd (omega arith);
               shows = λ z. absurd (omega arith);
               blank = λ h. refl;
-              kept = λ h. (refl, refl);
-              same = λ h. refl;
+              kept = λ h. refl;
               rows = refl;
               inserted = refl;
-              six = pin .six;
-              sought = pin .sought;
+              six = six-of (shelfOf m v) c number;
               flushed = refl;
               ordered = λ g h. kept .put g h .1;
               others = λ g h z. refl;
@@ -75,13 +59,13 @@ module _ (m : Memory) (v : View) (c : Call) (kept : Kept m v) where
   -- ---- a call with these places of its own, which ends so where it is accepted
   pub call-step : (ps : List Place) (o : Outcome) → step m c ≡ outcome (checked m ps) (own c) m o
       → refusalOf ps ≡ refuses (shelfOf m v) c → Neither (refusalOf ps)
-      → ((k : ℕ) → k ≢ 0 → refusalOf ps ≡ k → PinSays m v c (refused k (own c) m)) → (refusalOf ps ≡ 0 → Ended m v c o)
+      → (refusalOf ps ≡ 0 → Ended m v c o)
       → Ended m v c (step m c)
   unfolding outcome
-  call-step ps o e number neither pin done =
+  call-step ps o e number neither done =
       subst (Ended m v c) (sym (e ∙ ap (λ (n : ℕ). outcome n (own c) m o) (checked-good m (kept .good) ps))) (go (refusalOf ps) refl)
     where
       go : (n : ℕ) → refusalOf ps ≡ n → Ended m v c (outcome n (own c) m o)
       go zero q = done q
       go (suc n) q =
-          refused-ended n (subst Neither q neither) (sym q ∙ number) (pin (suc n) (omega arith) q)
+          refused-ended n (subst Neither q neither) (sym q ∙ number)

@@ -22,10 +22,10 @@ use Rattle.bufmodel.proofs.RowsLaws.{place-row}
 use Rattle.shelf.specs.Shelf.{places, refuses, shelfAfter}
 use Rattle.shelf.specs.Ledger.{highest}
 use Rattle.shelf.specs.Ledger.{backBy, newBy, putBy, dirtiedBy, dirtyAfter, lastAfter, saidFlushed, flushedAfter, acceptedBy}
-use Rattle.shelf.proofs.CallKinds.{not-pin}
 use Rattle.shelf.proofs.Kept.{View, shelfOf, ledgerOf, Has, Kept, Ended}
 use Rattle.shelf.proofs.KeptLaws.{some-or-none, kept-alike}
-use Rattle.shelf.proofs.Refused.{neither-none, no-pin, call-step}
+use Rattle.shelf.proofs.ShelfPlaces.{refuses-is}
+use Rattle.shelf.proofs.Refused.{neither-none, call-step}
 use Rattle.shelf.proofs.Accepted.{Accepted, accepted-ended}
 use Rattle.shelf.proofs.HighestLaws.{highest-is}
 use Rattle.shelf.proofs.BackUpTo.{backWith, viewWith, BackUpTo, back-up-to}
@@ -81,7 +81,6 @@ module _ (m : Memory) (v : View) (k : Kept m v) (r : BackUpTo m v (buffers m)) w
         number = number;
         answers = (n, refl);
         shows = refl;
-        pin = no-pin m v Checkpoint _ (not-pin refl);
         many = sym (r .many);
         wide = refl;
         rows = refl;
@@ -109,9 +108,9 @@ module _ (m : Memory) (v : View) (k : Kept m v) (r : BackUpTo m v (buffers m)) w
       (accepted-ended m v Checkpoint (one n) [] now (checkpoint-accepted number n))
 
 pub checkpoint-step : (m : Memory) (v : View) → Kept m v → Ended m v Checkpoint (step m Checkpoint)
-unfolding step checkpoint refuses places
+unfolding step checkpoint places
 checkpoint-step m v k =
     let n = count (buffers m) (λ i. dirty (wordOf m i)) in
-    call-step m v Checkpoint k [] (done (one n) [] (writeUpTo (buffers m) m)) refl refl neither-none
-    (λ j h e. no-pin m v Checkpoint _ (not-pin refl))
-    (λ e. checkpoint-ended m v k (back-up-to m v k (buffers m) (omega arith)) e n)
+    let number = refuses-is (shelfOf m v) Checkpoint in
+    call-step m v Checkpoint k [] (done (one n) [] (writeUpTo (buffers m) m)) refl (sym number) neither-none
+    (λ e. checkpoint-ended m v k (back-up-to m v k (buffers m) (omega arith)) (number ∙ e) n)

@@ -16,13 +16,14 @@ use Rattle.bufmodel.specs.Calls.{filePinned, dropAt, dropFile}
 use Rattle.bufmodel.specs.Step.{Drop, step}
 use Rattle.bufmodel.proofs.OutcomeLaws.{refusal-at, refusal-same, refusal-passed}
 use Rattle.bufmodel.proofs.DropLaws.{none-pinned, Released, released-all}
-use Rattle.shelf.specs.Shelf.{Shelf, withRows, filePinned as pagesPinned, places, refuses, droppedAt, shelfAfter}
+use Rattle.shelf.specs.Shelf.{Shelf, noFile, withRows, filePinned as pagesPinned, places, refuses, droppedAt, shelfAfter}
 use Rattle.shelf.specs.Ledger.{inRow}
 use Rattle.shelf.specs.Ledger.{backBy, newBy, putBy, dirtiedBy, dirtyAfter, lastAfter, saidFlushed, flushedAfter, acceptedBy}
-use Rattle.shelf.proofs.CallKinds.{not-pin, not-checkpoint}
+use Rattle.shelf.proofs.CallKinds.{not-checkpoint}
 use Rattle.shelf.proofs.Kept.{View, shelfOf, ledgerOf, viewOf, Kept, Ended}
 use Rattle.shelf.proofs.KeptLaws.{Alike, kept-alike}
-use Rattle.shelf.proofs.Refused.{neither-none, neither-place, no-pin, call-step}
+use Rattle.shelf.proofs.ShelfPlaces.{refuses-is}
+use Rattle.shelf.proofs.Refused.{neither-none, neither-place, call-step}
 use Rattle.shelf.proofs.Accepted.{ledgerThen, Accepted, accepted-ended}
 use Rattle.shelf.proofs.HighestLaws.{highest-still}
 use Rattle.shelf.proofs.FilePages.{file-pinned-same}
@@ -57,9 +58,10 @@ missing-refused = refl
 module _ (m : Memory) (v : View) (k : Kept m v) (f : FileName) where
   -- the same number
   drop-number : (r : Found) → rowOf (m .rows) f ≡ r
-      → refusalOf (dropPlaces r (filePinned m f)) ≡ refusalOf (dropPlaces r (pagesPinned (shelfOf m v) r))
+      → refusalOf (dropPlaces r (filePinned m f)) ≡ refusalOf (place 3 (noFile r) ∷ place 14 (pagesPinned (shelfOf m v) r) ∷ [])
+  unfolding noRow noFile
   drop-number (found r) e = refusal-same 3 _ _ refl (refusal-same 14 [] [] (file-pinned-same m v k f r e) refl)
-  drop-number missing e = refusal-at 3 _ missing-refused ∙ sym (refusal-at 3 _ missing-refused)
+  drop-number missing e = refusal-at 3 _ missing-refused ∙ sym (refusal-at 3 _ refl)
 
   -- ---- accepted
   module _ (r : ℕ) (e : rowOf (m .rows) f ≡ found r) (none : filePinned m f ≡ false) (z : refuses (shelfOf m v) (Drop f) ≡ 0) where
@@ -71,7 +73,6 @@ module _ (m : Memory) (v : View) (k : Kept m v) (f : FileName) where
           number = z;
           answers = refl;
           shows = refl;
-          pin = no-pin m v (Drop f) _ (not-pin refl);
           many = sym (x .many);
           wide = refl;
           rows = ap (λ (s : Shelf). s .rows) (shelf-dropped m v f r e _);
@@ -99,10 +100,9 @@ module _ (m : Memory) (v : View) (k : Kept m v) (f : FileName) where
   drop-done missing e z q = never missing-refused (refusal-passed 3 _ _ (omega arith) q .0)
 
 pub drop-step : (m : Memory) (v : View) → Kept m v → (f : FileName) → Ended m v (Drop f) (step m (Drop f))
-unfolding step dropFile refuses places
+unfolding step dropFile places
 drop-step m v k f =
     let r = rowOf (m .rows) f in
-    let number = drop-number m v k f r refl in
+    let number = drop-number m v k f r refl ∙ sym (refuses-is (shelfOf m v) (Drop f)) in
     call-step m v (Drop f) k (dropPlaces r (filePinned m f)) (dropAt m f r) refl number
-    (neither-place 3 _ _ (omega arith) (neither-place 14 _ [] (omega arith) neither-none))
-    (λ n h e. no-pin m v (Drop f) _ (not-pin refl)) (λ q. drop-done m v k f r refl (sym number ∙ q) q)
+    (neither-place 3 _ _ (omega arith) (neither-place 14 _ [] (omega arith) neither-none)) (λ q. drop-done m v k f r refl (sym number ∙ q) q)

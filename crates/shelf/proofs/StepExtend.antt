@@ -17,12 +17,13 @@ use Rattle.bufmodel.specs.Calls.{fileFull, extendAt, extend}
 use Rattle.bufmodel.specs.Step.{Extend, step}
 use Rattle.bufmodel.proofs.RowsLaws.{row-found}
 use Rattle.bufmodel.proofs.OutcomeLaws.{refusal-passed}
-use Rattle.shelf.specs.Shelf.{Shelf, places, refuses, nextBlock, extendedAt, shelfAfter}
+use Rattle.shelf.specs.Shelf.{Shelf, noFile, noRoom, places, refuses, nextBlock, extendedAt, shelfAfter}
 use Rattle.shelf.specs.Ledger.{backBy, newAt, newBy, putBy, dirtiedBy, dirtyAfter, lastAfter, saidFlushed, flushedAfter, acceptedBy}
-use Rattle.shelf.proofs.CallKinds.{not-pin, not-checkpoint}
+use Rattle.shelf.proofs.CallKinds.{not-checkpoint}
 use Rattle.shelf.proofs.Kept.{View, shelfOf, ledgerOf, viewOf, Kept, Ended}
 use Rattle.shelf.proofs.KeptLaws.{Alike, kept-alike}
-use Rattle.shelf.proofs.Refused.{neither-none, neither-place, no-pin, call-step}
+use Rattle.shelf.proofs.ShelfPlaces.{refuses-is}
+use Rattle.shelf.proofs.Refused.{neither-none, neither-place, call-step}
 use Rattle.shelf.proofs.Accepted.{ledgerThen, shelfThen, Accepted, accepted-ended}
 use Rattle.shelf.proofs.HighestLaws.{highest-still}
 use Rattle.shelf.proofs.ExtendKept.{placeMore, memoryMore, viewMore, store-other, store-long, kept-more}
@@ -75,7 +76,6 @@ module _ (m : Memory) (v : View) (k : Kept m v) (f : FileName) (r : ℕ) (e : ro
         number = z;
         answers = (_, refl);
         shows = (r, e, refl);
-        pin = no-pin m v (Extend f) _ (not-pin refl);
         many = refl;
         wide = refl;
         rows = ap (λ (s : Shelf). s .rows) shelf-then;
@@ -96,11 +96,21 @@ module _ (m : Memory) (v : View) (k : Kept m v) (f : FileName) where
       (extend-accepted m v k f r e z (places-room (m .rows) r h))
   extend-ended missing e z h = absurd (no-places (m .rows) h)
 
+  -- the shelf refuses it alike
+  extend-number : refusalOf (placesAt (m .rows) (rowOf (m .rows) f)) ≡ refuses (shelfOf m v) (Extend f)
+  unfolding places fileFull noRoom noRow noFile
+  extend-number = go (rowOf (m .rows) f) ∙ sym (refuses-is _ _)
+    where
+      go : (r : Found)
+          → refusalOf (placesAt (m .rows) r) ≡ refusalOf (place 3 (noFile r) ∷ place 13 (noRoom (shelfOf m v) r) ∷ [])
+      go (found r) = refl
+      go missing = refl
+
 -- Extend
 pub extend-step : (m : Memory) (v : View) → Kept m v → (f : FileName) → Ended m v (Extend f) (step m (Extend f))
-unfolding step extend refuses places
+unfolding step extend
 extend-step m v k f =
     let o = rowOf (m .rows) f in
-    call-step m v (Extend f) k (placesAt (m .rows) o) (extendAt m o) refl refl
-    (neither-place 3 _ _ (omega arith) (neither-place 13 _ [] (omega arith) neither-none)) (λ n h e. no-pin m v (Extend f) _ (not-pin refl))
-    (λ e. extend-ended m v k f o refl e e)
+    call-step m v (Extend f) k (placesAt (m .rows) o) (extendAt m o) refl (extend-number m v k f)
+    (neither-place 3 _ _ (omega arith) (neither-place 13 _ [] (omega arith) neither-none))
+    (λ e. extend-ended m v k f o refl (sym (extend-number m v k f) ∙ e) e)

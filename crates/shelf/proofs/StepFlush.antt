@@ -20,10 +20,11 @@ use Rattle.bufmodel.specs.Step.{Flush, step}
 use Rattle.shelf.specs.Shelf.{places, refuses, shelfAfter}
 use Rattle.shelf.specs.Ledger.{isPlace, highest}
 use Rattle.shelf.specs.Ledger.{backBy, newBy, putBy, dirtiedBy, dirtyAfter, lastAfter, saidFlushed, flushedAfter, acceptedBy}
-use Rattle.shelf.proofs.CallKinds.{not-pin, not-checkpoint}
+use Rattle.shelf.proofs.CallKinds.{not-checkpoint}
 use Rattle.shelf.proofs.Kept.{View, shelfOf, ledgerOf, Has, Kept, Ended}
 use Rattle.shelf.proofs.KeptLaws.{isPlace-true, isPlace-self, isPlace-other, kept-alike}
-use Rattle.shelf.proofs.Refused.{neither-none, no-pin, call-step}
+use Rattle.shelf.proofs.ShelfPlaces.{refuses-is}
+use Rattle.shelf.proofs.Refused.{neither-none, call-step}
 use Rattle.shelf.proofs.Accepted.{Accepted, accepted-ended}
 use Rattle.shelf.proofs.HighestLaws.{highest-none, highest-one}
 use Rattle.shelf.proofs.BackKept.{backOf, back-dirty, back-clean, place-below, back-long, back-other, viewBack, kept-backOf}
@@ -55,7 +56,6 @@ module _ (m : Memory) (v : View) (k : Kept m v) (i g : ℕ) (x : Has m i g) (hel
             number = number;
             answers = (count, refl);
             shows = refl;
-            pin = no-pin m v (Flush i) _ (not-pin refl);
             many = refl;
             wide = refl;
             rows = refl;
@@ -94,7 +94,6 @@ module _ (m : Memory) (v : View) (k : Kept m v) (i g : ℕ) (x : Has m i g) (hel
             number = number;
             answers = (count, refl);
             shows = refl;
-            pin = no-pin m v (Flush i) _ (not-pin refl);
             many = simp length-set;
             wide = refl;
             rows = refl;
@@ -128,11 +127,11 @@ module _ (m : Memory) (v : View) (k : Kept m v) (i g : ℕ) (x : Has m i g) (hel
         (true-or-false (dirty (wordOf m i)))
 
 pub flush-step : (m : Memory) (v : View) → Kept m v → (i : ℕ) → Ended m v (Flush i) (step m (Flush i))
-unfolding step flush refuses places
+unfolding step flush places
 flush-step m v k i =
-    let number = number-same m v k i [] [] (λ h e. refl) in
+    let number = number-same m v k i [] [] (λ h e. refl) ∙ sym (refuses-is (shelfOf m v) (Flush i)) in
     call-step m v (Flush i) k (bufferPlaces m i []) (done (one (ind (dirty (wordOf m i)))) [] (writeBack m i)) refl
-    number (number-neither m i [] neither-none) (λ n h e. no-pin m v (Flush i) _ (not-pin refl))
+    number (number-neither m i [] neither-none)
     (λ e.
     let p = number-page m v k i [] e in
     flush-ended m v k i (p .page) (p .has) (p .holds) (sym number ∙ e) (ind (dirty (wordOf m i))))

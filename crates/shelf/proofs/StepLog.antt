@@ -1,6 +1,6 @@
 -- Log inserted and log flushed agree with the shelf.
 use Prim.Native.Nat.{ℕ, _≤_, max}
-use mathlib.Core.Path.{_≡_, refl}
+use mathlib.Core.Path.{_≡_, refl, sym, _∙_}
 use mathlib.Core.List.{[], _∷_}
 use native.Mathlib.Omega.{arith}
 use lib.Dec.{ltb}
@@ -15,9 +15,10 @@ use Rattle.bufmodel.proofs.LikeLaws.{like-good}
 use Rattle.bufmodel.proofs.OutcomeLaws.{refusal-passed}
 use Rattle.shelf.specs.Shelf.{places, refuses, shelfAfter}
 use Rattle.shelf.specs.Ledger.{backBy, newBy, putBy, dirtiedBy, dirtyAfter, lastAfter, saidFlushed, flushedAfter, acceptedBy}
-use Rattle.shelf.proofs.CallKinds.{not-pin, not-checkpoint}
+use Rattle.shelf.proofs.CallKinds.{not-checkpoint}
 use Rattle.shelf.proofs.Kept.{View, shelfOf, ledgerOf, Kept, Ended}
-use Rattle.shelf.proofs.Refused.{neither-none, neither-place, no-pin, call-step}
+use Rattle.shelf.proofs.ShelfPlaces.{refuses-is}
+use Rattle.shelf.proofs.Refused.{neither-none, neither-place, call-step}
 use Rattle.shelf.proofs.Accepted.{Accepted, accepted-ended}
 use Rattle.shelf.proofs.HighestLaws.{highest-still}
 
@@ -53,7 +54,6 @@ module _ (m : Memory) (v : View) (k : Kept m v) (p : ℕ) where
         number = e;
         answers = refl;
         shows = refl;
-        pin = no-pin m v (LogFlushed p) _ (not-pin refl);
         many = refl;
         wide = refl;
         rows = refl;
@@ -68,14 +68,15 @@ module _ (m : Memory) (v : View) (k : Kept m v) (p : ℕ) where
       }
 
   pub flushed-step : Ended m v (LogFlushed p) (step m (LogFlushed p))
-  unfolding step logFlushed refuses places
+  unfolding step logFlushed places
   flushed-step =
       let ps = place 16 (ltb (m .control .inserted) p) ∷ [] in
-      call-step m v (LogFlushed p) k ps (done zeros [] (withFlushed (max (m .control .flushed) p) m)) refl refl
-      (neither-place 16 _ [] (omega arith) neither-none) (λ n h e. no-pin m v (LogFlushed p) _ (not-pin refl))
+      let number = refuses-is (shelfOf m v) (LogFlushed p) in
+      call-step m v (LogFlushed p) k ps (done zeros [] (withFlushed (max (m .control .flushed) p) m)) refl (sym number)
+      (neither-place 16 _ [] (omega arith) neither-none)
       (λ e.
       accepted-ended m v (LogFlushed p) zeros [] _
-      (flushed-accepted e (ltb-false _ _ (refusal-passed 16 _ [] (omega arith) e .0))))
+      (flushed-accepted (number ∙ e) (ltb-false _ _ (refusal-passed 16 _ [] (omega arith) e .0))))
 
   -- ---- log inserted
   inserted-accepted : refuses (shelfOf m v) (LogInserted p) ≡ 0 → m .control .inserted ≤ p
@@ -86,7 +87,6 @@ module _ (m : Memory) (v : View) (k : Kept m v) (p : ℕ) where
         number = e;
         answers = refl;
         shows = refl;
-        pin = no-pin m v (LogInserted p) _ (not-pin refl);
         many = refl;
         wide = refl;
         rows = refl;
@@ -99,11 +99,12 @@ module _ (m : Memory) (v : View) (k : Kept m v) (p : ℕ) where
       }
 
   pub inserted-step : Ended m v (LogInserted p) (step m (LogInserted p))
-  unfolding step logInserted refuses places
+  unfolding step logInserted places
   inserted-step =
       let ps = place 15 (ltb p (m .control .inserted)) ∷ [] in
-      call-step m v (LogInserted p) k ps (done zeros [] (withInserted p m)) refl refl
-      (neither-place 15 _ [] (omega arith) neither-none) (λ n h e. no-pin m v (LogInserted p) _ (not-pin refl))
+      let number = refuses-is (shelfOf m v) (LogInserted p) in
+      call-step m v (LogInserted p) k ps (done zeros [] (withInserted p m)) refl (sym number)
+      (neither-place 15 _ [] (omega arith) neither-none)
       (λ e.
       accepted-ended m v (LogInserted p) zeros [] _
-      (inserted-accepted e (ltb-false _ _ (refusal-passed 15 _ [] (omega arith) e .0))))
+      (inserted-accepted (number ∙ e) (ltb-false _ _ (refusal-passed 15 _ [] (omega arith) e .0))))

@@ -15,12 +15,13 @@ use Rattle.bufmodel.specs.Calls.{offsetOf, partOf, partIn, partAt, part, peek}
 use Rattle.bufmodel.specs.Step.{Peek, step}
 use Rattle.shelf.specs.Shelf.{places, refuses, shelfAfter}
 use Rattle.shelf.specs.Ledger.{backBy, newBy, putBy, dirtiedBy, dirtyAfter, lastAfter, saidFlushed, flushedAfter, acceptedBy}
-use Rattle.shelf.proofs.CallKinds.{not-pin, not-checkpoint}
+use Rattle.shelf.proofs.CallKinds.{not-checkpoint}
 use Rattle.shelf.proofs.Kept.{View, shelfOf, ledgerOf, Kept, Ended}
-use Rattle.shelf.proofs.Refused.{neither-none, no-pin, call-step}
+use Rattle.shelf.proofs.ShelfPlaces.{refuses-is}
+use Rattle.shelf.proofs.Refused.{neither-none, call-step}
 use Rattle.shelf.proofs.Accepted.{Accepted, accepted-ended, ledgerThen}
 use Rattle.shelf.proofs.Unchanged.{ledger-stays, unchanged}
-use Rattle.shelf.proofs.NamePage.{name-neither, name-passed, held-has, held-nobody}
+use Rattle.shelf.proofs.NamePage.{name-neither, name-passed, names-same, held-has, held-nobody}
 
 -- the part in the store, where the place is known
 part-store : (m : Memory) (n : PageName) {g : ℕ} → placeOf (m .rows) n ≡ found g
@@ -51,13 +52,12 @@ module _ (m : Memory) (v : View) (k : Kept m v) (n : PageName) where
       → Accepted m v (Peek n) (partOf m n (heldIn m n)) [] m
   peek-accepted e g q =
       unchanged m v k (Peek n) _ [] (peek-ledger _) (not-checkpoint refl) e (two-words (heldIn m n)) (g, q, peek-part g q (heldIn m n) refl)
-      (no-pin m v (Peek n) _ (not-pin refl))
 
   pub peek-step : Ended m v (Peek n) (step m (Peek n))
-  unfolding step peek refuses places
+  unfolding step peek places
   peek-step =
-      call-step m v (Peek n) k (namePlaces (m .rows) n []) _ refl refl (name-neither (m .rows) n [] neither-none)
-      (λ j h e. no-pin m v (Peek n) _ (not-pin refl))
+      let number = names-same (shelfOf m v) n [] [] refl ∙ sym (refuses-is (shelfOf m v) (Peek n)) in
+      call-step m v (Peek n) k (namePlaces (m .rows) n []) _ refl number (name-neither (m .rows) n [] neither-none)
       (λ e.
       let p = name-passed (m .rows) n [] e .0 in
-      accepted-ended m v (Peek n) _ [] m (peek-accepted e (p .0) (p .1)))
+      accepted-ended m v (Peek n) _ [] m (peek-accepted (sym number ∙ e) (p .0) (p .1)))

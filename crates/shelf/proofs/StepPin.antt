@@ -13,22 +13,20 @@ use Rattle.buftag.specs.Link.{linkOf}
 use Rattle.buftag.specs.declared.number.BufferNumber.{BufferNumber}
 use Rattle.bufmodel.specs.Rows.{placeOf}
 use Rattle.bufmodel.specs.Memory.{Memory}
-use Rattle.bufmodel.specs.Moves.{load}
 use Rattle.bufmodel.specs.Outcome.{refusalOf}
 use Rattle.bufmodel.specs.Pin.{heldIn, pinPlaces, pinHeld, pinFree, pinVictim, pinSwept, pinNew, pinTo, pin}
 use Rattle.bufmodel.specs.Step.{Pin, step}
 use Rattle.bufmodel.proofs.SweepEnds.{sweep-finds}
 use Rattle.bufmodel.proofs.FreeListLaws.{top-none}
-use Rattle.bufmodel.proofs.LoadLaws.{load-hand}
 use Rattle.shelf.specs.Shelf.{refuses}
 use Rattle.shelf.proofs.Kept.{View, shelfOf, Kept, Ended}
 use Rattle.shelf.proofs.Refused.{call-step}
 use Rattle.shelf.proofs.Accepted.{accepted-ended}
-use Rattle.shelf.proofs.PinPlaces.{pin-number, pin-neither, pin-place, pin-open}
-use Rattle.shelf.proofs.PinSix.{pin-says, pin-refused}
+use Rattle.shelf.proofs.MemoryPlaces.{pin-place, pin-open}
+use Rattle.shelf.proofs.PinPlaces.{pin-number, pin-neither}
 use Rattle.shelf.proofs.PinHit.{hit-accepted}
-use Rattle.shelf.proofs.PinFree.{sought-free, free-accepted}
-use Rattle.shelf.proofs.PinVictim.{sweepOf, few-used, victim-accepted, victim-sought}
+use Rattle.shelf.proofs.PinFree.{free-accepted}
+use Rattle.shelf.proofs.PinVictim.{sweepOf, few-used, victim-accepted}
 
 module _ (m : Memory) (v : View) (k : Kept m v) (n : PageName) (z : refusalOf (pinPlaces m n) ≡ 0) where
   -- held
@@ -48,16 +46,14 @@ module _ (m : Memory) (v : View) (k : Kept m v) (n : PageName) (z : refusalOf (p
     free-ended : (i : ℕ) → linkOf (m .control .top) ≡ To i → Ended m v (Pin n) (pinFree m n i)
     unfolding pinFree
     free-ended i top =
-        let says = pin-says m v k n _ z (sought-free m n i (load m n) new top (load-hand m n i (place .0) top (place .1))) in
-        accepted-ended m v (Pin n) _ [] _ (free-accepted m v k n i (place .0) new top (place .1) number says)
+        accepted-ended m v (Pin n) _ [] _ (free-accepted m v k n i (place .0) new top (place .1) number)
 
     -- the victim of a sweep
     module _ (top : linkOf (m .control .top) ≡ End) where
       taken-ended : (w : ℕ) → sweepOf m .victim ≡ found w → Ended m v (Pin n) (pinVictim m n (sweepOf m) (found w))
       unfolding pinVictim
       taken-ended w e =
-          let says = pin-says m v k n _ z (victim-sought m v k n w (place .0) new top (place .1) e) in
-          accepted-ended m v (Pin n) _ [] _ (victim-accepted m v k n w (place .0) new top (place .1) e number says)
+          accepted-ended m v (Pin n) _ [] _ (victim-accepted m v k n w (place .0) new top (place .1) e number)
 
       -- some buffer is unpinned, so there is one
       victim : (w : ℕ) × (sweepOf m .victim ≡ found w)
@@ -92,4 +88,4 @@ pub pin-step : (m : Memory) (v : View) → Kept m v → (n : PageName) → Ended
 unfolding step pin
 pin-step m v k n =
     call-step m v (Pin n) k (pinPlaces m n) (pinTo m n (heldIn m n)) refl (pin-number m v k n) (pin-neither m n)
-    (λ i h e. pin-refused m v k n i h e) (pin-ended m v k n)
+    (pin-ended m v k n)

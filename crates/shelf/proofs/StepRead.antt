@@ -11,9 +11,10 @@ use Rattle.bufmodel.specs.Calls.{bufferPlaces, read}
 use Rattle.bufmodel.specs.Step.{Read, step}
 use Rattle.shelf.specs.Shelf.{places, refuses, shelfAfter}
 use Rattle.shelf.specs.Ledger.{backBy, newBy, putBy, dirtiedBy, dirtyAfter, lastAfter, saidFlushed, flushedAfter, acceptedBy}
-use Rattle.shelf.proofs.CallKinds.{not-pin, not-checkpoint}
+use Rattle.shelf.proofs.CallKinds.{not-checkpoint}
 use Rattle.shelf.proofs.Kept.{View, shelfOf, ledgerOf, Kept, Ended}
-use Rattle.shelf.proofs.Refused.{neither-none, neither-place, no-pin, call-step}
+use Rattle.shelf.proofs.ShelfPlaces.{refuses-is}
+use Rattle.shelf.proofs.Refused.{neither-none, neither-place, call-step}
 use Rattle.shelf.proofs.Accepted.{Accepted, accepted-ended, ledgerThen}
 use Rattle.shelf.proofs.Unchanged.{ledger-stays, unchanged}
 use Rattle.shelf.proofs.BufferPlaces.{number-neither, number-page, number-same}
@@ -28,8 +29,8 @@ module _ (m : Memory) (v : View) (k : Kept m v) (i from : ℕ) (out : List ℕ) 
   ps = place 9 (ltb (size m) (from + length out)) ∷ []
 
   read-number : refusalOf (bufferPlaces m i ps) ≡ refuses (shelfOf m v) (Read i from out)
-  unfolding refuses places
-  read-number = number-same m v k i ps ps (λ h e. refl)
+  unfolding places
+  read-number = number-same m v k i ps ps (λ h e. refl) ∙ sym (refuses-is _ _)
 
   -- the bytes are those of the page that the number holds
   read-accepted : refusalOf (bufferPlaces m i ps) ≡ 0
@@ -38,11 +39,10 @@ module _ (m : Memory) (v : View) (k : Kept m v) (i from : ℕ) (out : List ℕ) 
       let p = number-page m v k i ps e in
       unchanged m v k (Read i from out) zeros _ (read-ledger zeros) (not-checkpoint refl) (sym read-number ∙ e)
       refl (p .page, p .holds, ap (λ (x : List ℕ). take (length out) (drop from x)) (sym (p .same .bytes)))
-      (no-pin m v (Read i from out) _ (not-pin refl))
 
   pub read-step : Ended m v (Read i from out) (step m (Read i from out))
   unfolding step read
   read-step =
       call-step m v (Read i from out) k (bufferPlaces m i ps) _ refl read-number
-      (number-neither m i ps (neither-place 9 _ [] (omega arith) neither-none)) (λ n h e. no-pin m v (Read i from out) _ (not-pin refl))
+      (number-neither m i ps (neither-place 9 _ [] (omega arith) neither-none))
       (λ e. accepted-ended m v (Read i from out) zeros _ m (read-accepted e))

@@ -19,9 +19,10 @@ use Rattle.bufmodel.specs.Step.{Unpin, step}
 use Rattle.bufmodel.proofs.WordLaws.{pin-less}
 use Rattle.shelf.specs.Shelf.{Shelf, places, refuses, unpinnedAt, shelfAfter}
 use Rattle.shelf.specs.Ledger.{backBy, newBy, putBy, dirtiedBy, dirtyAfter, lastAfter, saidFlushed, flushedAfter, acceptedBy}
-use Rattle.shelf.proofs.CallKinds.{not-pin, not-checkpoint}
+use Rattle.shelf.proofs.CallKinds.{not-checkpoint}
 use Rattle.shelf.proofs.Kept.{View, shelfOf, ledgerOf, Kept, Ended}
-use Rattle.shelf.proofs.Refused.{neither-none, no-pin, call-step}
+use Rattle.shelf.proofs.ShelfPlaces.{refuses-is}
+use Rattle.shelf.proofs.Refused.{neither-none, call-step}
 use Rattle.shelf.proofs.Accepted.{Accepted, accepted-ended}
 use Rattle.shelf.proofs.HighestLaws.{highest-still}
 use Rattle.shelf.proofs.BufferPlaces.{PinnedPage, number-neither, number-page, number-same}
@@ -57,8 +58,8 @@ module _ (m : Memory) (v : View) (k : Kept m v) (i : ℕ) where
       (λ j. refl))
 
   unpin-number : refusalOf (bufferPlaces m i []) ≡ refuses (shelfOf m v) (Unpin i)
-  unfolding refuses places
-  unpin-number = number-same m v k i [] [] (λ h e. refl)
+  unfolding places
+  unpin-number = number-same m v k i [] [] (λ h e. refl) ∙ sym (refuses-is _ _)
 
   unpin-accepted : refuses (shelfOf m v) (Unpin i) ≡ 0 → PinnedPage m v i → Accepted m v (Unpin i) zeros [] m′
   unfolding acceptedBy shelfAfter unpinnedAt dirtyAfter dirtiedBy backBy newBy putBy lastAfter flushedAfter saidFlushed
@@ -67,7 +68,6 @@ module _ (m : Memory) (v : View) (k : Kept m v) (i : ℕ) where
         number = e;
         answers = refl;
         shows = refl;
-        pin = no-pin m v (Unpin i) _ (not-pin refl);
         many = sym (length-set (m .states) i (pinLess (wordOf m i)));
         wide = refl;
         rows = ap (λ (f : Found). unpinnedAt (shelfOf m v) i f .rows) (p .holds);
@@ -83,6 +83,5 @@ module _ (m : Memory) (v : View) (k : Kept m v) (i : ℕ) where
   unfolding step unpin
   unpin-step =
       call-step m v (Unpin i) k (bufferPlaces m i []) (done zeros [] m′) refl unpin-number (number-neither m i [] neither-none)
-      (λ n h e. no-pin m v (Unpin i) _ (not-pin refl))
       (λ e.
       accepted-ended m v (Unpin i) zeros [] m′ (unpin-accepted (sym unpin-number ∙ e) (number-page m v k i [] e)))

@@ -19,12 +19,14 @@ use Rattle.bufmodel.specs.Step.{Write, step}
 use Rattle.bufmodel.proofs.OutcomeLaws.{refusal-passed}
 use Rattle.shelf.specs.Shelf.{tooLow, places, refuses, writtenAt, shelfAfter}
 use Rattle.shelf.specs.Ledger.{backBy, newBy, putBy, dirtiedBy, dirtyAfter, lastAfter, saidFlushed, flushedAfter, acceptedBy}
-use Rattle.shelf.proofs.CallKinds.{not-pin, not-checkpoint}
+use Rattle.shelf.proofs.CallKinds.{not-checkpoint}
 use Rattle.shelf.proofs.Kept.{View, shelfOf, ledgerOf, Kept, Ended}
-use Rattle.shelf.proofs.Refused.{Neither, neither-none, neither-place, no-pin, call-step}
+use Rattle.shelf.proofs.ShelfPlaces.{refuses-is}
+use Rattle.shelf.proofs.Refused.{Neither, neither-none, neither-place, call-step}
 use Rattle.shelf.proofs.Accepted.{Accepted, accepted-ended}
 use Rattle.shelf.proofs.HighestLaws.{highest-still}
-use Rattle.shelf.proofs.BufferPlaces.{PinnedPage, number-neither, number-passed, pinned-page, number-page, number-same}
+use Rattle.shelf.proofs.MemoryPlaces.{number-passed}
+use Rattle.shelf.proofs.BufferPlaces.{PinnedPage, number-neither, pinned-page, number-page, number-same}
 use Rattle.shelf.proofs.WriteKept.{WriteFits, write-kept}
 
 -- ---- the places behind those of a buffer number
@@ -65,8 +67,9 @@ module _ (m : Memory) (v : View) (k : Kept m v) (i from : ℕ) (bytes : List ℕ
       ap (λ (x : List ℕ). ltb at (position x)) (sym (p .same .bytes)) ∙ ap (λ (f : Found). tooLow (shelfOf m v) at f) (sym (p .holds))
 
   write-number : refusalOf (writePlaces m i from bytes at) ≡ refuses (shelfOf m v) (Write i from bytes at)
-  unfolding writePlaces refuses places
-  write-number = number-same m v k i _ _ (λ h e. later-same m from bytes at (low-same (pinned-page m v k i h e)))
+  unfolding writePlaces places
+  write-number =
+      number-same m v k i _ _ (λ h e. later-same m from bytes at (low-same (pinned-page m v k i h e))) ∙ sym (refuses-is _ _)
 
   write-neither : Neither (refusalOf (writePlaces m i from bytes at))
   unfolding writePlaces
@@ -86,7 +89,6 @@ module _ (m : Memory) (v : View) (k : Kept m v) (i from : ℕ) (bytes : List ℕ
         number = sym write-number ∙ e;
         answers = refl;
         shows = refl;
-        pin = no-pin m v (Write i from bytes at) _ (not-pin refl);
         many = sym (length-set (m .states) i (makeDirty (wordOf m i)));
         wide = refl;
         rows = ap (λ (f : Found). writtenAt (shelfOf m v) from bytes at f .rows) (p .0 .holds);
@@ -104,6 +106,5 @@ unfolding step write
 write-step m v k i from bytes at short =
     call-step m v (Write i from bytes at) k (writePlaces m i from bytes at) (done zeros bytes (writeTo m i from bytes at)) refl
     (write-number m v k i from bytes at) (write-neither m v k i from bytes at)
-    (λ n h e. no-pin m v (Write i from bytes at) _ (not-pin refl))
     (λ e.
     accepted-ended m v (Write i from bytes at) zeros bytes _ (write-accepted m v k i from bytes at short e))

@@ -11,7 +11,6 @@ use Rattle.shelf.specs.Shelf.{refuses}
 use Rattle.shelf.specs.Ledger.{Ledger, highest}
 use Rattle.shelf.specs.Statement.{Answers, Shows}
 use Rattle.shelf.proofs.Kept.{View, shelfOf, ledgerOf, viewOf, Kept}
-use Rattle.shelf.proofs.Refused.{PinSays}
 use Rattle.shelf.proofs.Accepted.{Accepted, ledgerThen}
 use Rattle.shelf.proofs.HighestLaws.{highest-still}
 
@@ -33,13 +32,12 @@ ledger-stays m v =
 -- nothing is left to show but the number and what the call shows
 pub unchanged : (m : Memory) (v : View) → Kept m v → (c : Call) (answer bytes : List ℕ) → ledgerThen m v c answer ≡ ledgerOf m v
     → (c ≡ Checkpoint → ⊥) → refuses (shelfOf m v) c ≡ 0 → Answers (done answer bytes m) c → Shows (shelfOf m v) (done answer bytes m) c
-    → PinSays m v c (done answer bytes m) → Accepted m v c answer bytes m
-unchanged m v k c answer bytes e other number answers shows pin =
+    → Accepted m v c answer bytes m
+unchanged m v k c answer bytes e other number answers shows =
     record {
       number = number;
       answers = answers;
       shows = shows;
-      pin = pin;
       many = refl;
       wide = refl;
       rows = ap (λ (l : Ledger). l .shelf .rows) e;

@@ -1,21 +1,22 @@
 -- An accepted write keeps the relation: the pool's page and the shelf's bytes are written alike, and both sides are dirty.
-use Prim.Native.Nat.{ℕ, _+_, _^_, _≤_, _<_}
+use Prim.Native.Nat.{ℕ, _+_, _-_, _^_, _≤_, _<_}
 use mathlib.Core.Path.{_≡_, refl, sym, ap, _∙_, subst}
 use mathlib.Core.Bool.{_||_}
-use mathlib.Core.List.{List}
+use mathlib.Core.List.{List, _++_}
 use native.Mathlib.Omega.{arith}
-use lib.ListN.{length, set}
+use lib.ListN.{length, take, drop, set, length-take}
+use lib.Seq.{take-add, drop-at, drop-append-le, drop-drop}
 use Rattle.laws.specs.First.{Found, found}
 use Rattle.laws.specs.Block.{putBlock}
 use Rattle.laws.proofs.Tests.{never}
 use Rattle.laws.proofs.Block.{length-block, length-putBlock, block-put-same, block-put-other}
 use Rattle.bufmodel.specs.Word.{pinned, makeDirty}
-use Rattle.bufmodel.specs.Position.{position, written}
+use Rattle.bufmodel.specs.Position.{position, positionBytes, paste, written}
 use Rattle.bufmodel.specs.Memory.{Memory, buffers, size, wordOf, pageOf, withStates, withPool}
 use Rattle.bufmodel.specs.Calls.{writeTo}
 use Rattle.bufmodel.proofs.WordLaws.{make-dirty}
 use Rattle.bufmodel.proofs.PositionLaws.{length-written, position-written}
-use Rattle.shelf.specs.Shelf.{Shelf, with, withBytes, writtenAt}
+use Rattle.shelf.specs.Shelf.{Shelf, with, withBytes, writtenPage, writtenAt}
 use Rattle.shelf.specs.Ledger.{isPlace}
 use Rattle.shelf.proofs.Kept.{View, shelfOf, Has, Kept}
 use Rattle.shelf.proofs.BufferPlaces.{PinnedPage}
@@ -23,6 +24,23 @@ use Rattle.shelf.proofs.KeptLaws.{isPlace-self, isPlace-other}
 use Rattle.shelf.proofs.WithLaws.{with-same, with-other}
 use Rattle.shelf.proofs.TurnKept.{turn-kept}
 
+-- ---- the page that the pool writes is the shelf's
+between : (k : ℕ) (page : List ℕ) → 8 + k ≤ length page → drop 8 (take (8 + k) page) ≡ take k (drop 8 page)
+between k page h =
+    ap (drop 8) (take-add 8 k page) ∙ drop-at (take 8 page) (take k (drop 8 page)) 8 (length-take 8 page ∙ omega arith)
+
+pub written-is : (p from : ℕ) (new page : List ℕ) → 8 ≤ from → from ≤ length page → written p from new page ≡ writtenPage p from new page
+unfolding written paste positionBytes writtenPage
+written-is p from new page h l =
+    let e : 8 + (from - 8) ≡ from = omega arith in
+    let rest = new ++ drop (length new) (drop from page) in
+    ap (λ (xs : List ℕ). positionBytes p ++ xs)
+    (drop-append-le 8 (take from page) rest (omega (arith, length-take from page))
+    ∙ ap (λ (xs : List ℕ). xs ++ rest)
+    (ap (λ (j : ℕ). drop 8 (take j page)) (sym e) ∙ between (from - 8) page (omega arith))
+    ∙ ap (λ (xs : List ℕ). take (from - 8) (drop 8 page) ++ (new ++ xs)) (drop-drop (length new) from page))
+
+-- ---- the relation
 module _ (m : Memory) (v : View) (k : Kept m v) (i g : ℕ) (x : Has m i g) where
   -- other bytes, and dirty
   page-kept : (page : List ℕ) → length page ≡ size m → position page ≤ m .control .inserted
@@ -103,7 +121,11 @@ module _ (m : Memory) (v : View) (from : ℕ) (bytes : List ℕ) (at : ℕ) wher
       (subst
       (λ (x : List ℕ).
       Kept (writeTo m i from bytes at)
-      (viewDirtied v (withBytes (with (p .page) (written at from bytes x) (v .bytes)) (shelfOf m v)) (found (p .page))))
+      (viewDirtied v (withBytes (with (p .page) (writtenPage at from bytes x) (v .bytes)) (shelfOf m v)) (found (p .page))))
       (sym (p .same .bytes))
+      (subst
+      (λ (x : List ℕ).
+      Kept (writeTo m i from bytes at) (viewDirtied v (withBytes (with (p .page) x (v .bytes)) (shelfOf m v)) (found (p .page))))
+      (written-is at from bytes page (fits .behind) (omega arith))
       (page-kept m v k i (p .page) (p .has) (written at from bytes page) (length-written at from bytes page room long ∙ e)
-      (omega (arith, position-written at from bytes page short))))
+      (omega (arith, position-written at from bytes page short)))))

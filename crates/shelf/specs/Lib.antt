@@ -1,3 +1,4 @@
 pub mod Shelf
 pub mod Ledger
+pub mod Published
 pub mod Statement

@@ -1,22 +1,21 @@
 -- The plain shelf: document 01's term for what a pool of pages is, without buffers, books or a store to write back to.
--- A page is known by its place, the index of its block in the store.
+-- A page is known by its place, the index of its block in the store. Its checks, their order and its written page are its own words: what
+-- it shares with the pool is where rows, blocks and log positions lie.
 use Prim.Native.Nat.{ℕ, suc, _+_, _-_}
-use mathlib.Core.Bool.{Bool, false, not, _&&_, _||_, cond}
-use mathlib.Core.List.{List, [], _∷_}
-use lib.ListN.{length, replicate}
+use mathlib.Core.Bool.{Bool, true, false, not, _&&_, _||_, cond}
+use mathlib.Core.List.{List, [], _∷_, _++_}
+use lib.ListN.{length, take, drop, replicate}
 use lib.Dec.{eqb, leb, ltb}
 use Rattle.laws.specs.Every.{any}
 use Rattle.laws.specs.Sum.{count}
 use Rattle.laws.specs.First.{Found, found, missing}
 use Rattle.laws.specs.Block.{block}
-use Rattle.bufmodel.specs.Word.{maxPins}
-use Rattle.bufmodel.specs.Position.{position, written}
-use Rattle.bufmodel.specs.Rows.{blocksAt, setBlocks, rowOf, startOf, storeBlocks, placeOf}
+use Rattle.buftag.specs.declared.name.PageName.{PageName}
+use Rattle.bufmodel.specs.Position.{position, positionBytes}
+use Rattle.bufmodel.specs.Rows.{blocksAt, capacityAt, setBlocks, rowOf, startOf, storeBlocks, placeOf}
 use Rattle.bufmodel.specs.Memory.{Memory, buffers}
 use Rattle.bufmodel.specs.Books.{isFound}
-use Rattle.bufmodel.specs.Outcome.{Place, place, refusalOf}
-use Rattle.bufmodel.specs.Pin.{noRow, namePlaces}
-use Rattle.bufmodel.specs.Calls.{fileFull}
+use Rattle.bufmodel.specs.Outcome.{Place, place}
 use Rattle.bufmodel.specs.Step.{Call, Pin, Unpin, Read, Write, Flush, Checkpoint, Peek, Extend, Drop, LogInserted, LogFlushed}
 
 -- N, P, inserted, rows; for each block its P bytes; for each page a pin count; for some buffer numbers the page held there
@@ -46,6 +45,16 @@ firstShelf m p at =
       holds = λ b. missing;
     }
 
+-- checked downwards: the first place that refuses gives its number
+unfoldable pub firstOf : List Place → ℕ
+firstOf [] = 0
+firstOf (p ∷ ps) = let later = firstOf ps in cond (p .refuses) (p .number) later
+
+-- 3, no row with these four
+unfoldable pub noFile : Found → Bool
+noFile (found r) = false
+noFile missing = true
+
 module _ (s : Shelf) where
   -- a page is pinned, or has pins, while its count isn't 0
   unfoldable pub hasPins : ℕ → Bool
@@ -56,9 +65,14 @@ module _ (s : Shelf) where
   pinnedPages = count (storeBlocks (s .rows)) hasPins
 
   -- ---- the checks
+  -- 4, block ≥ blocks
+  unfoldable pub noPage : ℕ → Found → Bool
+  noPage b (found r) = leb (blocksAt (s .rows) r) b
+  noPage b missing = false
+
   -- 5 if the count is 262143; 6 if the count is 0 and N pages have pins
   unfoldable pub countFull : Found → Bool
-  countFull (found g) = eqb (s .counts g) maxPins
+  countFull (found g) = eqb (s .counts g) 262143
   countFull missing = false
 
   unfoldable pub noBuffer : Found → Bool
@@ -74,15 +88,27 @@ module _ (s : Shelf) where
   tooLow at (found g) = ltb at (position (s .bytes g))
   tooLow at missing = false
 
+  -- 13, blocks = capacity
+  unfoldable pub noRoom : Found → Bool
+  noRoom (found r) = eqb (blocksAt (s .rows) r) (capacityAt (s .rows) r)
+  noRoom missing = false
+
   -- 14, one of the pages of the file in this row pinned
   unfoldable pub filePinned : Found → Bool
   filePinned (found r) = any (blocksAt (s .rows) r) (λ b. hasPins (startOf (s .rows) r + b))
   filePinned missing = false
 
+  -- a name's two places; those of a pin above the victim's; the victim's
+  unfoldable pub nameFirst : PageName → List Place → List Place
+  nameFirst n later =
+      let r = rowOf (s .rows) (n .file) in
+      place 3 (noFile r) ∷ place 4 (noPage (n .block .0) r) ∷ later
+
+  unfoldable pub above : PageName → List Place
+  above n = nameFirst n (place 5 (countFull (placeOf (s .rows) n)) ∷ [])
+
   unfoldable pub places : Call → List Place
-  places (Pin n) =
-      let g = placeOf (s .rows) n in
-      namePlaces (s .rows) n (place 5 (countFull g) ∷ place 6 (noBuffer g) ∷ [])
+  places (Pin n) = above n ++ (place 6 (noBuffer (placeOf (s .rows) n)) ∷ [])
   places (Unpin b) = numberPlaces b []
   places (Read b from out) = numberPlaces b (place 9 (ltb (s .size) (from + length out)) ∷ [])
   places (Write b from bytes at) =
@@ -94,15 +120,15 @@ module _ (s : Shelf) where
       ∷ [])
   places (Flush b) = numberPlaces b []
   places Checkpoint = []
-  places (Peek n) = namePlaces (s .rows) n []
-  places (Extend f) = let r = rowOf (s .rows) f in place 3 (noRow r) ∷ place 13 (fileFull (s .rows) r) ∷ []
-  places (Drop f) = let r = rowOf (s .rows) f in place 3 (noRow r) ∷ place 14 (filePinned r) ∷ []
+  places (Peek n) = nameFirst n []
+  places (Extend f) = let r = rowOf (s .rows) f in place 3 (noFile r) ∷ place 13 (noRoom r) ∷ []
+  places (Drop f) = let r = rowOf (s .rows) f in place 3 (noFile r) ∷ place 14 (filePinned r) ∷ []
   places (LogInserted p) = place 15 (ltb p (s .inserted)) ∷ []
   places (LogFlushed p) = place 16 (ltb (s .inserted) p) ∷ []
 
   -- the refusal number, 0 if accepted
   unfoldable pub refuses : Call → ℕ
-  refuses c = refusalOf (places c)
+  refuses c = firstOf (places c)
 
 -- ---- what an accepted call does
 -- the shelf with other counts and held pages, with other bytes, with other rows, with another position
@@ -149,8 +175,12 @@ unpinnedAt s b (found g) =
     withPins (with g (s .counts g - 1) (s .counts)) (with b (cond (eqb (s .counts g) 1) missing (found g)) (s .holds)) s
 unpinnedAt s b missing = s
 
+-- a page with a position and bytes written: the position, what stood between it and the bytes, the bytes, what stands behind them
+unfoldable pub writtenPage : ℕ → ℕ → List ℕ → List ℕ → List ℕ
+writtenPage at from bytes page = positionBytes at ++ (take (from - 8) (drop 8 page) ++ (bytes ++ drop (from + length bytes) page))
+
 unfoldable pub writtenAt : Shelf → ℕ → List ℕ → ℕ → Found → Shelf
-writtenAt s from bytes at (found g) = withBytes (with g (written at from bytes (s .bytes g)) (s .bytes)) s
+writtenAt s from bytes at (found g) = withBytes (with g (writtenPage at from bytes (s .bytes g)) (s .bytes)) s
 writtenAt s from bytes at missing = s
 
 -- the place of the next block of the file in row r

@@ -1,33 +1,29 @@
 -- Demand 3: one claim about a whole list of calls after one accepted set-up, as the till program makes them. Each clause stands under
 -- the sentence that it is, of document 01 or of the demand.
-use Prim.Native.Nat.{ℕ, _+_, _*_, _^_, _≤_, _<_}
+use Prim.Native.Nat.{ℕ, _+_, _^_, _≤_, _<_}
 use mathlib.Core.Path.{_≡_}
 use mathlib.Core.Logic.{_≢_, _↔_}
 use mathlib.Core.Bool.{true, false}
 use mathlib.Core.List.{List, [], _∷_}
-use lib.ListN.{length, getD, take, drop, set}
+use lib.ListN.{length, getD, take, drop}
 use lib.IntN.{ℤ, pos}
 use lib.Signed.{mag}
 use Rattle.laws.specs.First.{found, missing}
 use Rattle.laws.specs.Block.{block}
-use Rattle.buftag.specs.declared.link.Link.the-variants.{To, End}
-use Rattle.buftag.specs.declared.lookup.Held.the-variants.{At, Nowhere}
-use Rattle.buftag.specs.declared.number.BufferNumber.{BufferNumber}
 use Rattle.buftag.specs.declared.name.PageName.{PageName}
 use Rattle.buftag.specs.Name.{FitsFile, Fits}
-use Rattle.buftag.specs.Link.{linkOf}
-use Rattle.bufmodel.specs.Word.{maxUsage, loaded}
 use Rattle.bufmodel.specs.Position.{position}
 use Rattle.bufmodel.specs.Rows.{files, blocksAt, rowOf, startOf, storeBlocks, placeOf}
-use Rattle.bufmodel.specs.Memory.{Memory, buffers}
-use Rattle.bufmodel.specs.Sweep.{Swept, Sweeps}
+use Rattle.bufmodel.specs.Memory.{Memory}
+use Rattle.bufmodel.specs.Sizes.{SizedFor}
+use Rattle.bufmodel.specs.Books.{BooksSound}
 use Rattle.bufmodel.specs.Outcome.{Outcome, zeros, one, two}
-use Rattle.bufmodel.specs.Pin.{heldIn}
 use Rattle.bufmodel.specs.Calls.{setUp, part}
 use Rattle.bufmodel.specs.Step.{Call, Pin, Unpin, Read, Write, Flush, Checkpoint, Peek, Extend, Drop, LogInserted, LogFlushed, step}
 use Rattle.bufmodel.specs.Lent.{Lent, Called, answerWords, opened, called}
-use Rattle.shelf.specs.Shelf.{Shelf, hasPins, pinnedPages, refuses}
+use Rattle.shelf.specs.Shelf.{Shelf, firstOf, hasPins, pinnedPages, above, refuses}
 use Rattle.shelf.specs.Ledger.{Ledger, firstLedger, bufferIn, ledgerAfter, puts}
+use Rattle.shelf.specs.Published.{Published}
 
 -- ---- all that is assumed of numbers: the lists lent and the calls' arguments hold what their C types can hold
 abbrev pub Below : ℕ → List ℕ → Type 0
@@ -112,37 +108,6 @@ module _ (s : Shelf) (o : Outcome) where
   Shows (LogInserted p) = o .bytes ≡ []
   Shows (LogFlushed p) = o .bytes ≡ []
 
--- ---- A pin's probes are the buffers that its sweep looks at, each time counted
-pub data Probes (m : Memory) (n : PageName) (o : Outcome) : ℕ → Type 0 where
-  -- none on a hit
-  hit : {b : BufferNumber} → heldIn m n ≡ At b → o .after .control .hand ≡ m .control .hand → Probes m n o 0
-  -- or from the free list
-  free : {i : ℕ} → heldIn m n ≡ Nowhere → linkOf (m .control .top) ≡ To i → o .after .control .hand ≡ m .control .hand
-      → Probes m n o 0
-  -- or at a refusal before a victim is sought
-  early : o .refusal ≢ 0 → o .refusal ≢ 6 → Probes m n o 0
-  -- those of a sweep that gave the buffer, and left the words and the hand
-  taken : {s : Swept} → heldIn m n ≡ Nowhere → linkOf (m .control .top) ≡ End → o .refusal ≡ 0
-      → Sweeps (buffers m) 0 (m .control .hand) (m .states) s
-      → s .victim ≡ found (bufferIn (o .answer))
-      → o .after .control .hand ≡ s .hand
-      → o .after .states ≡ set (s .words) (bufferIn (o .answer)) loaded
-      → Probes m n o (s .probes)
-  -- those of a sweep that found all pinned
-  stuck : {s : Swept} → heldIn m n ≡ Nowhere → linkOf (m .control .top) ≡ End → o .refusal ≡ 6
-      → Sweeps (buffers m) 0 (m .control .hand) (m .states) s
-      → s .victim ≡ missing
-      → Probes m n o (s .probes)
-
-pub record Sought (m : Memory) (n : PageName) (o : Outcome) : Type 0 where
-  pub probes : ℕ
-  pub looked : Probes m n o probes
-  -- at most six probes for each buffer
-  pub bound : probes ≤ (maxUsage + 1) * buffers m
-  -- N at 6; an accepted pin answers their number
-  pub atSix : o .refusal ≡ 6 → probes ≡ buffers m
-  pub answered : o .refusal ≡ 0 → getD (o .answer) 3 0 ≡ probes
-
 -- ---- the claim for one call: m the memory before it, l the ledger before it, o its outcome, l′ the ledger after it
 pub record Agrees (m : Memory) (l : Ledger) (c : Call) (o : Outcome) (l′ : Ledger) : Type 0 where
   -- Equal to the shelf's are, at each call, the refusal number (0 if accepted)
@@ -153,18 +118,16 @@ pub record Agrees (m : Memory) (l : Ledger) (c : Call) (o : Outcome) (l′ : Led
   pub answers : o .refusal ≡ 0 → Answers o c
   -- the bytes that a read fills or a peek hands back, an extend's block number; an accepted pin's buffer number keeps the rule
   pub shows : o .refusal ≡ 0 → Shows (l .shelf) o c
-  -- a refusal gives the number, other parts of the answer zero, and changes nothing in the pool, the store or the caller's buffer
+  -- a refusal gives the number, other parts of the answer zero, and changes nothing in the caller's buffer; that it changes nothing in
+  -- the pool or the store: `Left.same`. A refused peek hands back an empty part: `part` has no other for it
   pub blank : o .refusal ≢ 0 → o .answer ≡ zeros
-  pub kept : o .refusal ≢ 0 → (o .bytes ≡ own c) × (part o ≡ [])
-  pub same : o .refusal ≢ 0 → o .after ≡ m
+  pub kept : o .refusal ≢ 0 → o .bytes ≡ own c
   -- and afterwards all rows and inserted
   pub rows : o .after .rows ≡ l′ .shelf .rows
   pub inserted : o .after .control .inserted ≡ l′ .shelf .inserted
-  -- so 6 exactly when N pages have pins and the wanted one is not among them, at a pin that no earlier place refuses
-  pub six : (n : PageName) → c ≡ Pin n → (g : ℕ) → placeOf (l .shelf .rows) n ≡ found g
+  -- so 6 exactly when N pages have pins and the wanted one is not among them, at a pin that no place above the victim's refuses
+  pub six : (n : PageName) → c ≡ Pin n → firstOf (above (l .shelf) n) ≡ 0 → (g : ℕ) → placeOf (l .shelf .rows) n ≡ found g
       → (o .refusal ≡ 6) ↔ ((pinnedPages (l .shelf) ≡ l .shelf .buffers) × (hasPins (l .shelf) g ≡ false))
-  -- a pin's probes, at most six for each buffer
-  pub sought : (n : PageName) → c ≡ Pin n → Sought m n o
   -- flushed is the largest of the set-up's, accepted log flushed calls' and written-back pages' positions
   pub flushed : o .after .control .flushed ≡ l′ .flushed
   -- every block put into the store by then is at or below flushed
@@ -176,6 +139,17 @@ pub record Agrees (m : Memory) (l : Ledger) (c : Call) (o : Outcome) (l′ : Led
   -- after an accepted checkpoint also, in the store, every byte of each block below its file's block count
   pub settled : c ≡ Checkpoint → o .refusal ≡ 0 → (r b : ℕ) → r < files (l .shelf .rows) → b < blocksAt (l .shelf .rows) r
       → block (l .shelf .size) (startOf (l .shelf .rows) r + b) (o .after .store) ≡ l .shelf .bytes (startOf (l .shelf .rows) r + b)
+
+-- ---- and for the memory as it is lent: m before the call, r what it ended with, l′ the ledger after it
+pub record Left (m : Lent) (r : Called) (l′ : Ledger) : Type 0 where
+  -- a refusal changes nothing in the pool or the store, to the letter
+  pub same : r .result ≢ 0 → r .lent ≡ m
+  -- none of the calls answers 1 or 2: sizes and rows keep the rules and the books are sound, whichever call comes next
+  pub sizes : SizedFor (l′ .shelf .size) (opened (r .lent))
+  pub books : BooksSound (opened (r .lent))
+  -- the control record as 64-bit words in the order P, hand, top of the free list, inserted, flushed
+  pub control : (top : ℕ)
+      × (r .lent .control ≡ l′ .shelf .size ∷ opened (r .lent) .control .hand ∷ top ∷ l′ .shelf .inserted ∷ l′ .flushed ∷ [])
 
 -- ---- the claim for a list
 -- a call as the till program makes it, with an answer slice of its own
@@ -191,19 +165,31 @@ FitsMade (c ∷ cs) = FitsCall (c .call) × (length (c .answer) ≡ answerWords)
 abbrev pub outcomeOf : Called → Outcome
 outcomeOf r = record { refusal = r .result; answer = r .answer; bytes = r .bytes; after = opened (r .lent) }
 
+-- a pool as the till program calls it: a call, the lent memory, the caller's own bytes, an answer slice
+abbrev pub Pool : Type 0
+Pool = Call → Lent → List ℕ → List ℕ → Called
+
+-- the pool of a function over the memory
+abbrev pub calling : (Memory → Call → Outcome) → Pool
+calling f c = called (λ m. f m c)
+
 -- each call gets all the lent memory, the control record too, as the call before left it
-abbrev pub Claim : Lent → Ledger → List Made → Type 0
-Claim m l [] = Unit {0}
-Claim m l (c ∷ cs) =
-    let r = called (λ k. step k (c .call)) m (own (c .call)) (c .answer) in
+abbrev pub ClaimFor : Pool → Lent → Ledger → List Made → Type 0
+ClaimFor pool m l [] = Unit {0}
+ClaimFor pool m l (c ∷ cs) =
+    let r = pool (c .call) m (own (c .call)) (c .answer) in
     let o = outcomeOf r in
     let l′ = ledgerAfter l (c .call) (o .answer) (o .refusal) in
-    Agrees (opened m) l (c .call) o l′ × Claim (r .lent) l′ cs
+    Agrees (opened m) l (c .call) o l′ × Left m r l′ × Published (opened m) (c .call) o × ClaimFor pool (r .lent) l′ cs
 
--- DEMAND 3: for every lent memory, every accepted set-up and every list of calls
-abbrev pub Demand3 : Type 0
-Demand3 =
+-- DEMAND 3, of a pool: for every lent memory, every accepted set-up and every list of calls
+abbrev pub Demand3For : Pool → Type 0
+Demand3For pool =
     (m : Lent) (p at : ℕ) (answer : List ℕ) (calls : List Made) → FitsLent m → p < 2 ^ 64 → at < 2 ^ 64
     → length answer ≡ answerWords → FitsMade calls
     → let r = called (λ k. setUp k p at) m [] answer in
-    r .result ≡ 0 → Claim (r .lent) (firstLedger (opened m) p at) calls
+    r .result ≡ 0 → ClaimFor pool (r .lent) (firstLedger (opened m) p at) calls
+
+-- and of this one
+abbrev pub Demand3 : Type 0
+Demand3 = Demand3For (calling step)
