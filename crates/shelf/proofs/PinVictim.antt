@@ -1,5 +1,5 @@
 -- A pin that takes the victim of a sweep agrees with the shelf: a dirty one is written back, it is released, the page is loaded there.
-use Prim.Native.Nat.{ℕ, _+_, _*_, _≤_, _<_}
+use Prim.Native.Nat.{ℕ, _<_}
 use mathlib.Core.Path.{_≡_, refl, sym, _∙_, subst}
 use mathlib.Core.Bool.{Bool, true, false}
 use mathlib.Core.List.{List, [], _∷_}
@@ -10,7 +10,7 @@ use Rattle.buftag.specs.declared.link.Link.the-variants.{End}
 use Rattle.buftag.specs.declared.lookup.Held.the-variants.{Nowhere}
 use Rattle.buftag.specs.declared.name.PageName.{PageName}
 use Rattle.buftag.specs.Link.{linkOf}
-use Rattle.bufmodel.specs.Word.{usage, pinned, dirty, maxUsage}
+use Rattle.bufmodel.specs.Word.{pinned, dirty}
 use Rattle.bufmodel.specs.Rows.{storeBlocks, placeOf}
 use Rattle.bufmodel.specs.Memory.{Memory, buffers, wordOf, nameOf, withStates, withHand}
 use Rattle.bufmodel.specs.Sweep.{Swept, Sweeps, sweepAll}
@@ -19,13 +19,13 @@ use Rattle.bufmodel.specs.Pin.{heldIn}
 use Rattle.bufmodel.specs.Step.{Pin}
 use Rattle.bufmodel.proofs.RowsLaws.{place-in}
 use Rattle.bufmodel.proofs.SweepLaws.{SweptFrom}
-use Rattle.bufmodel.proofs.SweepEnds.{sweepAll-relates}
 use Rattle.bufmodel.proofs.LessUsedLaws.{less-pinned, less-dirty}
 use Rattle.bufmodel.proofs.ReleaseLaws.{release-buffers, release-top}
 use Rattle.bufmodel.proofs.FreeListLaws.{top-end}
 use Rattle.bufmodel.proofs.LoadLaws.{load-is, load-buffers}
 use Rattle.shelf.specs.Shelf.{refuses}
 use Rattle.shelf.specs.Ledger.{bufferIn, wroteIn}
+use Rattle.shelf.proofs.PublishedPin.{sweep-published}
 use Rattle.shelf.proofs.Kept.{View, shelfOf, ledgerOf, Has, Nobody, Kept}
 use Rattle.shelf.proofs.KeptLaws.{has-page}
 use Rattle.shelf.proofs.Accepted.{Accepted}
@@ -42,19 +42,9 @@ wrote-ind : (d : Bool) → eqb (ind d) 1 ≡ d
 wrote-ind true = refl
 wrote-ind false = refl
 
--- ---- the sweep of a pool with no empty buffer
+-- ---- the sweep
 abbrev pub sweepOf : Memory → Swept
 sweepOf m = sweepAll (m .states) (m .control .hand)
-
-module _ (m : Memory) (v : View) (k : Kept m v) (top : linkOf (m .control .top) ≡ End) where
-  -- no buffer's usage is above the greatest
-  pub few-used : (i : ℕ) → i < buffers m → usage (wordOf m i) ≤ maxUsage
-  few-used i l = k .words i l (top-end m (k .good) top i l) .few
-
-  -- it is as published, and ends in time
-  victim-sweeps : Sweeps (buffers m) 0 (m .control .hand) (m .states) (sweepOf m)
-      × (sweepOf m .probes ≤ (maxUsage + 1) * buffers m)
-  victim-sweeps = sweepAll-relates (m .states) (m .control .hand) (k .good .books .hand) few-used
 
 -- ---- a buffer with a clean unpinned page is released, and another page that no buffer has is loaded there
 module _ (m : Memory) (v : View) (k : Kept m v) (w h : ℕ) (own : Has m w h) (free : pinned (wordOf m w) ≡ false)
@@ -91,7 +81,7 @@ module _ (m : Memory) (v : View) (k : Kept m v) (n : PageName) (w g : ℕ) (new 
   backed = writeBack swept w
 
   sweeps : Sweeps (buffers m) 0 (m .control .hand) (m .states) s
-  sweeps = victim-sweeps m v k top .0
+  sweeps = sweep-published m (k .good .books) .0
 
   from : SweptFrom (m .states) s
   from = swept-from m v k s sweeps

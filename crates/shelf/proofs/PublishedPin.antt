@@ -1,5 +1,5 @@
 -- A pin's probes, buffer and words are as published: held, from the free list, the victim of a sweep, or refused.
-use Prim.Native.Nat.{ℕ, _+_, _*_, _≤_, _<_}
+use Prim.Native.Nat.{ℕ, _*_, _≤_, _<_}
 use mathlib.Core.Path.{_≡_, refl, sym, ap, _∙_, subst}
 use mathlib.Core.Logic.{_≢_, ⊎-elim}
 use mathlib.Core.List.{List, [], _∷_}
@@ -17,9 +17,10 @@ use Rattle.buftag.specs.declared.lookup.Held.the-variants.{At, Nowhere}
 use Rattle.buftag.specs.declared.name.PageName.{PageName}
 use Rattle.buftag.specs.declared.number.BufferNumber.{BufferNumber}
 use Rattle.buftag.specs.Link.{numberAt, linkOf}
-use Rattle.bufmodel.specs.Word.{maxUsage, dirty, loaded}
+use Rattle.bufmodel.specs.Word.{dirty, loaded}
 use Rattle.bufmodel.specs.Rows.{placeOf}
 use Rattle.bufmodel.specs.Memory.{Memory, buffers, wordOf, withStates, withHand}
+use Rattle.bufmodel.specs.Books.{BooksSound}
 use Rattle.bufmodel.specs.Sweep.{Swept, Sweeps, sweepAll}
 use Rattle.bufmodel.specs.Moves.{off, writeBack, release, loadAt, load}
 use Rattle.bufmodel.specs.Outcome.{refusalOf, checked, done, refused}
@@ -43,6 +44,12 @@ use Rattle.shelf.proofs.PublishedLeaves.{ind-cond, set-with, stays-set}
 just-loaded : (words : List ℕ) (v : ℕ) → v < length words → (i : ℕ)
     → getD (set words v loaded) i 0 ≡ with v justLoaded (λ j. getD words j 0) i
 just-loaded words v l i = set-with words v loaded 0 l i ∙ ap (λ (w : ℕ). with v w (λ j. getD words j 0) i) loaded-is
+
+-- the sweep of a sound memory is as published, and ends in time
+pub sweep-published : (m : Memory) → BooksSound m
+    → let s = sweepAll (m .states) (m .control .hand) in
+    Sweeps (buffers m) 0 (m .control .hand) (m .states) s × (s .probes ≤ 6 * buffers m)
+sweep-published m b = sweepAll-relates (m .states) (m .control .hand) (b .hand) (few-used m b)
 
 module _ (m : Memory) (k : Good m) (n : PageName) where
   -- ---- refused
@@ -112,9 +119,8 @@ module _ (m : Memory) (k : Good m) (n : PageName) where
       abbrev s : Swept
       s = sweepAll (m .states) (m .control .hand)
 
-      -- it is as published, and ends in time
-      sweeps : Sweeps (buffers m) 0 (m .control .hand) (m .states) s × (s .probes ≤ (maxUsage + 1) * buffers m)
-      sweeps = sweepAll-relates (m .states) (m .control .hand) (k .books .hand) (few-used m (k .books))
+      sweeps : Sweeps (buffers m) 0 (m .control .hand) (m .states) s × (s .probes ≤ 6 * buffers m)
+      sweeps = sweep-published m (k .books)
 
       from : SweptFrom (m .states) s
       from = sweeps-from (k .books .hand) refl (sweeps .0)
