@@ -1,4 +1,4 @@
-/* Page names for programs in C: their 20 bytes and their hash. Link with libbuftag.a (x86-64 Linux). */
+/* Page names for programs in C: their 20 bytes, there and back, and their hash. Link with libbuftag.a (x86-64 Linux). */
 #ifndef BUFTAG_H
 #define BUFTAG_H
 
@@ -9,8 +9,9 @@
 extern "C" {
 #endif
 
-/* The number of bytes of a page name. */
+/* The number of bytes of a page name, and of words: tablespace, database, relation, fork, block. */
 #define BUFTAG_NAME_BYTES 20
+#define BUFTAG_NAME_WORDS 5
 
 /* The hash of a page name: 32-bit FNV-1a over its 20 bytes. Its bucket among B is the hash modulo B. */
 uint32_t buftag_hash(uint32_t tablespace, uint32_t database, uint32_t relation, uint32_t fork, uint32_t block);
@@ -19,6 +20,11 @@ uint32_t buftag_hash(uint32_t tablespace, uint32_t database, uint32_t relation, 
    answers 0; with any other it leaves out as it is and answers 1. out is never a null pointer. */
 uint32_t buftag_bytes(uint32_t tablespace, uint32_t database, uint32_t relation, uint32_t fork, uint32_t block,
                       uint8_t *out, size_t out_len);
+
+/* The page name that has these bytes, as its five words in the same order: what buftag_bytes wrote, this reads back. With a
+   bytes_len of 20 and a words_len of 5 it fills words and answers 0; with any other it leaves words as they are and answers 1.
+   No pointer is null, and words does not overlap bytes. */
+uint32_t buftag_name(const uint8_t *bytes, size_t bytes_len, uint32_t *words, size_t words_len);
 
 #ifdef __cplusplus
 }

@@ -13,6 +13,8 @@ NAME_WORDS = 5  # tablespace, database, relation, fork, block
 NAME_BYTES = NAME_WORDS * WORD_BYTES
 CASE_A = (16821, 16384, 37721, 0, 7)
 CASE_A_BYTES = bytes.fromhex('B5410000 00400000 59930000 00000000 07000000')
+# about each byte's end, and about a sign bit
+EDGES = (0, 1, 0x7F, 0x80, 0xFF, 0x100, 0xFFFF, 0x10000, 0xFFFFFF, 0x1000000, 0x7FFFFFFF, 0x80000000, 0xFFFFFFFF)
 # from the published test vectors of 32-bit FNV-1a
 PUBLISHED = {b'': 0x811C9DC5, b'a': 0xE40C292C, b'b': 0xE70C2DE5, b'foobar': 0xBF9CF968}
 
@@ -31,7 +33,7 @@ def fnv_1a(some):
 
 def edge_names():
     yield CASE_A
-    for number in (0, 1, 0x7F, 0x80, 0xFF, 0x7FFFFFFF, 0x80000000, 0xFFFFFFFF):
+    for number in EDGES:
         yield (number,) * NAME_WORDS
         for place in range(NAME_WORDS):
             yield tuple(number if k == place else 0 for k in range(NAME_WORDS))

@@ -1,4 +1,6 @@
-/* The two calls with one slip each, chosen by -DSLIP=.., to see that the comparison notices it. With NONE they are right. */
+/* The three calls with one slip each, chosen by -DSLIP=.., to see that the comparison notices it. With NONE they are right. */
+#include <stdbool.h>
+
 #include "../layout.h"
 #include "buftag.h"
 
@@ -11,7 +13,15 @@ enum {
     START_FROM_ZERO,
     SIGNED_BYTES,
     OTHER_LENGTH_FILLED,
-    OTHER_LENGTH_ACCEPTED
+    OTHER_LENGTH_ACCEPTED,
+    READ_FORK_AFTER_BLOCK,
+    READ_BIG_ENDIAN,
+    READ_SIGNED_BYTES,
+    LAST_WORD_LEFT_OUT,
+    MORE_BYTES_ACCEPTED,
+    FEWER_BYTES_ACCEPTED,
+    OTHER_WORDS_FILLED,
+    OTHER_WORDS_ACCEPTED
 };
 
 static void spread(uint8_t *out, uint32_t w)
@@ -55,6 +65,40 @@ uint32_t buftag_bytes(uint32_t tablespace, uint32_t database, uint32_t relation,
     spread_all(bytes, tablespace, database, relation, fork, block);
     for (size_t i = 0; i < filled; i++) {
         out[i] = bytes[i];
+    }
+    return answer;
+}
+
+static uint32_t gather(const uint8_t *from)
+{
+    uint32_t w = 0;
+    for (int i = 0; i < WORD_BYTES; i++) {
+        uint32_t byte = SLIP == READ_SIGNED_BYTES ? (uint32_t)(int8_t)from[i] : from[i];
+        w |= byte << (8 * (SLIP == READ_BIG_ENDIAN ? WORD_BYTES - 1 - i : i));
+    }
+    return w;
+}
+
+static bool bytes_fit(size_t bytes_len)
+{
+    return bytes_len == BUFTAG_NAME_BYTES || (SLIP == MORE_BYTES_ACCEPTED && bytes_len > BUFTAG_NAME_BYTES)
+        || (SLIP == FEWER_BYTES_ACCEPTED && bytes_len < BUFTAG_NAME_BYTES);
+}
+
+uint32_t buftag_name(const uint8_t *bytes, size_t bytes_len, uint32_t *words, size_t words_len)
+{
+    size_t filled = SLIP == LAST_WORD_LEFT_OUT ? BUFTAG_NAME_WORDS - 1 : BUFTAG_NAME_WORDS;
+    uint32_t answer = 0;
+    if (!bytes_fit(bytes_len)) {
+        return 1;
+    }
+    if (words_len != BUFTAG_NAME_WORDS) {
+        filled = SLIP == OTHER_WORDS_FILLED && words_len < filled ? words_len : 0;
+        answer = SLIP == OTHER_WORDS_ACCEPTED ? 0 : 1;
+    }
+    for (size_t i = 0; i < filled; i++) {
+        size_t place = SLIP == READ_FORK_AFTER_BLOCK && i >= FILE_FORK ? FILE_FORK + NAME_BLOCK - i : i;
+        words[i] = gather(bytes + WORD_BYTES * place);
     }
     return answer;
 }

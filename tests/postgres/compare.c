@@ -11,10 +11,13 @@ enum { NAMES = 100000, CALLS = 200000, POSITIONS = 20000, BUFFERS = MOST_BUFFERS
 static void see_tag(const uint32_t name[NAME_WORDS], uint64_t which)
 {
     uint8_t ours[NAME_BYTES], theirs[64];
+    uint32_t back[NAME_WORDS];
     size_t size = published_tag(name, theirs);
     need(size == sizeof ours, "a BufferTag's bytes are not 20 but", size);
     need(buftag_bytes(NAME_OF(name), ours, sizeof ours) == 0, "buftag_bytes refuses name", which);
     need(memcmp(ours, theirs, sizeof ours) == 0, "the bytes differ of name", which);
+    need(buftag_name(theirs, size, back, NAME_WORDS) == 0, "buftag_name refuses the BufferTag of name", which);
+    need(memcmp(back, name, sizeof back) == 0, "other words are read from the BufferTag of name", which);
 }
 
 /* Case A, with the document's bytes, and random names: all numbers but the fork have any 32 bits. */

@@ -14,3 +14,4 @@ pub mod LeaveLaws
 pub mod TestLaws
 pub mod BudgetLaws
 pub mod CheckLaws
+pub mod ExportLaws

@@ -8,7 +8,7 @@ use native.Mathlib.Omega.{arith}
 use lib.ListN.{length, getD}
 use lib.Seq.{length-sets}
 use Rattle.laws.proofs.Tests.{lt-or-le}
-use Rattle.laws.proofs.Sets.{sets-among, sets-before, sets-behind}
+use Rattle.laws.proofs.Sets.{sets-among, sets-before, sets-behind, sets-whole}
 use Rattle.buftag.specs.declared.name.PageName.{PageName}
 use Rattle.buftag.specs.Names.{nameWords, nameAt, setName, wordsOf}
 use Rattle.buftag.proofs.NameLaws.{name-parts}
@@ -39,6 +39,10 @@ module _ (ws : List ℕ) (i : ℕ) (n : PageName) where
       (λ b. sets-before 0 ws (nameWords * i) (wordsOf n) (nameWords * j + k) (omega arith))
       (λ b. sets-behind 0 ws (nameWords * i) (wordsOf n) (nameWords * j + k) (omega arith))
       (lt-or-le j i))
+
+-- the only buffer's name is all of the words
+pub name-whole : (ws : List ℕ) (n : PageName) → length ws ≡ nameWords → setName ws 0 n ≡ wordsOf n
+name-whole ws n h = sets-whole ws (wordsOf n) h
 
 -- a buffer's words are within the names
 pub name-in : (n i : ℕ) (ws : List ℕ) → length ws ≡ nameWords * n → i < n → nameWords * i + nameWords ≤ length ws

@@ -5,3 +5,4 @@ pub mod Lookup
 pub mod Chain
 pub mod Budget
 pub mod Check
+pub mod Export

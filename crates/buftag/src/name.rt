@@ -5,9 +5,11 @@ ghost use Prim.Native.Nat.{_<_};
 ghost use lib.ListN.{length};
 ghost use Rattle.bufhash.specs.Bytes.{wordBytes};
 ghost use Rattle.bufhash.specs.Fnv.{fnv, fnvStart};
-ghost use Rattle.buftag.specs.Name.{fileOf, nameOf, nameSize, fileBytes, nameBytes, hashOf, bucketOf, sameFile, sameName, isFork};
+ghost use Rattle.buftag.specs.Name.{fileOf, nameOf, nameSize, fileBytes, nameBytes, nameOfBytes};
+ghost use Rattle.buftag.specs.Name.{hashOf, bucketOf, sameFile, sameName, isFork};
 use crate::number::BlockNumber;
 use bufhash::bytes::put_word;
+use bufhash::bytes::word_at;
 use bufhash::fnv::mix_word;
 
 // The bytes of a name.
@@ -121,4 +123,17 @@ pub fn put_bytes(out: &mut [u8], name: PageName)
     put_word(out, 8, name.file.relation);
     put_word(out, 12, name.file.fork);
     put_word(out, 16, name.block.0);
+}
+
+// The name that has these bytes.
+pub fn name_of_bytes(bytes: &[u8]) -> PageName
+    requires { ⌜ length (now bytes) ≡ nameSize ⌝ }
+    ensures { λ r. ⌜ r ≡ nameOfBytes (now (bytes .entry)) ⌝ }
+{
+    let tablespace = word_at(bytes, 0) as u32;
+    let database = word_at(bytes, 4) as u32;
+    let relation = word_at(bytes, 8) as u32;
+    let fork = word_at(bytes, 12) as u32;
+    let block = word_at(bytes, 16) as u32;
+    page_name(tablespace, database, relation, fork, block)
 }
