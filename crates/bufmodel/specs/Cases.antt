@@ -1,18 +1,35 @@
--- The marked cases A to J of document 01 ("Pages on the bench"): one list, which one theorem covers.
+-- The marked cases A to J of document 01 ("Pages on the bench"), and unmarked ones: one list, which one theorem covers.
 use Prim.Native.Nat.{ℕ, _*_}
 use mathlib.Core.Path.{_≡_, refl}
 use mathlib.Core.List.{List, [], _∷_, _++_}
-use lib.ListN.{getD, replicate}
-use lib.IntN.{pos}
+use lib.ListN.{getD, take, drop, replicate}
+use lib.IntN.{ℤ, pos, negsuc}
 use Rattle.buftag.specs.declared.name.FileName.{FileName}
 use Rattle.buftag.specs.Name.{fileOf, nameOf, nameBytes}
 use Rattle.buftag.specs.Names.{nameWords}
-use Rattle.buftag.specs.Link.{none, linkOf, members}
+use Rattle.buftag.specs.Link.{none}
 use Rattle.bufmodel.specs.Position.{position, positionBytes}
-use Rattle.bufmodel.specs.Memory.{Memory}
+use Rattle.bufmodel.specs.Memory.{Memory, withRows, withStore}
 use Rattle.bufmodel.specs.Outcome.{zeros}
 use Rattle.bufmodel.specs.Calls.{setUp}
-use Rattle.bufmodel.specs.Step.{Call, Pin, Unpin, Read, Write, Drop, step, memoryAfter, answers}
+use Rattle.bufmodel.specs.Step.{
+  Call,
+  Pin,
+  Unpin,
+  Read,
+  Write,
+  Flush,
+  Checkpoint,
+  Peek,
+  Extend,
+  Drop,
+  LogInserted,
+  LogFlushed,
+  step,
+  memoryAfter,
+  answers,
+}
+use Rattle.bufmodel.specs.Lent.{Lent, called}
 
 -- ---- the bench: N = 3, B = 3, P = 1024, log 100; one file with 4 blocks of zeros, capacity 5. What stands in the books before set up
 -- does not matter
@@ -36,21 +53,86 @@ file = fileOf 1663 5 16384 0
 abbrev block : ℕ → Call
 block b = Pin (nameOf 1663 5 16384 0 b)
 
+-- The same with two files, a table and its free space map, of capacities 2 and 3. Blocks 0 and 1 of the store are the table's, which has
+-- one block yet; 2, 3 and 4 are the map's, which has two. The bytes behind a page's log position tell the block
+abbrev page : ℕ → List ℕ
+page k = replicate 8 0 ++ replicate 1016 k
+
+unfoldable pub twoFiles : Memory
+twoFiles =
+    withRows (1663 ∷ 5 ∷ 16384 ∷ 0 ∷ 1 ∷ 2 ∷ 1663 ∷ 5 ∷ 16384 ∷ 1 ∷ 2 ∷ 3 ∷ [])
+    (withStore (page 10 ++ (page 11 ++ (page 12 ++ (page 13 ++ page 14)))) bench)
+
+abbrev mapFile : FileName
+mapFile = fileOf 1663 5 16384 1
+
+abbrev mapBlock : ℕ → Call
+mapBlock b = Pin (nameOf 1663 5 16384 1 b)
+
+abbrev mapPeek : ℕ → Call
+mapPeek b = Peek (nameOf 1663 5 16384 1 b)
+
+-- ---- what is seen. These are definitions and not abbreviations, so that the checker computes the memory once for all that is read off it
 -- the memory after set up and these calls
-unfoldable pub after : List Call → Memory
-after calls = memoryAfter (setUp bench 1024 100 .after) calls
+unfoldable pub after : Memory → List Call → Memory
+after m calls = memoryAfter (setUp m 1024 100 .after) calls
 
 -- the refusal number and the answer's words of each of some calls, after others
-unfoldable pub seen : List Call → List Call → List (List ℕ)
-seen before calls = answers (after before) calls
+unfoldable pub seen : Memory → List Call → List Call → List (List ℕ)
+seen m before calls = answers (after m before) calls
 
--- one accepted pin's number and answer: buffer, loaded, wrote nothing, probes
+-- the bytes that a read of a buffer's page hands back, after some calls
+unfoldable pub bytes : Memory → List Call → ℕ → ℕ → ℕ → List ℕ
+bytes m before buffer from n = step (after m before) (Read buffer from (replicate n 0)) .bytes
+
+-- the bytes from 4 to 9 of each of five blocks of the store, after some calls
+unfoldable pub blocks : Memory → List Call → List (List ℕ)
+blocks m calls =
+    let store = after m calls .store in
+    take 6 (drop 4 store)
+    ∷ take 6 (drop 1028 store)
+    ∷ take 6 (drop 2052 store)
+    ∷ take 6 (drop 3076 store)
+    ∷ take 6 (drop 4100 store)
+    ∷ []
+
+-- calls as C makes them: each one's result and answer, and the control words that it leaves
+unfoldable pub results : Lent → List Call → List (List ℕ)
+results m [] = []
+results m (c ∷ cs) =
+    let r = called (λ k. step k c) m [] (7 ∷ 7 ∷ 7 ∷ 7 ∷ []) in
+    (r .result ∷ r .answer) ∷ r .lent .control ∷ results (r .lent) cs
+
+-- the same, where these control words are lent with the rest of a memory after other calls
+unfoldable pub told : Memory → List Call → List ℕ → List Call → List (List ℕ)
+told m before words calls =
+    let left = after m before in
+    results
+    (record {
+      control = words;
+      states = left .states;
+      names = left .names;
+      pool = left .pool;
+      free = left .free;
+      heads = left .heads;
+      chain = left .chain;
+      rows = left .rows;
+      store = left .store;
+    })
+    calls
+
+-- number and answer of an accepted pin, buffer, loaded, wrote nothing, probes; of an accepted call that answers a count or a block number;
+-- and a number with zeros
 abbrev at : ℕ → ℕ → List ℕ
 at buffer probes = 0 ∷ buffer ∷ 0 ∷ 0 ∷ probes ∷ []
 
-abbrev refusal : ℕ → List ℕ
-refusal k = k ∷ zeros
+abbrev counted : ℕ → List ℕ
+counted k = 0 ∷ k ∷ 0 ∷ 0 ∷ 0 ∷ []
 
+abbrev only : ℕ → List ℕ
+only k = k ∷ zeros
+
+-- ---- lists of calls
 -- blocks 0, 1, 2 pinned; then all unpinned
 abbrev three : List Call
 three = block 0 ∷ block 1 ∷ block 2 ∷ []
@@ -65,24 +147,51 @@ clocked = three ++ (replicate 4 (block 2) ++ replicate 5 (Unpin 2))
 abbrev write : ℕ → Call
 write position = Write 0 8 (1 ∷ []) position
 
+-- block 0 written to and unpinned; then its buffer taken by block 3, and from that by block 0 again
+abbrev dirtied : List Call
+dirtied = three ++ (Write 0 8 (77 ∷ 78 ∷ []) 90 ∷ Unpin 0 ∷ [])
+
+abbrev back : List Call
+back = block 3 ∷ Unpin 0 ∷ block 0 ∷ []
+
+-- the table's block 0 and the map's blocks 1 and 0 in the buffers 0, 1, 2; then all three written to, the second one flushed, twice, and
+-- the others left to a checkpoint, twice
+abbrev spread : List Call
+spread = block 0 ∷ mapBlock 1 ∷ mapBlock 0 ∷ []
+
+abbrev settled : List Call
+settled =
+    Write 1 8 (77 ∷ []) 91 ∷ Flush 1 ∷ Flush 1 ∷ Write 0 8 (78 ∷ []) 90 ∷ Write 2 8 (79 ∷ []) 92 ∷ Checkpoint ∷ Checkpoint ∷ []
+
 -- ---- what the definitions give, beside what document 01 says
 pub data Letter : Type 0 where
-  A B C D E F G H I J : Letter
+  A B C D E F G H I J unmarked : Letter
+
+-- rows of numbers, or the free links with the top of the free list
+pub data Shown : Type 0 where
+  numbers : List (List ℕ) → Shown
+  links : List ℤ → ℤ → Shown
+
+unfoldable pub linksAfter : Memory → List Call → Shown
+linksAfter m calls = let left = after m calls in links (left .free) (left .control .top)
 
 pub record Case : Type 0 where
   pub letter : Letter
-  pub gives : List (List ℕ)
-  pub says : List (List ℕ)
+  pub gives : Shown
+  pub says : Shown
 
 abbrev case : Letter → List (List ℕ) → List (List ℕ) → Case
-case l g s = record { letter = l; gives = g; says = s }
+case l g s = record { letter = l; gives = numbers g; says = numbers s }
+
+abbrev linked : Letter → Shown → Shown → Case
+linked l g s = record { letter = l; gives = g; says = s }
 
 -- numbers as a row of one
 abbrev just : ℕ → List (List ℕ)
 just k = (k ∷ []) ∷ []
 
-unfoldable pub marked : List Case
-marked =
+unfoldable pub cases : List Case
+cases =
     -- Name {16821, 16384, 37721, 0, 7}
     case A (nameBytes (nameOf 16821 16384 37721 0 7) ∷ [])
     ((0xB5 ∷ 0x41 ∷ 0 ∷ 0 ∷ 0 ∷ 0x40 ∷ 0 ∷ 0 ∷ 0x59 ∷ 0x93 ∷ 0 ∷ 0 ∷ 0 ∷ 0 ∷ 0 ∷ 0 ∷ 7 ∷ 0 ∷ 0 ∷ 0 ∷ []) ∷ [])
@@ -90,48 +199,84 @@ marked =
     ∷ case B (positionBytes 0x116B374D0 ∷ []) ((1 ∷ 0 ∷ 0 ∷ 0 ∷ 0xD0 ∷ 0x74 ∷ 0xB3 ∷ 0x16 ∷ []) ∷ [])
     ∷ case B (just (position (1 ∷ 0 ∷ 0 ∷ 0 ∷ 0xD0 ∷ 0x74 ∷ 0xB3 ∷ 0x16 ∷ []))) (just 0x116B374D0)
     -- Pin blocks 0, 1, 2: buffers 0, 1, 2, probes 0, word 0x83040001
-    ∷ case C (seen [] three) (at 0 0 ∷ at 1 0 ∷ at 2 0 ∷ [])
-    ∷ case C (after three .states ∷ []) ((0x83040001 ∷ 0x83040001 ∷ 0x83040001 ∷ []) ∷ [])
+    ∷ case C (seen bench [] three) (at 0 0 ∷ at 1 0 ∷ at 2 0 ∷ [])
+    ∷ case C (after bench three .states ∷ []) ((0x83040001 ∷ 0x83040001 ∷ 0x83040001 ∷ []) ∷ [])
     -- Now pin block 3: 6, hand 0
-    ∷ case D (seen three (block 3 ∷ [])) (refusal 6 ∷ [])
-    ∷ case D (just (after (three ++ (block 3 ∷ [])) .control .hand)) (just 0)
+    ∷ case D (seen bench three (block 3 ∷ [])) (only 6 ∷ [])
+    ∷ case D (just (after bench (three ++ (block 3 ∷ [])) .control .hand)) (just 0)
     -- After C unpin all, pin block 3: buffer 0, probes 4, hand 1. Then block 0: buffer 1, probes 1, hand 2
-    ∷ case E (seen unpinned (block 3 ∷ block 0 ∷ [])) (at 0 4 ∷ at 1 1 ∷ [])
-    ∷ case E (just (after (unpinned ++ (block 3 ∷ [])) .control .hand)) (just 1)
-    ∷ case E (just (after (unpinned ++ (block 3 ∷ block 0 ∷ [])) .control .hand)) (just 2)
+    ∷ case E (seen bench unpinned (block 3 ∷ block 0 ∷ [])) (at 0 4 ∷ at 1 1 ∷ [])
+    ∷ case E (just (after bench (unpinned ++ (block 3 ∷ [])) .control .hand)) (just 1)
+    ∷ case E (just (after bench (unpinned ++ (block 3 ∷ block 0 ∷ [])) .control .hand)) (just 2)
     -- One page pinned six times
-    ∷ case F (just (getD (after (replicate 6 (block 0)) .states) 0 0)) (just 0x83140006)
+    ∷ case F (just (getD (after bench (replicate 6 (block 0)) .states) 0 0)) (just 0x83140006)
     -- C, then a write to buffer 0
-    ∷ case G (just (getD (after (three ++ (write 100 ∷ [])) .states) 0 0)) (just 0x93840001)
+    ∷ case G (just (getD (after bench (three ++ (write 100 ∷ [])) .states) 0 0)) (just 0x93840001)
     -- Buffers 0, 1 pinned, 2 unpinned with usage 5, hand 0: probes 18
-    ∷ case H (after clocked .states ∷ []) ((0x83040001 ∷ 0x83040001 ∷ 0x83140000 ∷ []) ∷ [])
-    ∷ case H (just (after clocked .control .hand)) (just 0)
-    ∷ case H (seen clocked (block 3 ∷ [])) (at 2 18 ∷ [])
-    ∷ case H (after (clocked ++ (block 3 ∷ [])) .states ∷ []) ((0x83040001 ∷ 0x83040001 ∷ 0x83040001 ∷ []) ∷ [])
+    ∷ case H (after bench clocked .states ∷ []) ((0x83040001 ∷ 0x83040001 ∷ 0x83140000 ∷ []) ∷ [])
+    ∷ case H (just (after bench clocked .control .hand)) (just 0)
+    ∷ case H (seen bench clocked (block 3 ∷ [])) (at 2 18 ∷ [])
+    ∷ case H (after bench (clocked ++ (block 3 ∷ [])) .states ∷ []) ((0x83040001 ∷ 0x83040001 ∷ 0x83040001 ∷ []) ∷ [])
     -- Inserted 100: position 101 gives 11, 100 passes; page at 100, position 99: 12
-    ∷ case I (seen three (write 101 ∷ write 100 ∷ write 99 ∷ [])) (refusal 11 ∷ refusal 0 ∷ refusal 12 ∷ [])
-    -- After C unpin all, drop: free list 2, 1, 0
-    ∷ case J (seen unpinned (Drop file ∷ [])) (refusal 0 ∷ [])
-    ∷ case J (let m = after (unpinned ++ (Drop file ∷ [])) in members (m .free) 4 (linkOf (m .control .top)) ∷ []) ((2 ∷ 1 ∷ 0 ∷ []) ∷ [])
+    ∷ case I (seen bench three (write 101 ∷ write 100 ∷ write 99 ∷ [])) (only 11 ∷ only 0 ∷ only 12 ∷ [])
+    -- After C unpin all, drop: free list 2, 1, 0. Its top is 2; the links of the buffers 0, 1, 2 are −1, 0, 1
+    ∷ case J (seen bench unpinned (Drop file ∷ [])) (only 0 ∷ [])
+    ∷ linked J (linksAfter bench (unpinned ++ (Drop file ∷ []))) (links (negsuc 0 ∷ pos 0 ∷ pos 1 ∷ []) (pos 2))
+    -- A page that is loaded, and the same page held: hit
+    ∷ case unmarked (seen bench (block 0 ∷ block 1 ∷ []) (block 2 ∷ block 2 ∷ [])) (at 2 0 ∷ (0 ∷ 2 ∷ 1 ∷ 0 ∷ 0 ∷ []) ∷ [])
+    -- A dirty victim is written back before its buffer is loaded again, a clean one is not; the page comes back with what was written
+    ∷ case unmarked (seen bench dirtied back) ((0 ∷ 0 ∷ 0 ∷ 1 ∷ 4 ∷ []) ∷ only 0 ∷ at 0 6 ∷ [])
+    ∷ case unmarked (bytes bench (dirtied ++ back) 0 4 6 ∷ []) ((90 ∷ 0 ∷ 0 ∷ 0 ∷ 77 ∷ 78 ∷ []) ∷ [])
+    -- Two files: the map's pages are read from their places behind the table's full capacity, and flush and checkpoint put them there
+    ∷ case unmarked (bytes twoFiles spread 1 6 4 ∷ bytes twoFiles spread 2 6 4 ∷ [])
+    ((0 ∷ 0 ∷ 13 ∷ 13 ∷ []) ∷ (0 ∷ 0 ∷ 12 ∷ 12 ∷ []) ∷ [])
+    ∷ case unmarked (seen twoFiles spread settled) (only 0 ∷ counted 1 ∷ counted 0 ∷ only 0 ∷ only 0 ∷ counted 2 ∷ counted 0 ∷ [])
+    ∷ case unmarked (blocks twoFiles (spread ++ settled))
+    ((90 ∷ 0 ∷ 0 ∷ 0 ∷ 78 ∷ 10 ∷ [])
+    ∷ (0 ∷ 0 ∷ 0 ∷ 0 ∷ 11 ∷ 11 ∷ [])
+    ∷ (92 ∷ 0 ∷ 0 ∷ 0 ∷ 79 ∷ 12 ∷ [])
+    ∷ (91 ∷ 0 ∷ 0 ∷ 0 ∷ 77 ∷ 13 ∷ [])
+    ∷ (0 ∷ 0 ∷ 0 ∷ 0 ∷ 14 ∷ 14 ∷ [])
+    ∷ [])
+    -- A peek of a page in the pool, and of one in the store: 1 or 0, and the byte offset
+    ∷ case unmarked (seen twoFiles (block 0 ∷ mapBlock 1 ∷ []) (mapPeek 1 ∷ mapPeek 0 ∷ []))
+    ((0 ∷ 1 ∷ 1024 ∷ 0 ∷ 0 ∷ []) ∷ (0 ∷ 0 ∷ 2048 ∷ 0 ∷ 0 ∷ []) ∷ [])
+    -- An extend's block is the next one of its file
+    ∷ case unmarked (seen twoFiles [] (Extend file ∷ Extend mapFile ∷ Extend mapFile ∷ [])) (counted 1 ∷ counted 2 ∷ only 13 ∷ [])
+    ∷ case unmarked (blocks twoFiles (Extend file ∷ Extend mapFile ∷ []))
+    ((0 ∷ 0 ∷ 0 ∷ 0 ∷ 10 ∷ 10 ∷ [])
+    ∷ (0 ∷ 0 ∷ 0 ∷ 0 ∷ 0 ∷ 0 ∷ [])
+    ∷ (0 ∷ 0 ∷ 0 ∷ 0 ∷ 12 ∷ 12 ∷ [])
+    ∷ (0 ∷ 0 ∷ 0 ∷ 0 ∷ 13 ∷ 13 ∷ [])
+    ∷ (0 ∷ 0 ∷ 0 ∷ 0 ∷ 0 ∷ 0 ∷ [])
+    ∷ [])
+    -- From C: the control words are P, hand, top of the free list with −1 as 64 one bits, inserted, flushed
+    ∷ case unmarked
+    (told bench unpinned (1024 ∷ 2 ∷ 18446744073709551615 ∷ 200 ∷ 150 ∷ [])
+    (LogInserted 300 ∷ LogFlushed 180 ∷ block 3 ∷ Unpin 2 ∷ Drop file ∷ []))
+    (only 0
+    ∷ (1024 ∷ 2 ∷ 18446744073709551615 ∷ 300 ∷ 150 ∷ [])
+    ∷ only 0
+    ∷ (1024 ∷ 2 ∷ 18446744073709551615 ∷ 300 ∷ 180 ∷ [])
+    ∷ at 2 4
+    ∷ (1024 ∷ 0 ∷ 18446744073709551615 ∷ 300 ∷ 180 ∷ [])
+    ∷ only 0
+    ∷ (1024 ∷ 0 ∷ 18446744073709551615 ∷ 300 ∷ 180 ∷ [])
+    ∷ only 0
+    ∷ (1024 ∷ 0 ∷ 2 ∷ 300 ∷ 180 ∷ [])
+    ∷ [])
     ∷ []
 
--- Besides: a dirty victim is written back before its buffer is loaded again, and its page comes back with what was written
-abbrev dirtied : List Call
-dirtied = three ++ (Write 0 8 (77 ∷ 78 ∷ []) 90 ∷ Unpin 0 ∷ [])
-
-unfoldable pub given : List Case → List (List (List ℕ))
+unfoldable pub given : List Case → List Shown
 given [] = []
 given (c ∷ cs) = c .gives ∷ given cs
 
-unfoldable pub said : List Case → List (List (List ℕ))
+unfoldable pub said : List Case → List Shown
 said [] = []
 said (c ∷ cs) = c .says ∷ said cs
 
--- THE MARKED CASES, and that one
-pub cases-hold :
-    (given marked ≡ said marked)
-    × (seen dirtied (block 3 ∷ Unpin 0 ∷ block 0 ∷ []) ≡ (0 ∷ 0 ∷ 0 ∷ 1 ∷ 4 ∷ []) ∷ refusal 0 ∷ at 0 6 ∷ [])
-    × (step (after (dirtied ++ (block 3 ∷ Unpin 0 ∷ block 0 ∷ []))) (Read 0 4 (replicate 6 0)) .bytes ≡ 90 ∷ 0 ∷ 0 ∷ 0 ∷ 77 ∷ 78 ∷ [])
+-- ---- THE CASES
+pub cases-hold : given cases ≡ said cases
 unfolding Rattle.laws.specs.Every.all Rattle.laws.specs.Every.any Rattle.laws.specs.Sum.sum Rattle.laws.specs.Sum.count
     Rattle.laws.specs.Times.times Rattle.laws.specs.Times.without Rattle.laws.specs.First.first Rattle.laws.specs.Block.block
     Rattle.laws.specs.Block.putBlock Rattle.bufhash.specs.Fnv.fnvStep Rattle.buftag.specs.Name.hashOf
@@ -178,5 +323,9 @@ unfolding Rattle.laws.specs.Every.all Rattle.laws.specs.Every.any Rattle.laws
     Rattle.bufmodel.specs.Calls.filePinned Rattle.bufmodel.specs.Calls.dropAt
     Rattle.bufmodel.specs.Calls.dropFile Rattle.bufmodel.specs.Calls.logInserted
     Rattle.bufmodel.specs.Calls.logFlushed Rattle.bufmodel.specs.Step.step
-    Rattle.bufmodel.specs.Step.memoryAfter Rattle.bufmodel.specs.Step.answers bench after seen marked given said
-cases-hold = (refl, refl, refl)
+    Rattle.bufmodel.specs.Step.memoryAfter Rattle.bufmodel.specs.Step.answers
+    Rattle.bufmodel.specs.Lent.topOf Rattle.bufmodel.specs.Lent.topWord Rattle.bufmodel.specs.Lent.controlOf
+    Rattle.bufmodel.specs.Lent.wordsOf Rattle.bufmodel.specs.Lent.opened Rattle.bufmodel.specs.Lent.closed
+    Rattle.bufmodel.specs.Lent.ended Rattle.bufmodel.specs.Lent.called bench twoFiles after seen bytes blocks results told
+    linksAfter cases given said
+cases-hold = refl
