@@ -60,3 +60,6 @@ pub mod Lift
 pub mod Demand
 -- the calls of the theorem are the exports' calls
 pub mod Made
+-- the statement as a test, and the wrong pools that it shuts out
+pub mod JudgeLaws
+pub mod ShutOut

@@ -2,3 +2,6 @@ pub mod Shelf
 pub mod Ledger
 pub mod Published
 pub mod Statement
+pub mod Judge
+pub mod Trial
+pub mod WrongPools
