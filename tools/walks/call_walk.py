@@ -102,8 +102,8 @@ class CallWalk(Mir):
         facts = [name + ' r' for name in ANSWERED] + [over(MEMORY, 'r', *self.lasts_of('zs'))]
         lasts = product(['Unit {0}'] + [item.list_type if item.mutable else 'Unit {0}' for item in call.passed])
         context.front('ensured')
-        all_of_it = '(λ (zs : %s). ‵ (lasts core.ended core-lfts args zs) ⊛ %s)' % (lasts, ensured(facts))
-        context.step('use1 W (some %s) (id⊢ 𝓤 _) $ pick ! (λ zs. split ! $' % all_of_it, 1, 'lasts', 'facts')
+        told = '(λ (zs : %s). ‵ (lasts core.ended core-lfts args zs) ⊛ %s)' % (lasts, ensured(facts))
+        context.step('use1 W (some %s) (id⊢ 𝓤 _) $ pick ! (λ zs. split ! $' % told, 1, 'lasts', 'facts')
         context.front('facts')
         context.say(*heard(facts, KNOWN))
         context.turn(1)
