@@ -8,8 +8,8 @@ it was passed, stores fields of the record that the core gives back, and answers
         END.ANSWERED
     }
 
-What is passed is a slice of numbers, an unsigned number or a struct; the answer is an enum. The core's contract is two equations: of its
-answer, and of the memory that it leaves with the last values of the `&mut` slices.
+What is passed is a slice of numbers, an unsigned number or a struct; the answer is an enum. The core's contract is four equations: of its
+answer, of the answer's number and words, and of the memory that it leaves with the last values of the `&mut` slices.
 """
 import re
 from dataclasses import dataclass
@@ -20,6 +20,9 @@ from terms import WIDTHS
 
 BODY = re.compile(r'let (?P<end>\w+) = (?P<core>\w+)\((?P<handed>[^)]*)\); (?P<stores>.*;) (?P<from>\w+)\.(?P<answered>\w+)')
 STORE = re.compile(r'(\w+)\.(\w+) = (\w+)\.(\w+)\.(\w+)')
+
+# the equations, as a walk names them
+ANSWERED, MEMORY = ['Answered', 'Numbered', 'Worded'], 'Left'
 
 COMMENT = '''-- `%s` meets its contract: a walk of its MIR. The control record is copied out of the borrow, `%s` is called on
 -- it and on what else is lent, and %s of the record that it gives are stored back.
@@ -165,7 +168,7 @@ class Call(Subject):
         source = self.source(self.core)
         core = source.function(self.core.name)
         types = [function.parameters[0][1].removeprefix('&mut ')] + [type_name for _, type_name in function.parameters[1:]]
-        if [type_name for _, type_name in core.parameters] != types or core.requires or len(core.ensures) != 2:
+        if [type_name for _, type_name in core.parameters] != types or core.requires or len(core.ensures) != len(ANSWERED) + 1:
             raise Unreadable('%s is not called with what %s is passed, or has another contract' % (core.name, function.name))
         self.end = source.place(core.answer)
         parts = [name for name, _ in self.source(self.end).fields(self.end.name)]
@@ -173,7 +176,7 @@ class Call(Subject):
         if not {self.record_part, self.answer_part} <= set(parts):
             raise Unreadable('%s lacks a part that %s takes from it' % (self.end.name, function.name))
         self.record_place, self.answer_place = parts.index(self.record_part), parts.index(self.answer_part)
-        self.answered, self.left = [self.ensured(core, clause) for clause in core.ensures]
+        *self.answered, self.left = [self.ensured(core, clause) for clause in core.ensures]
         self.read_definitions(source)
 
     def ensured(self, core, clause):
@@ -192,7 +195,7 @@ class Call(Subject):
 
     def read_definitions(self, source):
         """The definitions of the core's contract, the number of lists of a memory, and the last arguments of the call's definition."""
-        used = set(re.findall(r'(?<![\w.])[^\W\d]\w*', self.answered + ' ' + self.left))
+        used = set(re.findall(r'(?<![\w.])[^\W\d]\w*', ' '.join([*self.answered, self.left])))
         self.definitions = []
         for path, names in source.ghosts:
             known = [name for name in names if name in used]

@@ -1,10 +1,11 @@
 """The definitions of a thin call's walk: what is passed and owned, what the core asks for and ensures, and the exit."""
-from call_walk import owned_at_exit
+from call import ANSWERED, MEMORY
+from call_walk import KNOWN, owned_at_exit
 from context import Context
 from layout import fill, wrap
 from mir import copy, join, lasting
 from parts import (ENDS, ROOM, answers, contracts, define, define_pairs, entry, lifetimes, machine_types, machine_values, opening,
-                   stayed, tokens)
+                   shown, stayed, tokens)
 from terms import listed, over, paired, part, product
 
 
@@ -48,9 +49,10 @@ class CallStatements:
         rows = listed(['T.the-row'] + [item.row(1) for item in call.passed])
         proof = 'qed W (tokens ∷ ‵ (owns (%s) args core-at) ∷ []) ∵ join ! $ frame ! $ done !' % rows
         lines += wrap('asked = ' + proof, 2, 6) + ['']
-        lines += ['  -- what it ensures: its answer, and the memory that it leaves']
-        lines += define('Answered', '%s → Type 0' % call.end.name, call.answered, bound='r')
-        lines += self.over_lasts('Left', 'Type 0', call.left)
+        lines += ['  -- what it ensures: its answer, the answer\'s number and words, and the memory that it leaves']
+        for name, fact in zip(ANSWERED, call.answered):
+            lines += define(name, '%s → Type 0' % call.end.name, fact, bound='r')
+        lines += self.over_lasts(MEMORY, 'Type 0', call.left)
         lines += self.known('is-record', 'Is T.the-row %s (mach %s ∷ [])' % (self.record, self.record), call.record_place)
         return lines + self.known('is-answer', self.is_answer, call.answer_place)
 
@@ -71,10 +73,10 @@ class CallStatements:
         lines = ['  -- what is owned at exit'] + self.over_lasts('at-exit', 'List (Item 𝓤)', listed(owned))
         bound = over('(r : %s)' % call.end.name, *['(%s : %s)' % (item.last, item.list_type) for item in call.mutable])
         lengths = ['length %s ≡ length (%s .now)' % (item.last, item.name) for item in call.mutable]
-        facts = [bound, 'Answered r', over('Left', 'r', self.lasts)] + lengths + [self.is_answer]
+        facts = [bound] + [name + ' r' for name in ANSWERED] + [over(MEMORY, 'r', self.lasts)] + lengths + [self.is_answer]
         lines += wrap('exits : ' + ' → '.join(facts), 2, 6)
         lines += wrap('→ ent 𝓤 (⋆ 𝓤 H A (%s)) (Post (mach-answer %s))' % (ends, self.answer), 6)
-        names = over('exits', 'r', self.lasts, 'e1', 'e2', *[item.length for item in call.mutable], 'fits')
+        names = over('exits', 'r', self.lasts, *KNOWN, *[item.length for item in call.mutable], 'fits')
         lines += wrap(names + ' =', 2, 6) + wrap('qed W (%s) ∵' % ends, 6)
         return lines + self.promised() + fill(self.exit_steps(), 6) + ['']
 
@@ -86,8 +88,10 @@ class CallStatements:
         lengths = paired(['tt'] + [item.length if item.mutable else 'tt' for item in call.passed], ROOM)
         ends = '%s (mach-answer %s) %s %s %s' % (ENDS, self.answer, self.answer, lasts, lengths)
         same = over(call.law, '_', *call.defined_by)
-        stored = 'stored h %s %s e2 (%s)' % (self.record, ' '.join('_' * (call.lists + 1)), same)
-        return wrap('suffices ! _ (%s) $' % ends, 6) + wrap('says-both ! e1 (%s) $' % stored, 6)
+        *answered, left = KNOWN
+        stored = 'stored h %s %s %s (%s)' % (self.record, ' '.join('_' * (call.lists + 1)), left, same)
+        said = shown(len(KNOWN), '(%s)' % ' ▹ '.join([*answered, stored]))
+        return wrap('suffices ! _ (%s) $' % ends, 6) + wrap(said, 6)
 
     def exit_steps(self):
         """What is owned is joined as the contract has it."""

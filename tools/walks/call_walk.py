@@ -1,12 +1,15 @@
 """The walk of a thin call: the steps from its entry through its MIR to its exit."""
+from call import ANSWERED, MEMORY
 from layout import fill, wrap
 from mir import STOP, Mir, copy, lasting, loaded
-from terms import listed, part, product
+from parts import ensured, heard
+from terms import listed, over, part, product
 
 RECORD = 'T.the-row (Is T.the-row)'
 SHOWN = 'T.the-row (Is T.the-row) (shows 𝓤 H A T.the-row)'
 MAKES = '(LL.makes T.the-type T′.the-plain 𝓤 H A)'
 TYPED = '(LL.lawful %s.the-type %s′.the-laws 𝓤 H A W .typed %s _ %s .0)'
+KNOWN = ['e%d' % number for number in range(1, len(ANSWERED) + 2)]  # the facts that the core ensures, as they are kept
 IN_MEMORY = '-- [the record in memory; what it owns; the open borrow; its name, twice; each local and its end, the last first; ..]'
 
 
@@ -84,8 +87,8 @@ class CallWalk(Mir):
         handed = [self.copied] + [self.lent[item.name] + 1 if item.mutable else self.passed[item.name] for item in call.passed]
         operands = loaded([self.load(number) for number in handed])
         context.say('calls-at ! fm (Core 𝓤 H A at-mem run) known to-core %s (λ w.' % operands)
-        ensured = '(ensured 𝓤 H A core.ended (core.clauses 𝓤 H A at-mem run) core-lfts args tt r)'
-        given = '(λ (r : %s). (tokens ⊛ ‵ (L.the-row .own r (w ∷ []))) ⊛ raw %s)' % (call.end.name, ensured)
+        promise = '(ensured 𝓤 H A core.ended (core.clauses 𝓤 H A at-mem run) core-lfts args tt r)'
+        given = '(λ (r : %s). (tokens ⊛ ‵ (L.the-row .own r (w ∷ []))) ⊛ raw %s)' % (call.end.name, promise)
         context.say('use1 W (later (some %s)) (id⊢ 𝓤 _) $ await ! tt $ pick ! (λ r.' % given)
         context.step('split ! $', 1, 'given', 'ensured')
 
@@ -94,16 +97,16 @@ class CallWalk(Mir):
         return ['(%s)' % part(lasts, 1 + number) for number, item in enumerate(self.call.passed) if item.mutable]
 
     def hear(self):
-        """What the core ensures: the last values of the slices, its answer, and the memory that it leaves."""
+        """What the core ensures: the last values of the slices, and the facts."""
         context, call = self.context, self.call
-        left = ' '.join(['Left', 'r'] + self.lasts_of('zs'))
+        facts = [name + ' r' for name in ANSWERED] + [over(MEMORY, 'r', *self.lasts_of('zs'))]
         lasts = product(['Unit {0}'] + [item.list_type if item.mutable else 'Unit {0}' for item in call.passed])
-        facts = 'raw (fact 𝓤 (Answered r)) ⊛ raw (fact 𝓤 (%s))' % left
         context.front('ensured')
-        heard = '(λ (zs : %s). ‵ (lasts core.ended core-lfts args zs) ⊛ %s)' % (lasts, facts)
-        context.step('use1 W (some %s) (id⊢ 𝓤 _) $ pick ! (λ zs. split ! $' % heard, 1, 'lasts', 'facts')
+        told = '(λ (zs : %s). ‵ (lasts core.ended core-lfts args zs) ⊛ %s)' % (lasts, ensured(facts))
+        context.step('use1 W (some %s) (id⊢ 𝓤 _) $ pick ! (λ zs. split ! $' % told, 1, 'lasts', 'facts')
         context.front('facts')
-        context.step('split ! $ heard ! (Answered r) (λ e1. heard ! (%s) (λ e2.' % left, 1)
+        context.say(*heard(facts, KNOWN))
+        context.turn(1)
 
     def take_apart(self):
         """The last values are taken apart, each with its length's equation, and then what the core gives."""
@@ -149,7 +152,7 @@ class CallWalk(Mir):
         """The locals are freed; the rest is what the exit asks for."""
         self.free_locals()
         lengths = [item.length for item in self.call.mutable]
-        exits = ' '.join(['exits', 'r'] + self.lasts_of('zs') + ['e1', 'e2'] + lengths + ['(is-answer r w is)'])
+        exits = ' '.join(['exits', 'r'] + self.lasts_of('zs') + KNOWN + lengths + ['(is-answer r w is)'])
         self.close(owned_at_exit(self.call), exits)
 
 

@@ -55,7 +55,7 @@ TYPES = [
     ('denote.Triple.Call', 'calls-at'),
     ('denote.Triple.Clauses', 'ensured atExit lasts'),
     ('denote.Triple.Table', 'entered cited'),
-    ('denote.Triple.Walked', 'says Stays stay-ref stay-none stay-none-slice gave-slice walkOf Walks ends-at walked walk-meets'),
+    ('denote.Triple.Walked', 'Stays stay-ref stay-none stay-none-slice gave-slice walkOf Walks ends-at walked walk-meets'),
     ('denote.Triple.Walked', 'AllGo goes-none goes-none-slice goes-gave-slice goes-ref'),
     ('denote.Exit', 'yes'),
 ]
@@ -102,7 +102,7 @@ def functions(subject):
     return found + [
         (proofs + '.StoredLaws', 'mach back is-back %s stored' % fits),
         (proofs + '.LendLaws', 'borrowed lends comes-home'),
-        (proofs + '.WalkLaws', '_▹_ slice shared twice says-both says-none'),
+        (proofs + '.WalkLaws', '_▹_ slice shared twice says-all says-none'),
         ('%s.Key.{name as #%s}' % (own, dashed(subject.place.name)), None),
         (own + ' as f', None),
         (own + '.Statement as stated', None),

@@ -76,7 +76,7 @@ class Lender(Subject):
     def read_memory(self):
         """The memory at entry, in which both contracts are written, and the definitions that they name."""
         self.memory = words(self.calls[0].left.split(' ≡ ')[1])[1][1:-1]
-        if any('(%s)' % self.memory not in text for call in self.calls for text in (call.answered, call.left)):
+        if any('(%s)' % self.memory not in text for call in self.calls for text in (*call.answered, call.left)):
             self.refuse('the contracts of its calls are not over one memory')
         merged = {}
         for call in self.calls:
@@ -99,10 +99,10 @@ class Lender(Subject):
 
     def ensured(self, call, record):
         """What a call ensures of its answer r, and of the record z that it leaves, over the memory before it: one that has this record."""
-        before = '(before %s)' % record
-        answered = re.sub(r'^r \.%s ≡' % call.answer_part, 'r ≡', call.answered)
+        before, answer = '(before %s)' % record, r'\(r \.%s\)|\br \.%s\b' % (call.answer_part, call.answer_part)
+        answered = [re.sub(answer, 'r', text) for text in call.answered]
         left = 'before z ≡ ' + call.left.split(' ≡ ')[1]
-        return [text.replace('(%s)' % self.memory, before) for text in (answered, left)]
+        return [text.replace('(%s)' % self.memory, before) for text in (*answered, left)]
 
 
 def lenders(crates, crate, calls):

@@ -1,9 +1,13 @@
 """The definitions of a lender's walk: what is passed and owned, what each call asks for and ensures, and the exit."""
+import re
+
+from call import ANSWERED, MEMORY
 from context import Context
 from layout import fill, wrap
+from lender_walk import facts_of
 from mir import copy, join, lasting
 from parts import (ENDS, ROOM, answers, contracts, define, define_pairs, entry, lifetimes, machine_types, machine_values, opening,
-                   stayed, tokens)
+                   shown, stayed, tokens)
 from terms import listed, over, paired, product
 
 LEFT = '''is-spelt : (r : %(answer)s) (w : Val) → Is E.the-row r (w ∷ []) → Is E.the-row r (mach-answer r ∷ [])
@@ -81,23 +85,28 @@ class LenderStatements:
     def ensured(self):
         """What each call ensures, and what both do: the second's facts are over the memory that the first leaves."""
         lender, record, answer = self.lender, self.record, self.answer
-        lines = ['  -- what each ensures: its answer, and the memory that it leaves, where the record was d before the second']
+        lines = ['  -- what each ensures of its answer and of the memory that it leaves, where the record was d before the second']
         lines += define('before', '%s → model.Memory' % record, lender.memory.replace(' h ', ' d ', 1), bound='d')
-        (answered1, left1), (answered2, left2) = [lender.ensured(call, name) for call, name in zip(lender.calls, RECORDS)]
-        lines += define('Answered1', '%s → Type 0' % answer, answered1, bound='r')
-        lines += define('Left1', '%s → Type 0' % record, left1, bound='z')
-        lines += define('Answered2', '%s → %s → Type 0' % (record, answer), answered2, bound='d r')
-        lines += define('Left2', '%s → %s → Type 0' % (record, record), left2, bound='d z')
-        between = '(%s)' % left1.split(' ≡ ')[1]
-        both = [text.replace('(before d)', between) for text in (answered2, left2)]
+        first, second = [lender.ensured(call, name) for call, name in zip(lender.calls, RECORDS)]
+        subjects = [(name, 'r', answer) for name in ANSWERED] + [(MEMORY, 'z', record)]
+        for (name, bound, kind), fact in zip(subjects, first):
+            lines += define(name + '1', '%s → Type 0' % kind, fact, bound=bound)
+        for (name, bound, kind), fact in zip(subjects, second):
+            lines += define(name + '2', '%s → %s → Type 0' % (record, kind), fact, bound='d ' + bound)
+        between = '(%s)' % first[-1].split(' ≡ ')[1]
+        later = [re.sub(r'\br\b', 's', fact).replace('(before d)', between) for fact in second]
+        both = ['%s1 r' % name for name in ANSWERED] + ['(%s)' % fact for fact in later[:-1]] + later[-1:]
         lines += ['  -- what both ensure']
-        ended = 'Answered1 r × ((s%s) × (%s))' % (both[0][1:], both[1])
+        ended = ' × ('.join(both) + ')' * (len(both) - 1)
         lines += define('Ended', '%s → %s → %s → Type 0' % (record, answer, answer), ended, bound='z r s')
-        same = ['ap (λ m. %s) e' % text.split(' ≡ ')[1].replace('(before d)', 'm') for text in (answered2, left2)]
-        facts = 'Answered1 r → Left1 d → Answered2 d s → Left2 d z → Ended z r s'
-        lines += wrap('follows : (d z : %s) (r s : %s) → %s' % (record, answer, facts), 2, 6)
-        lines += ['  follows d z r s a e b g =']
-        return lines + wrap('a ▹ b ∙ %s ▹ g ∙ %s' % tuple(same), 6) + ['']
+        facts = ['%s1 %s' % (name, 'd' if name == MEMORY else 'r') for name, _, _ in subjects]
+        facts += ['%s2 d %s' % (name, 'z' if name == MEMORY else 's') for name, _, _ in subjects]
+        lines += wrap('follows : (d z : %s) (r s : %s) → %s → Ended z r s' % (record, answer, ' → '.join(facts)), 2, 6)
+        *kept, left = facts_of(1)
+        lines += ['  follows d z r s %s =' % ' '.join(facts_of(1) + facts_of(2))]
+        same = ['ap (λ m. %s) %s' % (fact.split(' ≡ ')[1].replace('(before d)', 'm'), left) for fact in second]
+        moved = [' ∙ '.join(pair) for pair in zip(facts_of(2), same)]
+        return lines + wrap(' ▹ '.join(kept + moved), 6) + ['']
 
     def exit(self):
         """What is owned at exit, and that this is what the contract promises."""
@@ -120,7 +129,8 @@ class LenderStatements:
         lasts = paired([item.last if item.mutable else 'tt' for item in lender.passed], ROOM)
         lengths = paired([item.length if item.mutable else 'tt' for item in lender.passed], ROOM)
         lines += wrap('suffices ! _ (%s (mach-left (%s)) (%s) %s %s) $' % (ENDS, left, left, lasts, lengths), 6)
-        return lines + ['      says ! e $' if self.stated else '      says-none ! $'] + fill(self.exit_steps(), 6) + ['']
+        said = shown(2 * len(ANSWERED) + 1, 'e') if self.stated else 'says-none ! $'
+        return lines + [' ' * 6 + said] + fill(self.exit_steps(), 6) + ['']
 
     def exit_steps(self):
         """What is owned is joined as the contract has it."""

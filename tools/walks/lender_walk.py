@@ -1,9 +1,16 @@
 """The walk of a lender: the steps from its entry through its MIR to its exit."""
+from call import ANSWERED, MEMORY
 from layout import fill, wrap
 from mir import STOP, Mir, copy, lasting, loaded, local
+from parts import ensured, heard
 from terms import listed, over, part, product
 
 TYPED = '(LL.lawful T.the-type T′.the-laws 𝓤 H A W .typed %s _ %s .0)'
+
+
+def facts_of(number):
+    """The facts that a call ensures, as they are kept."""
+    return ['e%d%d' % (number, fact) for fact in range(1, len(ANSWERED) + 2)]
 
 
 class LenderWalk(Mir):
@@ -68,24 +75,25 @@ class LenderWalk(Mir):
         operands = loaded([self.load(place) for place in [self.references[number - 1]] + handed])
         context.say('calls-at ! fm %s) known%d %s %s (λ w%d.' % (contract, number, to, operands, number))
         args = '(ν%d ∷ [], lfts) (args δ%d l%d %s)' % (number, number, self.lent, record)
-        ensured = '(ensured 𝓤 H A call%d.ended (call%d.clauses 𝓤 H A at-mem run) %s tt r)' % (number, number, args)
+        promise = '(ensured 𝓤 H A call%d.ended (call%d.clauses 𝓤 H A at-mem run) %s tt r)' % (number, number, args)
         tokens = '(‵ (flft (ν%d ∷ []) fullShare) ⊛ tokens)' % number
-        given = '(%s ⊛ ‵ (E.the-row .own r (w%d ∷ []))) ⊛ raw %s' % (tokens, number, ensured)
+        given = '(%s ⊛ ‵ (E.the-row .own r (w%d ∷ []))) ⊛ raw %s' % (tokens, number, promise)
         given = 'use1 W (later (some (λ (r : %s). %s))) (id⊢ 𝓤 _) $' % (self.lender.answer.name, given)
         context.say(given + ' await ! tt $ pick ! (λ r%d.' % number)
         context.step('split ! $', 1, 'given', 'ensured')
 
     def hear(self, number, record):
-        """What the call ensures: the record's last value and those of the slices; its answer, and the memory that it leaves."""
+        """What the call ensures: the record's last value and those of the slices, and the facts."""
         context, args = self.context, '(ν%d ∷ [], lfts) (args δ%d l%d %s)' % (number, number, self.lent, record)
         context.front('ensured')
         lasts = product([self.lender.record.name] + [item.list_type if item.mutable else 'Unit {0}' for item in self.lender.passed[1:]])
         ended = '‵ (lasts call%d.ended %s zs)' % (number, args)
         facts, hear = self.facts(number, record) if self.lender.stated else self.ignored(number, args)
-        heard = 'use1 W (some (λ (zs : %s). %s ⊛ %s)) (id⊢ 𝓤 _) $' % (lasts, ended, facts)
-        context.step(heard + ' pick ! (λ z%d. split ! $' % number, 1, 'lasts', 'facts')
+        told = 'use1 W (some (λ (zs : %s). %s ⊛ %s)) (id⊢ 𝓤 _) $' % (lasts, ended, facts)
+        context.step(told + ' pick ! (λ z%d. split ! $' % number, 1, 'lasts', 'facts')
         context.front('facts')
-        context.step(hear, 1)
+        context.say(*hear)
+        context.turn(1)
         context.step('fsplit ! $', 1, 'last record', 'lasts')
         if self.lender.mutable:
             self.take_lasts(self.lender.passed[1:])
@@ -94,18 +102,17 @@ class LenderWalk(Mir):
             context.step('drop ! $', 1)
 
     def facts(self, number, record):
-        """The call's two facts, and the step that keeps them."""
+        """The call's facts, and the steps that keep them."""
         before = record if number == 2 else ''
-        answered = over('Answered%d' % number, before, 'r%d' % number)
-        left = over('Left%d' % number, before, '(%s .0)')
-        hear = 'split ! $ heard ! (%s) (λ a%d. heard ! (%s) (λ e%d.' % (answered, number, left % ('z%d' % number), number)
-        return 'raw (fact 𝓤 (%s)) ⊛ raw (fact 𝓤 (%s))' % (answered, left % 'zs'), hear
+        answered = [over('%s%d' % (name, number), before, 'r%d' % number) for name in ANSWERED]
+        left = over('%s%d' % (MEMORY, number), before, '(%s .0)')
+        return ensured([*answered, left % 'zs']), heard([*answered, left % ('z%d' % number)], facts_of(number))
 
     def ignored(self, number, args):
         """What the call ensures, whatever it is, and the step that drops it."""
         call = 'call%d' % number
-        ensured = '%s.clauses 𝓤 H A at-mem run %s .ensures tt r%d (atExit %s.ended %s zs)' % (call, args, number, call, args)
-        return 'raw (%s)' % ensured, 'drop ! $'
+        promise = '%s.clauses 𝓤 H A at-mem run %s .ensures tt r%d (atExit %s.ended %s zs)' % (call, args, number, call, args)
+        return 'raw (%s)' % promise, ['drop ! $']
 
     def come_home(self, number):
         """The answer lands, the lifetime ends, and the local holds the record's last value."""
@@ -137,7 +144,7 @@ class LenderWalk(Mir):
         self.assign('(agg ! %s)' % parts, 0, '(LL.lawful L.the-type L′.the-laws 𝓤 H A W .typed (left %s) _ %s .0)' % (left, fits))
         self.free_locals()
         lasts = ['(%s)' % part('z1', number) for number, item in enumerate(lender.passed) if item.mutable]
-        ended = over('(follows (z1 .0)', left, 'a1 e1 a2 e2)') if lender.stated else ''
+        ended = over('(follows (z1 .0)', left, *facts_of(1), *facts_of(2)) + ')' if lender.stated else ''
         kept = ['tokens'] + [lasting(item) for item in lender.mutable] + [copy(item) for item in lender.shared]
         self.close(kept, over('exits', left, *lasts, fits, *[item.length for item in lender.mutable], ended))
 

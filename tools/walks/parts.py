@@ -58,6 +58,22 @@ def opening(lifetimes, shares, others, items):
     return lines
 
 
+def ensured(facts):
+    """Facts that a contract ensures, one after the other."""
+    return ' ⊛ '.join('raw (fact 𝓤 (%s))' % fact for fact in facts)
+
+
+def heard(facts, names):
+    """The steps that take them apart and keep each under its name."""
+    steps = ['heard ! (%s) (λ %s.' % pair for pair in zip(facts, names)]
+    return ['split ! $ ' + step for step in steps[:-1]] + steps[-1:]
+
+
+def shown(count, proofs):
+    """The step that shows so many facts of a contract at the exit."""
+    return 'says-all ! _ (%s) %s $' % (listed('_' * (count - 1)), proofs)
+
+
 def lifetimes(subject, prefix):
     """The slices' lifetimes and the shares of their tokens."""
     slices = subject.slices

@@ -17,7 +17,7 @@ use Rattle.bufmodel.specs.Memory.{Memory, buffers, size, wordOf, pageOf, withSt
 use Rattle.bufmodel.specs.Books.{sound}
 use Rattle.bufmodel.specs.Sizes.{sized}
 use Rattle.bufmodel.specs.Outcome.{Place, place, refusalOf, checked, done, zeros}
-use Rattle.bufmodel.specs.Answer.{acceptedAt}
+use Rattle.bufmodel.specs.Answer.{acceptedOf}
 use Rattle.bufmodel.specs.Calls.{bufferPlaces, unpin, read, writePlaces, writeTo, write}
 use Rattle.bufmodel.proofs.OutcomeLaws.{refusal-past, refusal-at, refusal-none, refusal-passed, refusal-first, outcome-done}
 use Rattle.bufmodel.proofs.SizesLaws.{sized-page}
@@ -78,12 +78,12 @@ module _ (m : Memory) (i : ℕ) (k : Held m i) where
 -- ---- unpin
 module _ (m : Memory) (i : ℕ) where
   pub unpin-refused : {k : ℕ} → k ≡ checked m (bufferPlaces m i []) → k ≢ 0
-      → (accepted.the-variants.Refused k ≡ acceptedAt (unpin m i .refusal) []) × (m ≡ unpin m i .after)
+      → (accepted.the-variants.Refused k ≡ acceptedOf (unpin m i)) × (m ≡ unpin m i .after)
   unfolding unpin
   unpin-refused e h = accepted-refused h (end-at [] m _ e h)
 
   pub unpin-done : Held m i → {w : ℕ} {states : List ℕ} → w ≡ pinLess (wordOf m i) → states ≡ set (m .states) i w
-      → (accepted.the-variants.Done ≡ acceptedAt (unpin m i .refusal) []) × (withStates states m ≡ unpin m i .after)
+      → (accepted.the-variants.Done ≡ acceptedOf (unpin m i)) × (withStates states m ≡ unpin m i .after)
   unfolding unpin
   unpin-done k e s =
       let o = done zeros [] (withStates (set (m .states) i (pinLess (wordOf m i))) m) in
@@ -96,7 +96,7 @@ module _ (m : Memory) (i from : ℕ) (bytes : List ℕ) where
   readPlaces = place 9 (ltb (size m) (from + length bytes)) ∷ []
 
   pub read-refused : {k : ℕ} → k ≡ checked m (bufferPlaces m i readPlaces) → k ≢ 0
-      → (accepted.the-variants.Refused k ≡ acceptedAt (read m i from bytes .refusal) []) × (bytes ≡ read m i from bytes .bytes)
+      → (accepted.the-variants.Refused k ≡ acceptedOf (read m i from bytes)) × (bytes ≡ read m i from bytes .bytes)
   unfolding read
   read-refused e h = let r = end-at bytes m _ e h in (accepted-refused h r .0, bytes-refused h r)
 
@@ -104,7 +104,7 @@ module _ (m : Memory) (i from : ℕ) (bytes : List ℕ) where
   read-outside k l = sym (buffer-later m i k readPlaces ∙ refusal-at 9 [] (lt-ltb _ _ l))
 
   pub read-done : Held m i → from + length bytes ≤ size m → {xs : List ℕ} → xs ≡ take (length bytes) (drop from (pageOf m i))
-      → (accepted.the-variants.Done ≡ acceptedAt (read m i from bytes .refusal) []) × (xs ≡ read m i from bytes .bytes)
+      → (accepted.the-variants.Done ≡ acceptedOf (read m i from bytes)) × (xs ≡ read m i from bytes .bytes)
   unfolding read
   read-done k l e =
       let o = done zeros (take (length bytes) (drop from (pageOf m i))) m in
@@ -137,7 +137,7 @@ module _ (m : Memory) (i from : ℕ) (bytes : List ℕ) (at : ℕ) where
       ltb-false (size m) (from + length bytes) (or-neither (ltb (size m) (from + length bytes)) (ltb from 8) t .0)
 
   pub write-refused : {k : ℕ} → k ≡ checked m (writePlaces m i from bytes at) → k ≢ 0
-      → (accepted.the-variants.Refused k ≡ acceptedAt (write m i from bytes at .refusal) []) × (m ≡ write m i from bytes at .after)
+      → (accepted.the-variants.Refused k ≡ acceptedOf (write m i from bytes at)) × (m ≡ write m i from bytes at .after)
   unfolding write
   write-refused e h = accepted-refused h (end-at bytes m _ e h)
 
@@ -145,7 +145,7 @@ module _ (m : Memory) (i from : ℕ) (bytes : List ℕ) (at : ℕ) where
       → pool ≡ putBlock (size m) i (written at from bytes (pageOf m i)) (m .pool)
       → w ≡ makeDirty (wordOf m i)
       → states ≡ set (m .states) i w
-      → (accepted.the-variants.Done ≡ acceptedAt (write m i from bytes at .refusal) [])
+      → (accepted.the-variants.Done ≡ acceptedOf (write m i from bytes at))
       × (withPool pool (withStates states m) ≡ write m i from bytes at .after)
   unfolding write writeTo
   write-done e z p q s =

@@ -24,7 +24,7 @@ use Rattle.bufmodel.specs.Outcome.{Outcome, Place, place, checked, refused, out
 use Rattle.bufmodel.specs.Moves.{release, ofFile, releaseIf, releaseUpTo}
 use Rattle.bufmodel.specs.Pin.{noRow}
 use Rattle.bufmodel.specs.Calls.{fileFull, extendAt, extend, filePinned, dropAt, dropFile}
-use Rattle.bufmodel.specs.Answer.{extendedAt, acceptedAt}
+use Rattle.bufmodel.specs.Answer.{extendedAt, acceptedAt, extendedOf, acceptedOf}
 use Rattle.bufmodel.proofs.OutcomeLaws.{refusal-past, refusal-at, refusal-none}
 use Rattle.bufmodel.proofs.GoodLaws.{Good}
 use Rattle.bufmodel.proofs.AnswerLaws.{end-first, end-own, end-done}
@@ -85,7 +85,7 @@ module _ (m : Memory) (f : FileName) where
       pub extended-more : blocksAt (m .rows) r ≢ capacityAt (m .rows) r → {b : ℕ} {rows store : List ℕ} → b ≡ blocksAt (m .rows) r
           → rows ≡ setBlocks (m .rows) r (b + 1)
           → store ≡ putBlock (size m) (startOf (m .rows) r + b) (replicate (size m) 0) (m .store)
-          → (extended.the-variants.Block (record { 0 = b }) ≡ extendedAt (extend m f .refusal) (extend m f .answer))
+          → (extended.the-variants.Block (record { 0 = b }) ≡ extendedOf (extend m f))
           × (memory (m .control) (m .states) (m .names) (m .pool) (m .free) (m .heads) (m .chain) rows store ≡ extend m f .after)
       unfolding extendAt extendedAt
       extended-more q b x y = rw (extend-done q, x, y, b, add-one) (refl, refl)
@@ -112,7 +112,7 @@ module _ (m : Memory) (f : FileName) where
 
       pub dropped : pinnedOf (m .states) (m .names) f ≡ false → {d : Memory} {rows : List ℕ} → d ≡ releaseUpTo f (buffers m) m
           → rows ≡ setBlocks (m .rows) r 0
-          → (accepted.the-variants.Done ≡ acceptedAt (dropFile m f .refusal) []) × (withRows rows d ≡ dropFile m f .after)
+          → (accepted.the-variants.Done ≡ acceptedOf (dropFile m f)) × (withRows rows d ≡ dropFile m f .after)
       unfolding dropAt acceptedAt
       dropped q x y = rw (drop-done q, x, y) (refl, refl)
 

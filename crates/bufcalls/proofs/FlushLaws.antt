@@ -9,7 +9,7 @@ use Rattle.bufmodel.specs.declared.answer.Written as wrote
 use Rattle.bufmodel.specs.Word.{dirty}
 use Rattle.bufmodel.specs.Memory.{Memory, memory, wordOf}
 use Rattle.bufmodel.specs.Outcome.{checked, done, one}
-use Rattle.bufmodel.specs.Answer.{writtenAt}
+use Rattle.bufmodel.specs.Answer.{writtenOf}
 use Rattle.bufmodel.specs.Moves.{writeBack}
 use Rattle.bufmodel.specs.Calls.{bufferPlaces, flush}
 use Rattle.bufmodel.proofs.OutcomeLaws.{refusal-none, outcome-done}
@@ -19,14 +19,14 @@ use Rattle.bufcalls.proofs.BufferLaws.{Held, buffer-later}
 
 module _ (m : Memory) (i : ℕ) where
   pub flush-refused : {k : ℕ} → k ≡ checked m (bufferPlaces m i []) → k ≢ 0
-      → (wrote.the-variants.Refused k ≡ writtenAt (flush m i .refusal) (flush m i .answer)) × (m ≡ flush m i .after)
+      → (wrote.the-variants.Refused k ≡ writtenOf (flush m i)) × (m ≡ flush m i .after)
   unfolding flush
   flush-refused e h = written-refused h (end-at [] m _ e h)
 
   -- the parts that write-back is not lent are as they were
   pub flush-done : Held m i → {n : ℕ} {c : Control} {states store : List ℕ} → n ≡ ind (dirty (wordOf m i))
       → memory c states (m .names) (m .pool) [] [] [] (m .rows) store ≡ writeBack (backPart m) i
-      → (wrote.the-variants.Pages n ≡ writtenAt (flush m i .refusal) (flush m i .answer))
+      → (wrote.the-variants.Pages n ≡ writtenOf (flush m i))
       × (memory c states (m .names) (m .pool) (m .free) (m .heads) (m .chain) (m .rows) store ≡ flush m i .after)
   unfolding flush
   flush-done k {n} {c} {states} {store} e b =

@@ -19,7 +19,7 @@ use Rattle.bufmodel.specs.Memory.{Memory, buffers, size}
 use Rattle.bufmodel.specs.Outcome.{Outcome, checked, done, refused}
 use Rattle.bufmodel.specs.Pin.{heldIn}
 use Rattle.bufmodel.specs.Calls.{offsetOf, partOf, partIn, partAt, part, peek}
-use Rattle.bufmodel.specs.Answer.{peekedAt}
+use Rattle.bufmodel.specs.Answer.{peekedAt, peekedOf}
 use Rattle.bufmodel.proofs.OutcomeLaws.{refusal-none}
 use Rattle.bufmodel.proofs.GoodLaws.{Good, passed-good}
 use Rattle.bufmodel.proofs.AnswerLaws.{end-first, end-own, end-done, peeked-refused}
@@ -37,7 +37,7 @@ module _ (m : Memory) (n : PageName) where
   unfolding peek
   early e h = end-first m _ [] _ e h
 
-  pub peek-early : {k : ℕ} → k ≡ checked m [] → k ≢ 0 → peeked.the-variants.Refused k ≡ peekedAt (peek m n .refusal) (peek m n .answer)
+  pub peek-early : {k : ℕ} → k ≡ checked m [] → k ≢ 0 → peeked.the-variants.Refused k ≡ peekedOf (peek m n)
   peek-early e h = peeked-refused h (early e h)
 
   module _ (g : Good m) where
@@ -46,7 +46,7 @@ module _ (m : Memory) (n : PageName) where
     late e = let p = name-refused (m .rows) n [] e in (p .0, end-own m _ [] _ g (p .1) (p .0))
 
     pub peek-refused : {k : ℕ} → sought (m .rows) n ≡ Refused k
-        → peeked.the-variants.Refused k ≡ peekedAt (peek m n .refusal) (peek m n .answer)
+        → peeked.the-variants.Refused k ≡ peekedOf (peek m n)
     peek-refused e = let p = late e in peeked-refused (p .0) (p .1)
 
     peek-done : {at : ℕ} → sought (m .rows) n ≡ At at → peek m n ≡ done (partOf m n (heldIn m n)) [] m
@@ -55,12 +55,12 @@ module _ (m : Memory) (n : PageName) where
 
     module _ {at : ℕ} (e : sought (m .rows) n ≡ At at) where
       pub peek-pool : {b : BufferNumber} → lookUp (m .heads) (m .chain) (m .names) n ≡ held.the-variants.At b
-          → peeked.the-variants.InPool (b .0 * size m) ≡ peekedAt (peek m n .refusal) (peek m n .answer)
+          → peeked.the-variants.InPool (b .0 * size m) ≡ peekedOf (peek m n)
       unfolding partOf peekedAt
       peek-pool h = rw (peek-done e, sym (looked-up m g n) ∙ h)
 
       pub peek-store : lookUp (m .heads) (m .chain) (m .names) n ≡ held.the-variants.Nowhere
-          → peeked.the-variants.InStore (at * size m) ≡ peekedAt (peek m n .refusal) (peek m n .answer)
+          → peeked.the-variants.InStore (at * size m) ≡ peekedOf (peek m n)
       unfolding partOf peekedAt offsetOf
       peek-store h = rw (peek-done e, sym (looked-up m g n) ∙ h, name-at (m .rows) n [] e .0)
 
@@ -83,7 +83,7 @@ Told m xs (peeked.the-variants.Refused k) = [] ≡ xs
 
 module _ (m : Memory) where
   abbrev Tells : Outcome → Type 0
-  Tells o = Told m (part o) (peekedAt (o .refusal) (o .answer))
+  Tells o = Told m (part o) (peekedOf o)
 
   tells-refused : (k : ℕ) → k ≢ 0 → Tells (refused k [] m)
   unfolding part partAt peekedAt
@@ -112,5 +112,5 @@ module _ (m : Memory) where
         (eq-or-ne (checked m []) 0)
 
     -- as the code has it, which takes apart the answer of peek_at
-    pub told : {p : peeked.Peeked} → p ≡ peekedAt (peek m n .refusal) (peek m n .answer) → Told m (part (peek m n)) p
+    pub told : {p : peeked.Peeked} → p ≡ peekedOf (peek m n) → Told m (part (peek m n)) p
     told e = rw e tells

@@ -11,7 +11,7 @@ ghost use Rattle.laws.specs.Block.{block};
 ghost use Rattle.bufmodel.specs.Position.{position as pagePosition};
 ghost use Rattle.bufmodel.specs.Memory.{memory};
 ghost use Rattle.bufmodel.specs.Outcome.{place, refusalOf, checked};
-ghost use Rattle.bufmodel.specs.Answer.{acceptedAt};
+ghost use Rattle.bufmodel.specs.Answer.{acceptedNumber, acceptedWords, acceptedOf};
 ghost use Rattle.bufmodel.specs.Calls.{bufferPlaces, unpin, read, write};
 use bufbooks::lent::refusal;
 use bufmem::page::page_position;
@@ -93,10 +93,20 @@ pub fn unpin_buffer(
 ) -> Accepted
     ensures { λ r.
         ⌜ r
-        ≡ acceptedAt
+        ≡ acceptedOf
         (unpin
         (memory control (now (states .entry)) (now (names .entry)) (now (pool .entry)) (now (free .entry)) (now (heads .entry))
-        (now (chain .entry)) (now (rows .entry)) (now (store .entry))) (buffer .0) .refusal) [] ⌝ }
+        (now (chain .entry)) (now (rows .entry)) (now (store .entry))) (buffer .0)) ⌝ }
+    ensures { λ r.
+        ⌜ acceptedNumber r
+        ≡ unpin
+        (memory control (now (states .entry)) (now (names .entry)) (now (pool .entry)) (now (free .entry)) (now (heads .entry))
+        (now (chain .entry)) (now (rows .entry)) (now (store .entry))) (buffer .0) .refusal ⌝ }
+    ensures { λ r.
+        ⌜ acceptedWords r
+        ≡ unpin
+        (memory control (now (states .entry)) (now (names .entry)) (now (pool .entry)) (now (free .entry)) (now (heads .entry))
+        (now (chain .entry)) (now (rows .entry)) (now (store .entry))) (buffer .0) .answer ⌝ }
     ensures { λ _.
         ⌜ memory control (now (states .exit)) (now (names .entry)) (now (pool .entry)) (now (free .entry))
         (now (heads .entry)) (now (chain .entry)) (now (rows .entry)) (now (store .entry))
@@ -151,10 +161,20 @@ pub fn read_buffer(
 ) -> Accepted
     ensures { λ r.
         ⌜ r
-        ≡ acceptedAt
+        ≡ acceptedOf
         (read
         (memory control (now (states .entry)) (now (names .entry)) (now (pool .entry)) (now (free .entry)) (now (heads .entry))
-        (now (chain .entry)) (now (rows .entry)) (now (store .entry))) (buffer .0) from (now (out .entry)) .refusal) [] ⌝ }
+        (now (chain .entry)) (now (rows .entry)) (now (store .entry))) (buffer .0) from (now (out .entry))) ⌝ }
+    ensures { λ r.
+        ⌜ acceptedNumber r
+        ≡ read
+        (memory control (now (states .entry)) (now (names .entry)) (now (pool .entry)) (now (free .entry)) (now (heads .entry))
+        (now (chain .entry)) (now (rows .entry)) (now (store .entry))) (buffer .0) from (now (out .entry)) .refusal ⌝ }
+    ensures { λ r.
+        ⌜ acceptedWords r
+        ≡ read
+        (memory control (now (states .entry)) (now (names .entry)) (now (pool .entry)) (now (free .entry)) (now (heads .entry))
+        (now (chain .entry)) (now (rows .entry)) (now (store .entry))) (buffer .0) from (now (out .entry)) .answer ⌝ }
     ensures { λ _.
         ⌜ now (out .exit)
         ≡ read
@@ -238,10 +258,20 @@ pub fn write_buffer(
 ) -> Accepted
     ensures { λ r.
         ⌜ r
-        ≡ acceptedAt
+        ≡ acceptedOf
         (write
         (memory control (now (states .entry)) (now (names .entry)) (now (pool .entry)) (now (free .entry)) (now (heads .entry))
-        (now (chain .entry)) (now (rows .entry)) (now (store .entry))) (buffer .0) from (now (bytes .entry)) position .refusal) [] ⌝ }
+        (now (chain .entry)) (now (rows .entry)) (now (store .entry))) (buffer .0) from (now (bytes .entry)) position) ⌝ }
+    ensures { λ r.
+        ⌜ acceptedNumber r
+        ≡ write
+        (memory control (now (states .entry)) (now (names .entry)) (now (pool .entry)) (now (free .entry)) (now (heads .entry))
+        (now (chain .entry)) (now (rows .entry)) (now (store .entry))) (buffer .0) from (now (bytes .entry)) position .refusal ⌝ }
+    ensures { λ r.
+        ⌜ acceptedWords r
+        ≡ write
+        (memory control (now (states .entry)) (now (names .entry)) (now (pool .entry)) (now (free .entry)) (now (heads .entry))
+        (now (chain .entry)) (now (rows .entry)) (now (store .entry))) (buffer .0) from (now (bytes .entry)) position .answer ⌝ }
     ensures { λ _.
         ⌜ memory control (now (states .exit)) (now (names .entry)) (now (pool .exit)) (now (free .entry))
         (now (heads .entry)) (now (chain .entry)) (now (rows .entry)) (now (store .entry))

@@ -7,7 +7,7 @@ ghost use Rattle.laws.specs.Sum.{count};
 ghost use Rattle.bufmodel.specs.Word.{dirty};
 ghost use Rattle.bufmodel.specs.Memory.{memory};
 ghost use Rattle.bufmodel.specs.Moves.{writeUpTo};
-ghost use Rattle.bufmodel.specs.Answer.{writtenAt};
+ghost use Rattle.bufmodel.specs.Answer.{writtenNumber, writtenWords, writtenOf};
 ghost use Rattle.bufmodel.specs.Calls.{checkpoint};
 ghost use Rattle.bufcalls.specs.Checkpoint.{Stored};
 use crate::ends::WrittenEnd;
@@ -72,13 +72,20 @@ pub fn checkpoint_pool(
 ) -> WrittenEnd
     ensures { λ r.
         ⌜ r .answer
-        ≡ writtenAt
+        ≡ writtenOf
         (checkpoint
         (memory control (now (states .entry)) (now (names .entry)) (now (pool .entry)) (now (free .entry)) (now (heads .entry))
-        (now (chain .entry)) (now (rows .entry)) (now (store .entry))) .refusal)
-        (checkpoint
+        (now (chain .entry)) (now (rows .entry)) (now (store .entry)))) ⌝ }
+    ensures { λ r.
+        ⌜ writtenNumber (r .answer)
+        ≡ checkpoint
         (memory control (now (states .entry)) (now (names .entry)) (now (pool .entry)) (now (free .entry)) (now (heads .entry))
-        (now (chain .entry)) (now (rows .entry)) (now (store .entry))) .answer) ⌝ }
+        (now (chain .entry)) (now (rows .entry)) (now (store .entry))) .refusal ⌝ }
+    ensures { λ r.
+        ⌜ writtenWords (r .answer)
+        ≡ checkpoint
+        (memory control (now (states .entry)) (now (names .entry)) (now (pool .entry)) (now (free .entry)) (now (heads .entry))
+        (now (chain .entry)) (now (rows .entry)) (now (store .entry))) .answer ⌝ }
     ensures { λ r.
         ⌜ memory (r .control) (now (states .exit)) (now (names .entry)) (now (pool .entry)) (now (free .entry))
         (now (heads .entry)) (now (chain .entry)) (now (rows .entry)) (now (store .exit))

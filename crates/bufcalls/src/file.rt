@@ -2,13 +2,12 @@
 
 ghost use mathlib.Core.Path.{_≡_};
 ghost use mathlib.Core.Bool.{true};
-ghost use mathlib.Core.List.{[]};
 ghost use lib.ListN.{length};
 ghost use Rattle.bufmodel.specs.Memory.{memory};
 ghost use Rattle.bufmodel.specs.Sizes.{sized};
 ghost use Rattle.bufmodel.specs.Books.{sound};
 ghost use Rattle.bufmodel.specs.Moves.{releaseUpTo};
-ghost use Rattle.bufmodel.specs.Answer.{extendedAt, acceptedAt};
+ghost use Rattle.bufmodel.specs.Answer.{extendedNumber, extendedWords, extendedOf, acceptedNumber, acceptedWords, acceptedOf};
 ghost use Rattle.bufmodel.specs.Calls.{extend, dropFile};
 ghost use Rattle.buftag.specs.Names.{nameWords};
 ghost use Prim.Native.Nat.{_*_, _<_};
@@ -54,13 +53,20 @@ pub fn extend_file(
 ) -> Extended
     ensures { λ r.
         ⌜ r
-        ≡ extendedAt
+        ≡ extendedOf
         (extend
         (memory control (now (states .entry)) (now (names .entry)) (now (pool .entry)) (now (free .entry)) (now (heads .entry))
-        (now (chain .entry)) (now (rows .entry)) (now (store .entry))) file .refusal)
-        (extend
+        (now (chain .entry)) (now (rows .entry)) (now (store .entry))) file) ⌝ }
+    ensures { λ r.
+        ⌜ extendedNumber r
+        ≡ extend
         (memory control (now (states .entry)) (now (names .entry)) (now (pool .entry)) (now (free .entry)) (now (heads .entry))
-        (now (chain .entry)) (now (rows .entry)) (now (store .entry))) file .answer) ⌝ }
+        (now (chain .entry)) (now (rows .entry)) (now (store .entry))) file .refusal ⌝ }
+    ensures { λ r.
+        ⌜ extendedWords r
+        ≡ extend
+        (memory control (now (states .entry)) (now (names .entry)) (now (pool .entry)) (now (free .entry)) (now (heads .entry))
+        (now (chain .entry)) (now (rows .entry)) (now (store .entry))) file .answer ⌝ }
     ensures { λ _.
         ⌜ memory control (now (states .entry)) (now (names .entry)) (now (pool .entry)) (now (free .entry))
         (now (heads .entry)) (now (chain .entry)) (now (rows .exit)) (now (store .exit))
@@ -179,10 +185,20 @@ pub fn drop_file(
 ) -> AcceptedEnd
     ensures { λ r.
         ⌜ r .answer
-        ≡ acceptedAt
+        ≡ acceptedOf
         (dropFile
         (memory control (now (states .entry)) (now (names .entry)) (now (pool .entry)) (now (free .entry)) (now (heads .entry))
-        (now (chain .entry)) (now (rows .entry)) (now (store .entry))) file .refusal) [] ⌝ }
+        (now (chain .entry)) (now (rows .entry)) (now (store .entry))) file) ⌝ }
+    ensures { λ r.
+        ⌜ acceptedNumber (r .answer)
+        ≡ dropFile
+        (memory control (now (states .entry)) (now (names .entry)) (now (pool .entry)) (now (free .entry)) (now (heads .entry))
+        (now (chain .entry)) (now (rows .entry)) (now (store .entry))) file .refusal ⌝ }
+    ensures { λ r.
+        ⌜ acceptedWords (r .answer)
+        ≡ dropFile
+        (memory control (now (states .entry)) (now (names .entry)) (now (pool .entry)) (now (free .entry)) (now (heads .entry))
+        (now (chain .entry)) (now (rows .entry)) (now (store .entry))) file .answer ⌝ }
     ensures { λ r.
         ⌜ memory (r .control) (now (states .exit)) (now (names .exit)) (now (pool .entry)) (now (free .exit))
         (now (heads .exit)) (now (chain .exit)) (now (rows .exit)) (now (store .entry))

@@ -2,7 +2,7 @@
 
 ghost use mathlib.Core.Path.{_≡_};
 ghost use Rattle.bufmodel.specs.Memory.{memory};
-ghost use Rattle.bufmodel.specs.Answer.{writtenAt};
+ghost use Rattle.bufmodel.specs.Answer.{writtenNumber, writtenWords, writtenOf};
 ghost use Rattle.bufmodel.specs.Calls.{flush};
 use crate::buffer::buffer_refusal;
 use crate::ends::WrittenEnd;
@@ -29,13 +29,20 @@ pub fn flush_buffer(
 ) -> WrittenEnd
     ensures { λ r.
         ⌜ r .answer
-        ≡ writtenAt
+        ≡ writtenOf
         (flush
         (memory control (now (states .entry)) (now (names .entry)) (now (pool .entry)) (now (free .entry)) (now (heads .entry))
-        (now (chain .entry)) (now (rows .entry)) (now (store .entry))) (buffer .0) .refusal)
-        (flush
+        (now (chain .entry)) (now (rows .entry)) (now (store .entry))) (buffer .0)) ⌝ }
+    ensures { λ r.
+        ⌜ writtenNumber (r .answer)
+        ≡ flush
         (memory control (now (states .entry)) (now (names .entry)) (now (pool .entry)) (now (free .entry)) (now (heads .entry))
-        (now (chain .entry)) (now (rows .entry)) (now (store .entry))) (buffer .0) .answer) ⌝ }
+        (now (chain .entry)) (now (rows .entry)) (now (store .entry))) (buffer .0) .refusal ⌝ }
+    ensures { λ r.
+        ⌜ writtenWords (r .answer)
+        ≡ flush
+        (memory control (now (states .entry)) (now (names .entry)) (now (pool .entry)) (now (free .entry)) (now (heads .entry))
+        (now (chain .entry)) (now (rows .entry)) (now (store .entry))) (buffer .0) .answer ⌝ }
     ensures { λ r.
         ⌜ memory (r .control) (now (states .exit)) (now (names .entry)) (now (pool .entry)) (now (free .entry))
         (now (heads .entry)) (now (chain .entry)) (now (rows .entry)) (now (store .exit))

@@ -1,9 +1,8 @@
 // The log's positions.
 
 ghost use mathlib.Core.Path.{_≡_};
-ghost use mathlib.Core.List.{[]};
 ghost use Rattle.bufmodel.specs.Memory.{memory};
-ghost use Rattle.bufmodel.specs.Answer.{acceptedAt};
+ghost use Rattle.bufmodel.specs.Answer.{acceptedNumber, acceptedWords, acceptedOf};
 ghost use Rattle.bufmodel.specs.Calls.{logInserted, logFlushed};
 use crate::ends::AcceptedEnd;
 use crate::ends::refused;
@@ -29,10 +28,20 @@ pub fn log_inserted(
 ) -> AcceptedEnd
     ensures { λ r.
         ⌜ r .answer
-        ≡ acceptedAt
+        ≡ acceptedOf
         (logInserted
         (memory control (now (states .entry)) (now (names .entry)) (now (pool .entry)) (now (free .entry)) (now (heads .entry))
-        (now (chain .entry)) (now (rows .entry)) (now (store .entry))) position .refusal) [] ⌝ }
+        (now (chain .entry)) (now (rows .entry)) (now (store .entry))) position) ⌝ }
+    ensures { λ r.
+        ⌜ acceptedNumber (r .answer)
+        ≡ logInserted
+        (memory control (now (states .entry)) (now (names .entry)) (now (pool .entry)) (now (free .entry)) (now (heads .entry))
+        (now (chain .entry)) (now (rows .entry)) (now (store .entry))) position .refusal ⌝ }
+    ensures { λ r.
+        ⌜ acceptedWords (r .answer)
+        ≡ logInserted
+        (memory control (now (states .entry)) (now (names .entry)) (now (pool .entry)) (now (free .entry)) (now (heads .entry))
+        (now (chain .entry)) (now (rows .entry)) (now (store .entry))) position .answer ⌝ }
     ensures { λ r.
         ⌜ memory (r .control) (now (states .entry)) (now (names .entry)) (now (pool .entry)) (now (free .entry))
         (now (heads .entry)) (now (chain .entry)) (now (rows .entry)) (now (store .entry))
@@ -80,10 +89,20 @@ pub fn log_flushed(
 ) -> AcceptedEnd
     ensures { λ r.
         ⌜ r .answer
-        ≡ acceptedAt
+        ≡ acceptedOf
         (logFlushed
         (memory control (now (states .entry)) (now (names .entry)) (now (pool .entry)) (now (free .entry)) (now (heads .entry))
-        (now (chain .entry)) (now (rows .entry)) (now (store .entry))) position .refusal) [] ⌝ }
+        (now (chain .entry)) (now (rows .entry)) (now (store .entry))) position) ⌝ }
+    ensures { λ r.
+        ⌜ acceptedNumber (r .answer)
+        ≡ logFlushed
+        (memory control (now (states .entry)) (now (names .entry)) (now (pool .entry)) (now (free .entry)) (now (heads .entry))
+        (now (chain .entry)) (now (rows .entry)) (now (store .entry))) position .refusal ⌝ }
+    ensures { λ r.
+        ⌜ acceptedWords (r .answer)
+        ≡ logFlushed
+        (memory control (now (states .entry)) (now (names .entry)) (now (pool .entry)) (now (free .entry)) (now (heads .entry))
+        (now (chain .entry)) (now (rows .entry)) (now (store .entry))) position .answer ⌝ }
     ensures { λ r.
         ⌜ memory (r .control) (now (states .entry)) (now (names .entry)) (now (pool .entry)) (now (free .entry))
         (now (heads .entry)) (now (chain .entry)) (now (rows .entry)) (now (store .entry))

@@ -2,7 +2,7 @@
 
 ghost use mathlib.Core.Path.{_≡_};
 ghost use Rattle.bufmodel.specs.Memory.{memory};
-ghost use Rattle.bufmodel.specs.Answer.{peekedAt};
+ghost use Rattle.bufmodel.specs.Answer.{peekedNumber, peekedWords, peekedOf};
 ghost use Rattle.bufmodel.specs.Calls.{part, peek};
 use bufbooks::lent::refusal;
 use bufmem::page::page_offset;
@@ -28,13 +28,20 @@ pub fn peek_at(
 ) -> Peeked
     ensures { λ r.
         ⌜ r
-        ≡ peekedAt
+        ≡ peekedOf
         (peek
         (memory control (now (states .entry)) (now (names .entry)) (now (pool .entry)) (now (free .entry)) (now (heads .entry))
-        (now (chain .entry)) (now (rows .entry)) (now (store .entry))) name .refusal)
-        (peek
+        (now (chain .entry)) (now (rows .entry)) (now (store .entry))) name) ⌝ }
+    ensures { λ r.
+        ⌜ peekedNumber r
+        ≡ peek
         (memory control (now (states .entry)) (now (names .entry)) (now (pool .entry)) (now (free .entry)) (now (heads .entry))
-        (now (chain .entry)) (now (rows .entry)) (now (store .entry))) name .answer) ⌝ }
+        (now (chain .entry)) (now (rows .entry)) (now (store .entry))) name .refusal ⌝ }
+    ensures { λ r.
+        ⌜ peekedWords r
+        ≡ peek
+        (memory control (now (states .entry)) (now (names .entry)) (now (pool .entry)) (now (free .entry)) (now (heads .entry))
+        (now (chain .entry)) (now (rows .entry)) (now (store .entry))) name .answer ⌝ }
 {
     let k = refusal(
         control,

@@ -1,12 +1,11 @@
 // Set up: all buffers and chains empty, every buffer in the free list, hand 0, both positions as given.
 
 ghost use mathlib.Core.Path.{_≡_};
-ghost use mathlib.Core.List.{[]};
 ghost use Prim.Native.Nat.{_<_, _^_};
 ghost use lib.ListN.{length, replicate};
 ghost use Rattle.buftag.specs.Link.{none};
 ghost use Rattle.bufmodel.specs.Memory.{memory};
-ghost use Rattle.bufmodel.specs.Answer.{acceptedAt};
+ghost use Rattle.bufmodel.specs.Answer.{acceptedNumber, acceptedWords, acceptedOf};
 ghost use Rattle.bufmodel.specs.Calls.{freeLinks, setUp};
 use crate::ends::AcceptedEnd;
 use crate::ends::refused;
@@ -66,10 +65,20 @@ pub fn set_up_pool(
 ) -> AcceptedEnd
     ensures { λ r.
         ⌜ r .answer
-        ≡ acceptedAt
+        ≡ acceptedOf
         (setUp
         (memory control (now (states .entry)) (now (names .entry)) (now (pool .entry)) (now (free .entry)) (now (heads .entry))
-        (now (chain .entry)) (now (rows .entry)) (now (store .entry))) size position .refusal) [] ⌝ }
+        (now (chain .entry)) (now (rows .entry)) (now (store .entry))) size position) ⌝ }
+    ensures { λ r.
+        ⌜ acceptedNumber (r .answer)
+        ≡ setUp
+        (memory control (now (states .entry)) (now (names .entry)) (now (pool .entry)) (now (free .entry)) (now (heads .entry))
+        (now (chain .entry)) (now (rows .entry)) (now (store .entry))) size position .refusal ⌝ }
+    ensures { λ r.
+        ⌜ acceptedWords (r .answer)
+        ≡ setUp
+        (memory control (now (states .entry)) (now (names .entry)) (now (pool .entry)) (now (free .entry)) (now (heads .entry))
+        (now (chain .entry)) (now (rows .entry)) (now (store .entry))) size position .answer ⌝ }
     ensures { λ r.
         ⌜ memory (r .control) (now (states .exit)) (now (names .exit)) (now (pool .entry)) (now (free .exit))
         (now (heads .exit)) (now (chain .exit)) (now (rows .entry)) (now (store .entry))

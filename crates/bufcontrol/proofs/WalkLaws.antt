@@ -29,6 +29,21 @@ slice s = sliceVal (s .ptr) (length (s .now))
 abbrev pub shared : {M : Type 1} {𝓤 : URA M} (j : ℕ) (κ : Lft) (R : RattleType) → RefT (List (R .Denot)) → Item 𝓤
 shared j κ R s = ‵ (ShrSlice (named j) κ R .own s (slice s ∷ []))
 
+-- facts as a contract has them, one after the other, and their proofs
+abbrev pub facts : {M : Type 1} (𝓤 : URA M) → Type 0 → List (Type 0) → SProp 𝓤
+facts 𝓤 φ [] = fact 𝓤 φ
+facts 𝓤 φ (ψ ∷ ψs) = sep 𝓤 (fact 𝓤 φ) (facts 𝓤 ψ ψs)
+
+abbrev pub All : Type 0 → List (Type 0) → Type 0
+All φ [] = φ
+All φ (ψ ∷ ψs) = φ × All ψ ψs
+
+hold : {M : Type 1} (𝓤 : URA M) (φ : Type 0) (ψs : List (Type 0)) → All φ ψs → ent 𝓤 (emp 𝓤) (facts 𝓤 φ ψs)
+hold 𝓤 φ [] x = factI 𝓤 φ (emp 𝓤) x
+hold 𝓤 φ (ψ ∷ ψs) xs =
+    let F : SProp 𝓤 = facts 𝓤 ψ ψs in
+    via 𝓤 F (hold 𝓤 ψ ψs (xs .1)) (via 𝓤 _ (emp∗ 𝓤 F) (monoL 𝓤 F (factI 𝓤 φ (emp 𝓤) (xs .0))))
+
 module _ {M : Type 1} {𝓤 : URA M} {H : Heap 𝓤} {A : Atoms 𝓤} {K : Type 0} {W : Given 𝓤 H A} {Γ : List (Item 𝓤)} where
   -- it can be had twice: once for a callee, and once for the exit
   pub twice : {G : Goal 𝓤 H} → K → (j : ℕ) (κ : Lft) (R : RattleType) (s : RefT (List (R .Denot)))
@@ -37,15 +52,11 @@ module _ {M : Type 1} {𝓤 : URA M} {H : Heap 𝓤} {A : Atoms 𝓤} {K : Type 
       let copied = shr-slice-copy 𝓤 H A W (named j) κ R .twice s (slice s ∷ []) in
       step (λ rest. use1 W (shared j κ R s ⊛ shared j κ R s) copied $ split t $ rest)
 
-  -- two facts of an `ensures` are shown, and what is owned at exit is left
-  pub says-both : K → {φ ψ : Type 0} {P : SProp 𝓤} → φ → ψ → Step K W Γ (prop P) Γ (prop (sep 𝓤 P (sep 𝓤 (fact 𝓤 φ) (fact 𝓤 ψ))))
-  says-both t {φ} {ψ} {P} x y =
-      let F : SProp 𝓤 = fact 𝓤 φ in
-      let G : SProp 𝓤 = fact 𝓤 ψ in
-      let first : ent 𝓤 (emp 𝓤) (sep 𝓤 F (emp 𝓤)) = via 𝓤 _ (emp∗ 𝓤 (emp 𝓤)) (monoL 𝓤 (emp 𝓤) (factI 𝓤 φ (emp 𝓤) x)) in
-      let second : ent 𝓤 (sep 𝓤 (emp 𝓤) F) (sep 𝓤 G F) = monoL 𝓤 F (factI 𝓤 ψ (emp 𝓤) y) in
-      let both : ent 𝓤 (emp 𝓤) (sep 𝓤 F G) = via 𝓤 _ first (via 𝓤 _ (comm∗ 𝓤 F (emp 𝓤)) (via 𝓤 _ second (comm∗ 𝓤 G F))) in
-      step (λ s. record { prf = via 𝓤 P (s .prf) (via 𝓤 _ (emp∗ 𝓤 P) (via 𝓤 _ (monoL 𝓤 P both) (comm∗ 𝓤 (sep 𝓤 F G) P))) })
+  -- the facts of an `ensures` are shown, and what is owned at exit is left
+  pub says-all : K → (φ : Type 0) (ψs : List (Type 0)) {P : SProp 𝓤} → All φ ψs → Step K W Γ (prop P) Γ (prop (sep 𝓤 P (facts 𝓤 φ ψs)))
+  says-all t φ ψs {P} xs =
+      let F : SProp 𝓤 = facts 𝓤 φ ψs in
+      step (λ s. record { prf = via 𝓤 P (s .prf) (via 𝓤 _ (emp∗ 𝓤 P) (via 𝓤 _ (monoL 𝓤 P (hold 𝓤 φ ψs xs)) (comm∗ 𝓤 F P))) })
 
   -- of a function that ensures nothing, only what is owned at exit is left to show
   pub says-none : K → {P : SProp 𝓤} → Step K W Γ (prop P) Γ (prop (sep 𝓤 P (emp 𝓤)))

@@ -2,7 +2,7 @@
 
 ghost use mathlib.Core.Path.{_≡_};
 ghost use Rattle.bufmodel.specs.Memory.{memory};
-ghost use Rattle.bufmodel.specs.Answer.{writtenAt};
+ghost use Rattle.bufmodel.specs.Answer.{writtenNumber, writtenWords, writtenOf};
 ghost use Rattle.bufmodel.specs.Calls.{flush, checkpoint};
 use bufcalls::checkpoint::checkpoint_pool;
 use bufcalls::flush::flush_buffer;
@@ -25,13 +25,20 @@ pub fn flush(
 ) -> Written
     ensures { λ r.
         ⌜ r
-        ≡ writtenAt
+        ≡ writtenOf
         (flush
         (memory (now (control .entry)) (now (states .entry)) (now (names .entry)) (now (pool .entry)) (now (free .entry))
-        (now (heads .entry)) (now (chain .entry)) (now (rows .entry)) (now (store .entry))) (buffer .0) .refusal)
-        (flush
+        (now (heads .entry)) (now (chain .entry)) (now (rows .entry)) (now (store .entry))) (buffer .0)) ⌝ }
+    ensures { λ r.
+        ⌜ writtenNumber r
+        ≡ flush
         (memory (now (control .entry)) (now (states .entry)) (now (names .entry)) (now (pool .entry)) (now (free .entry))
-        (now (heads .entry)) (now (chain .entry)) (now (rows .entry)) (now (store .entry))) (buffer .0) .answer) ⌝ }
+        (now (heads .entry)) (now (chain .entry)) (now (rows .entry)) (now (store .entry))) (buffer .0) .refusal ⌝ }
+    ensures { λ r.
+        ⌜ writtenWords r
+        ≡ flush
+        (memory (now (control .entry)) (now (states .entry)) (now (names .entry)) (now (pool .entry)) (now (free .entry))
+        (now (heads .entry)) (now (chain .entry)) (now (rows .entry)) (now (store .entry))) (buffer .0) .answer ⌝ }
     ensures { λ _.
         ⌜ memory (now (control .exit)) (now (states .exit)) (now (names .entry)) (now (pool .entry)) (now (free .entry))
         (now (heads .entry)) (now (chain .entry)) (now (rows .entry)) (now (store .exit))
@@ -72,13 +79,20 @@ pub fn checkpoint(
 ) -> Written
     ensures { λ r.
         ⌜ r
-        ≡ writtenAt
+        ≡ writtenOf
         (checkpoint
         (memory (now (control .entry)) (now (states .entry)) (now (names .entry)) (now (pool .entry)) (now (free .entry))
-        (now (heads .entry)) (now (chain .entry)) (now (rows .entry)) (now (store .entry))) .refusal)
-        (checkpoint
+        (now (heads .entry)) (now (chain .entry)) (now (rows .entry)) (now (store .entry)))) ⌝ }
+    ensures { λ r.
+        ⌜ writtenNumber r
+        ≡ checkpoint
         (memory (now (control .entry)) (now (states .entry)) (now (names .entry)) (now (pool .entry)) (now (free .entry))
-        (now (heads .entry)) (now (chain .entry)) (now (rows .entry)) (now (store .entry))) .answer) ⌝ }
+        (now (heads .entry)) (now (chain .entry)) (now (rows .entry)) (now (store .entry))) .refusal ⌝ }
+    ensures { λ r.
+        ⌜ writtenWords r
+        ≡ checkpoint
+        (memory (now (control .entry)) (now (states .entry)) (now (names .entry)) (now (pool .entry)) (now (free .entry))
+        (now (heads .entry)) (now (chain .entry)) (now (rows .entry)) (now (store .entry))) .answer ⌝ }
     ensures { λ _.
         ⌜ memory (now (control .exit)) (now (states .exit)) (now (names .entry)) (now (pool .entry)) (now (free .entry))
         (now (heads .entry)) (now (chain .entry)) (now (rows .entry)) (now (store .exit))

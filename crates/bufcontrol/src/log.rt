@@ -1,9 +1,8 @@
 // The log's positions.
 
 ghost use mathlib.Core.Path.{_≡_};
-ghost use mathlib.Core.List.{[]};
 ghost use Rattle.bufmodel.specs.Memory.{memory};
-ghost use Rattle.bufmodel.specs.Answer.{acceptedAt};
+ghost use Rattle.bufmodel.specs.Answer.{acceptedNumber, acceptedWords, acceptedOf};
 ghost use Rattle.bufmodel.specs.Calls.{logInserted, logFlushed};
 use bufcalls::log::log_flushed;
 use bufcalls::log::log_inserted;
@@ -25,10 +24,20 @@ pub fn log_inserted_to(
 ) -> Accepted
     ensures { λ r.
         ⌜ r
-        ≡ acceptedAt
+        ≡ acceptedOf
         (logInserted
         (memory (now (control .entry)) (now (states .entry)) (now (names .entry)) (now (pool .entry)) (now (free .entry))
-        (now (heads .entry)) (now (chain .entry)) (now (rows .entry)) (now (store .entry))) position .refusal) [] ⌝ }
+        (now (heads .entry)) (now (chain .entry)) (now (rows .entry)) (now (store .entry))) position) ⌝ }
+    ensures { λ r.
+        ⌜ acceptedNumber r
+        ≡ logInserted
+        (memory (now (control .entry)) (now (states .entry)) (now (names .entry)) (now (pool .entry)) (now (free .entry))
+        (now (heads .entry)) (now (chain .entry)) (now (rows .entry)) (now (store .entry))) position .refusal ⌝ }
+    ensures { λ r.
+        ⌜ acceptedWords r
+        ≡ logInserted
+        (memory (now (control .entry)) (now (states .entry)) (now (names .entry)) (now (pool .entry)) (now (free .entry))
+        (now (heads .entry)) (now (chain .entry)) (now (rows .entry)) (now (store .entry))) position .answer ⌝ }
     ensures { λ _.
         ⌜ memory (now (control .exit)) (now (states .entry)) (now (names .entry)) (now (pool .entry)) (now (free .entry))
         (now (heads .entry)) (now (chain .entry)) (now (rows .entry)) (now (store .entry))
@@ -70,10 +79,20 @@ pub fn log_flushed_to(
 ) -> Accepted
     ensures { λ r.
         ⌜ r
-        ≡ acceptedAt
+        ≡ acceptedOf
         (logFlushed
         (memory (now (control .entry)) (now (states .entry)) (now (names .entry)) (now (pool .entry)) (now (free .entry))
-        (now (heads .entry)) (now (chain .entry)) (now (rows .entry)) (now (store .entry))) position .refusal) [] ⌝ }
+        (now (heads .entry)) (now (chain .entry)) (now (rows .entry)) (now (store .entry))) position) ⌝ }
+    ensures { λ r.
+        ⌜ acceptedNumber r
+        ≡ logFlushed
+        (memory (now (control .entry)) (now (states .entry)) (now (names .entry)) (now (pool .entry)) (now (free .entry))
+        (now (heads .entry)) (now (chain .entry)) (now (rows .entry)) (now (store .entry))) position .refusal ⌝ }
+    ensures { λ r.
+        ⌜ acceptedWords r
+        ≡ logFlushed
+        (memory (now (control .entry)) (now (states .entry)) (now (names .entry)) (now (pool .entry)) (now (free .entry))
+        (now (heads .entry)) (now (chain .entry)) (now (rows .entry)) (now (store .entry))) position .answer ⌝ }
     ensures { λ _.
         ⌜ memory (now (control .exit)) (now (states .entry)) (now (names .entry)) (now (pool .entry)) (now (free .entry))
         (now (heads .entry)) (now (chain .entry)) (now (rows .entry)) (now (store .entry))
@@ -122,23 +141,47 @@ pub fn log_through(
     position: u64,
 ) -> LogEnd
     ensures { λ r.
-        ⌜ (r .inserted
-        ≡ acceptedAt
+        ⌜ r .inserted
+        ≡ acceptedOf
         (logInserted
         (memory control (now (states .entry)) (now (names .entry)) (now (pool .entry)) (now (free .entry)) (now (heads .entry))
-        (now (chain .entry)) (now (rows .entry)) (now (store .entry))) position .refusal) [])
-        × ((r .flushed
-        ≡ acceptedAt
+        (now (chain .entry)) (now (rows .entry)) (now (store .entry))) position) ⌝ }
+    ensures { λ r.
+        ⌜ acceptedNumber (r .inserted)
+        ≡ logInserted
+        (memory control (now (states .entry)) (now (names .entry)) (now (pool .entry)) (now (free .entry)) (now (heads .entry))
+        (now (chain .entry)) (now (rows .entry)) (now (store .entry))) position .refusal ⌝ }
+    ensures { λ r.
+        ⌜ acceptedWords (r .inserted)
+        ≡ logInserted
+        (memory control (now (states .entry)) (now (names .entry)) (now (pool .entry)) (now (free .entry)) (now (heads .entry))
+        (now (chain .entry)) (now (rows .entry)) (now (store .entry))) position .answer ⌝ }
+    ensures { λ r.
+        ⌜ r .flushed
+        ≡ acceptedOf
         (logFlushed
         (logInserted
         (memory control (now (states .entry)) (now (names .entry)) (now (pool .entry)) (now (free .entry)) (now (heads .entry))
-        (now (chain .entry)) (now (rows .entry)) (now (store .entry))) position .after) position .refusal) [])
-        × (memory (r .control) (now (states .entry)) (now (names .entry)) (now (pool .entry)) (now (free .entry))
+        (now (chain .entry)) (now (rows .entry)) (now (store .entry))) position .after) position) ⌝ }
+    ensures { λ r.
+        ⌜ acceptedNumber (r .flushed)
+        ≡ logFlushed
+        (logInserted
+        (memory control (now (states .entry)) (now (names .entry)) (now (pool .entry)) (now (free .entry)) (now (heads .entry))
+        (now (chain .entry)) (now (rows .entry)) (now (store .entry))) position .after) position .refusal ⌝ }
+    ensures { λ r.
+        ⌜ acceptedWords (r .flushed)
+        ≡ logFlushed
+        (logInserted
+        (memory control (now (states .entry)) (now (names .entry)) (now (pool .entry)) (now (free .entry)) (now (heads .entry))
+        (now (chain .entry)) (now (rows .entry)) (now (store .entry))) position .after) position .answer ⌝ }
+    ensures { λ r.
+        ⌜ memory (r .control) (now (states .entry)) (now (names .entry)) (now (pool .entry)) (now (free .entry))
         (now (heads .entry)) (now (chain .entry)) (now (rows .entry)) (now (store .entry))
         ≡ logFlushed
         (logInserted
         (memory control (now (states .entry)) (now (names .entry)) (now (pool .entry)) (now (free .entry)) (now (heads .entry))
-        (now (chain .entry)) (now (rows .entry)) (now (store .entry))) position .after) position .after)) ⌝ }
+        (now (chain .entry)) (now (rows .entry)) (now (store .entry))) position .after) position .after ⌝ }
 {
     let mut lent = control;
     let inserted = log_inserted_to(

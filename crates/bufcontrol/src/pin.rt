@@ -2,7 +2,7 @@
 
 ghost use mathlib.Core.Path.{_≡_};
 ghost use Rattle.bufmodel.specs.Memory.{memory};
-ghost use Rattle.bufmodel.specs.Answer.{pinnedAt};
+ghost use Rattle.bufmodel.specs.Answer.{pinnedNumber, pinnedWords, pinnedOf};
 ghost use Rattle.bufmodel.specs.Pin.{pin};
 use bufmodel::answer::Pinned;
 use bufmodel::control::Control;
@@ -24,13 +24,20 @@ pub fn pin(
 ) -> Pinned
     ensures { λ r.
         ⌜ r
-        ≡ pinnedAt
+        ≡ pinnedOf
         (pin
         (memory (now (control .entry)) (now (states .entry)) (now (names .entry)) (now (pool .entry)) (now (free .entry))
-        (now (heads .entry)) (now (chain .entry)) (now (rows .entry)) (now (store .entry))) name .refusal)
-        (pin
+        (now (heads .entry)) (now (chain .entry)) (now (rows .entry)) (now (store .entry))) name) ⌝ }
+    ensures { λ r.
+        ⌜ pinnedNumber r
+        ≡ pin
         (memory (now (control .entry)) (now (states .entry)) (now (names .entry)) (now (pool .entry)) (now (free .entry))
-        (now (heads .entry)) (now (chain .entry)) (now (rows .entry)) (now (store .entry))) name .answer) ⌝ }
+        (now (heads .entry)) (now (chain .entry)) (now (rows .entry)) (now (store .entry))) name .refusal ⌝ }
+    ensures { λ r.
+        ⌜ pinnedWords r
+        ≡ pin
+        (memory (now (control .entry)) (now (states .entry)) (now (names .entry)) (now (pool .entry)) (now (free .entry))
+        (now (heads .entry)) (now (chain .entry)) (now (rows .entry)) (now (store .entry))) name .answer ⌝ }
     ensures { λ _.
         ⌜ memory (now (control .exit)) (now (states .exit)) (now (names .exit)) (now (pool .exit)) (now (free .exit))
         (now (heads .exit)) (now (chain .exit)) (now (rows .entry)) (now (store .exit))

@@ -11,6 +11,7 @@ use Rattle.bufmodel.specs.declared.answer.Accepted as accepted
 use Rattle.bufmodel.specs.Memory.{Memory}
 use Rattle.bufmodel.specs.Outcome.{Outcome, Place, refusalOf, checked, done, refused, outcome, one}
 use Rattle.bufmodel.specs.Answer.{pinnedAt, writtenAt, peekedAt, extendedAt, acceptedAt}
+use Rattle.bufmodel.specs.Answer.{pinnedOf, writtenOf, peekedOf, extendedOf, acceptedOf}
 use Rattle.bufmodel.proofs.OutcomeLaws.{outcome-done, outcome-refused}
 use Rattle.bufmodel.proofs.GoodLaws.{Good, checked-good, checked-early}
 
@@ -66,20 +67,20 @@ module _ {m : Memory} {e : Outcome} {k : ℕ} {bytes : List ℕ} (h : k ≢ 0) (
   pub bytes-refused : bytes ≡ e .bytes
   bytes-refused = ap (λ (x : Outcome). x .bytes) (sym r)
 
-  pub pinned-refused : (pinned.the-variants.Refused k ≡ pinnedAt (e .refusal) (e .answer)) × (m ≡ e .after)
-  pinned-refused = (pinned-at k _ h ∙ ap (λ (x : Outcome). pinnedAt (x .refusal) (x .answer)) (sym r), same)
+  pub pinned-refused : (pinned.the-variants.Refused k ≡ pinnedOf e) × (m ≡ e .after)
+  pinned-refused = (pinned-at k _ h ∙ ap pinnedOf (sym r), same)
 
-  pub written-refused : (written.the-variants.Refused k ≡ writtenAt (e .refusal) (e .answer)) × (m ≡ e .after)
-  written-refused = (written-at k _ h ∙ ap (λ (x : Outcome). writtenAt (x .refusal) (x .answer)) (sym r), same)
+  pub written-refused : (written.the-variants.Refused k ≡ writtenOf e) × (m ≡ e .after)
+  written-refused = (written-at k _ h ∙ ap writtenOf (sym r), same)
 
-  pub peeked-refused : peeked.the-variants.Refused k ≡ peekedAt (e .refusal) (e .answer)
-  peeked-refused = peeked-at k _ h ∙ ap (λ (x : Outcome). peekedAt (x .refusal) (x .answer)) (sym r)
+  pub peeked-refused : peeked.the-variants.Refused k ≡ peekedOf e
+  peeked-refused = peeked-at k _ h ∙ ap peekedOf (sym r)
 
-  pub extended-refused : (extended.the-variants.Refused k ≡ extendedAt (e .refusal) (e .answer)) × (m ≡ e .after)
-  extended-refused = (extended-at k _ h ∙ ap (λ (x : Outcome). extendedAt (x .refusal) (x .answer)) (sym r), same)
+  pub extended-refused : (extended.the-variants.Refused k ≡ extendedOf e) × (m ≡ e .after)
+  extended-refused = (extended-at k _ h ∙ ap extendedOf (sym r), same)
 
-  pub accepted-refused : (accepted.the-variants.Refused k ≡ acceptedAt (e .refusal) []) × (m ≡ e .after)
-  accepted-refused = (accepted-at k [] h ∙ ap (λ (x : Outcome). acceptedAt (x .refusal) []) (sym r), same)
+  pub accepted-refused : (accepted.the-variants.Refused k ≡ acceptedOf e) × (m ≡ e .after)
+  accepted-refused = (accepted-at k [] h ∙ ap acceptedOf (sym r), same)
 
 -- ---- a call e that is done
 accepted-none : accepted.the-variants.Done ≡ acceptedAt 0 []
@@ -91,15 +92,15 @@ unfolding writtenAt
 written-none n = refl
 
 module _ {m : Memory} {e : Outcome} {bytes : List ℕ} where
-  pub accepted-done : {ws : List ℕ} → e ≡ done ws bytes m → (accepted.the-variants.Done ≡ acceptedAt (e .refusal) []) × (m ≡ e .after)
+  pub accepted-done : {ws : List ℕ} → e ≡ done ws bytes m → (accepted.the-variants.Done ≡ acceptedOf e) × (m ≡ e .after)
   accepted-done r = (
-    accepted-none ∙ ap (λ (x : Outcome). acceptedAt (x .refusal) []) (sym r),
+    accepted-none ∙ ap acceptedOf (sym r),
     ap (λ (x : Outcome). x .after) (sym r),
   )
 
   pub written-done : {n : ℕ} → e ≡ done (one n) bytes m
-      → (written.the-variants.Pages n ≡ writtenAt (e .refusal) (e .answer)) × (m ≡ e .after)
+      → (written.the-variants.Pages n ≡ writtenOf e) × (m ≡ e .after)
   written-done {n} r = (
-    written-none n ∙ ap (λ (x : Outcome). writtenAt (x .refusal) (x .answer)) (sym r),
+    written-none n ∙ ap writtenOf (sym r),
     ap (λ (x : Outcome). x .after) (sym r),
   )

@@ -9,6 +9,7 @@ pub mod SizesLaws
 pub mod BooksLaws
 pub mod GoodLaws
 pub mod AnswerLaws
+pub mod AnsweredLaws
 pub mod HeldLaws
 -- changes that keep it so
 pub mod LikeLaws

@@ -10,7 +10,7 @@ use Rattle.bufmodel.specs.declared.answer.Written as written
 use Rattle.bufmodel.specs.declared.answer.Peeked as peeked
 use Rattle.bufmodel.specs.declared.answer.Extended as extended
 use Rattle.bufmodel.specs.declared.answer.Accepted as accepted
-use Rattle.bufmodel.specs.Outcome.{zeros, one, two}
+use Rattle.bufmodel.specs.Outcome.{Outcome, zeros, one, two}
 
 -- pin: buffer number, hit or loaded, whether it wrote, probes
 unfoldable pub pinnedNumber : pinned.Pinned → ℕ
@@ -80,3 +80,18 @@ extendedAt (suc k) ws = extended.the-variants.Refused (suc k)
 unfoldable pub acceptedAt : ℕ → List ℕ → accepted.Accepted
 acceptedAt zero ws = accepted.the-variants.Done
 acceptedAt (suc k) ws = accepted.the-variants.Refused (suc k)
+
+abbrev pub pinnedOf : Outcome → pinned.Pinned
+pinnedOf o = pinnedAt (o .refusal) (o .answer)
+
+abbrev pub writtenOf : Outcome → written.Written
+writtenOf o = writtenAt (o .refusal) (o .answer)
+
+abbrev pub peekedOf : Outcome → peeked.Peeked
+peekedOf o = peekedAt (o .refusal) (o .answer)
+
+abbrev pub extendedOf : Outcome → extended.Extended
+extendedOf o = extendedAt (o .refusal) (o .answer)
+
+abbrev pub acceptedOf : Outcome → accepted.Accepted
+acceptedOf o = acceptedAt (o .refusal) []

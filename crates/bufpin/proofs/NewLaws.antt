@@ -17,7 +17,7 @@ use Rattle.bufmodel.specs.Rows.{placeOf}
 use Rattle.bufmodel.specs.Memory.{Memory}
 use Rattle.bufmodel.specs.Sweep.{sweepAll}
 use Rattle.bufmodel.specs.Moves.{loadAt}
-use Rattle.bufmodel.specs.Answer.{pinnedAt}
+use Rattle.bufmodel.specs.Answer.{pinnedAt, pinnedOf}
 use Rattle.bufmodel.specs.Pin.{pinFree, pinSwept, pinNew}
 use Rattle.bufmodel.proofs.GoodLaws.{Good}
 use Rattle.bufmodel.proofs.FreeListLaws.{top-none}
@@ -41,7 +41,7 @@ module _ (m : Memory) (n : PageName) where
 
   module _ (i : ℕ) (top : linkOf (m .control .top) ≡ To i) where
     pub new-answer : loadedAt i false 0
-        ≡ pinnedAt (pinNew m n (linkOf (m .control .top)) .refusal) (pinNew m n (linkOf (m .control .top)) .answer)
+        ≡ pinnedOf (pinNew m n (linkOf (m .control .top)))
     unfolding pinNew pinFree pinnedAt
     new-answer = rw top
 

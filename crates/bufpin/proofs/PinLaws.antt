@@ -19,7 +19,7 @@ use Rattle.bufmodel.specs.declared.answer.Pinned as answer
 use Rattle.bufmodel.specs.Word.{pins, maxPins, pinned, pinMore}
 use Rattle.bufmodel.specs.Memory.{Memory, buffers, wordOf, withStates}
 use Rattle.bufmodel.specs.Outcome.{Outcome, place, refusalOf, checked, outcome}
-use Rattle.bufmodel.specs.Answer.{pinnedAt}
+use Rattle.bufmodel.specs.Answer.{pinnedAt, pinnedOf}
 use Rattle.bufmodel.specs.Pin.{countFull, noVictim, heldIn, pinPlaces, pinHeld, pinVictim, pinSwept, pinNew}
 use Rattle.bufmodel.specs.Pin.{pinTo, pin}
 use Rattle.bufmodel.proofs.OutcomeLaws.{refusal-past, refusal-at, refusal-none, outcome-done, outcome-refused}
@@ -48,7 +48,7 @@ more-words words i f = rw f
 module _ (m : Memory) (n : PageName) where
   -- what the code has to show of the answer, and of the memory
   abbrev Says : answer.Pinned → Memory → Type 0
-  Says a o = (a ≡ pinnedAt (pin m n .refusal) (pin m n .answer)) × (o ≡ pin m n .after)
+  Says a o = (a ≡ pinnedOf (pin m n)) × (o ≡ pin m n .after)
 
   pub pin-refused : {k : ℕ} → k ≢ 0 → checked m (pinPlaces m n) ≡ k → Says (answer.the-variants.Refused k) m
   unfolding pin
@@ -88,7 +88,7 @@ module _ (m : Memory) (n : PageName) where
           (λ t. rw t (pin-refused (omega arith) (last (At b) e ∙ refusal-at 5 _ t)))
           (λ f.
           let a = accepted (At b) e f refl in (
-            more-answer (b .0) (wordOf m (b .0)) f ∙ sym (ap (λ (o : Outcome). pinnedAt (o .refusal) (o .answer)) a),
+            more-answer (b .0) (wordOf m (b .0)) f ∙ sym (ap pinnedOf a),
             ap (λ (x : List ℕ). withStates x m) (more-words (m .states) (b .0) f) ∙ sym (ap (λ (o : Outcome). o .after) a),
           ))
           (true-or-false (eqb (pins (wordOf m (b .0))) maxPins))

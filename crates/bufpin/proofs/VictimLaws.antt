@@ -19,7 +19,7 @@ use Rattle.bufmodel.specs.Sizes.{sized}
 use Rattle.bufmodel.specs.Books.{sound}
 use Rattle.bufmodel.specs.Sweep.{Swept, sweepAll}
 use Rattle.bufmodel.specs.Moves.{writeBack, release, load}
-use Rattle.bufmodel.specs.Answer.{pinnedAt}
+use Rattle.bufmodel.specs.Answer.{pinnedAt, pinnedOf}
 use Rattle.bufmodel.specs.Pin.{pinVictim, pinSwept}
 use Rattle.bufmodel.proofs.GoodLaws.{Good, good-sized, good-sound}
 use Rattle.bufmodel.proofs.FreeListLaws.{top-end}
@@ -62,7 +62,7 @@ module _ (m : Memory) (k : Good m) (n : PageName) where
 
   -- none is found
   pub swept-refused : end .victim ≡ missing
-      → answer.the-variants.Refused 6 ≡ pinnedAt (pinSwept m n end .refusal) (pinSwept m n end .answer)
+      → answer.the-variants.Refused 6 ≡ pinnedOf (pinSwept m n end)
   unfolding pinSwept pinVictim pinnedAt
   swept-refused e = rw e
 
@@ -90,7 +90,7 @@ module _ (m : Memory) (k : Good m) (n : PageName) where
         )
 
     pub swept-answer : {probes : ℕ} → end .probes ≡ probes
-        → loadedAt v (dirty (getD states v 0)) probes ≡ pinnedAt (pinSwept m n end .refusal) (pinSwept m n end .answer)
+        → loadedAt v (dirty (getD states v 0)) probes ≡ pinnedOf (pinSwept m n end)
     unfolding pinSwept pinVictim pinnedAt
     swept-answer p =
         rw (e, ← p)

@@ -11,7 +11,7 @@ ghost use Rattle.bufmodel.specs.Rows.{placeOf};
 ghost use Rattle.bufmodel.specs.Memory.{memory};
 ghost use Rattle.bufmodel.specs.Sizes.{sized};
 ghost use Rattle.bufmodel.specs.Books.{sound};
-ghost use Rattle.bufmodel.specs.Answer.{pinnedAt};
+ghost use Rattle.bufmodel.specs.Answer.{pinnedNumber, pinnedWords, pinnedOf};
 ghost use Rattle.bufmodel.specs.Pin.{pinNew, pin};
 ghost use Rattle.bufpin.specs.Pin.{heldAt, heldWords};
 use crate::ends::PinnedEnd;
@@ -57,13 +57,10 @@ fn pin_new(
         × (placeOf (now rows) name ≡ found g) ⌝ }
     ensures { λ r.
         ⌜ r .answer
-        ≡ pinnedAt
+        ≡ pinnedOf
         (pinNew
         (memory control (now (states .entry)) (now (names .entry)) (now (pool .entry)) (now (free .entry)) (now (heads .entry))
-        (now (chain .entry)) (now (rows .entry)) (now (store .entry))) name (linkOf (control .top)) .refusal)
-        (pinNew
-        (memory control (now (states .entry)) (now (names .entry)) (now (pool .entry)) (now (free .entry)) (now (heads .entry))
-        (now (chain .entry)) (now (rows .entry)) (now (store .entry))) name (linkOf (control .top)) .answer) ⌝ }
+        (now (chain .entry)) (now (rows .entry)) (now (store .entry))) name (linkOf (control .top))) ⌝ }
     ensures { λ r.
         ⌜ memory (r .control) (now (states .exit)) (now (names .exit)) (now (pool .exit)) (now (free .exit))
         (now (heads .exit)) (now (chain .exit)) (now (rows .entry)) (now (store .exit))
@@ -148,13 +145,20 @@ pub fn pin_page(
 ) -> PinnedEnd
     ensures { λ r.
         ⌜ r .answer
-        ≡ pinnedAt
+        ≡ pinnedOf
         (pin
         (memory control (now (states .entry)) (now (names .entry)) (now (pool .entry)) (now (free .entry)) (now (heads .entry))
-        (now (chain .entry)) (now (rows .entry)) (now (store .entry))) name .refusal)
-        (pin
+        (now (chain .entry)) (now (rows .entry)) (now (store .entry))) name) ⌝ }
+    ensures { λ r.
+        ⌜ pinnedNumber (r .answer)
+        ≡ pin
         (memory control (now (states .entry)) (now (names .entry)) (now (pool .entry)) (now (free .entry)) (now (heads .entry))
-        (now (chain .entry)) (now (rows .entry)) (now (store .entry))) name .answer) ⌝ }
+        (now (chain .entry)) (now (rows .entry)) (now (store .entry))) name .refusal ⌝ }
+    ensures { λ r.
+        ⌜ pinnedWords (r .answer)
+        ≡ pin
+        (memory control (now (states .entry)) (now (names .entry)) (now (pool .entry)) (now (free .entry)) (now (heads .entry))
+        (now (chain .entry)) (now (rows .entry)) (now (store .entry))) name .answer ⌝ }
     ensures { λ r.
         ⌜ memory (r .control) (now (states .exit)) (now (names .exit)) (now (pool .exit)) (now (free .exit))
         (now (heads .exit)) (now (chain .exit)) (now (rows .entry)) (now (store .exit))

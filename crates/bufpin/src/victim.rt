@@ -14,7 +14,7 @@ ghost use Rattle.bufmodel.specs.Sizes.{sized};
 ghost use Rattle.bufmodel.specs.Books.{sound};
 ghost use Rattle.bufmodel.specs.Sweep.{sweepAll};
 ghost use Rattle.bufmodel.specs.Moves.{writeBack, release, load};
-ghost use Rattle.bufmodel.specs.Answer.{pinnedAt};
+ghost use Rattle.bufmodel.specs.Answer.{pinnedOf};
 ghost use Rattle.bufmodel.specs.Pin.{pinSwept};
 ghost use Rattle.bufpin.specs.Victim.{loadedAt};
 use crate::ends::PinnedEnd;
@@ -114,13 +114,10 @@ pub fn pin_swept(
         × (linkOf (control .top) ≡ End) ⌝ }
     ensures { λ r.
         ⌜ r .answer
-        ≡ pinnedAt
+        ≡ pinnedOf
         (pinSwept
         (memory control (now (states .entry)) (now (names .entry)) (now (pool .entry)) (now (free .entry)) (now (heads .entry))
-        (now (chain .entry)) (now (rows .entry)) (now (store .entry))) name (sweepAll (now (states .entry)) (control .hand)) .refusal)
-        (pinSwept
-        (memory control (now (states .entry)) (now (names .entry)) (now (pool .entry)) (now (free .entry)) (now (heads .entry))
-        (now (chain .entry)) (now (rows .entry)) (now (store .entry))) name (sweepAll (now (states .entry)) (control .hand)) .answer) ⌝ }
+        (now (chain .entry)) (now (rows .entry)) (now (store .entry))) name (sweepAll (now (states .entry)) (control .hand))) ⌝ }
     ensures { λ r.
         ⌜ memory (r .control) (now (states .exit)) (now (names .exit)) (now (pool .exit)) (now (free .exit))
         (now (heads .exit)) (now (chain .exit)) (now (rows .entry)) (now (store .exit))

@@ -1,116 +1,22 @@
--- Each call as the exports need it: refused early where the places 1 and 2 refuse, and an outcome of its kind.
+-- Each call as the exports need it: refused early where the places 1 and 2 refuse; and which calls leave the memory.
 use Prim.Native.Nat.{ℕ, zero, suc}
 use mathlib.Core.Path.{_≡_, refl}
-use mathlib.Core.Bool.{Bool, true, false}
-use mathlib.Core.List.{List, [], _∷_}
-use Rattle.laws.specs.Sum.{ind}
-use Rattle.laws.specs.First.{Found, found, missing}
-use Rattle.buftag.specs.declared.link.Link.{Link}
-use Rattle.buftag.specs.declared.link.Link.the-variants.{To, End, Off, Bad}
-use Rattle.buftag.specs.Link.{linkOf}
-use Rattle.buftag.specs.declared.lookup.Held.{Held}
-use Rattle.buftag.specs.declared.lookup.Held.the-variants.{At, Nowhere}
+use mathlib.Core.List.{List, []}
 use Rattle.buftag.specs.declared.name.FileName.{FileName}
 use Rattle.buftag.specs.declared.name.PageName.{PageName}
 use Rattle.bufmodel.specs.declared.control.Control.{Control}
-use Rattle.bufmodel.specs.declared.answer.Accepted.{Accepted}
-use Rattle.bufmodel.specs.declared.answer.Written.{Written}
-use Rattle.bufmodel.specs.declared.answer.Peeked.{Peeked}
-use Rattle.bufmodel.specs.declared.answer.Extended.{Extended}
-use Rattle.bufmodel.specs.declared.answer.Pinned.{Pinned}
-use Rattle.bufmodel.specs.Word.{dirty}
-use Rattle.bufmodel.specs.Memory.{Memory, wordOf}
+use Rattle.bufmodel.specs.Memory.{Memory}
 use Rattle.bufmodel.specs.Sizes.{sizedFor}
-use Rattle.bufmodel.specs.Outcome.{Outcome, zeros, done, refused, outcome}
-use Rattle.bufmodel.specs.Answer.{acceptedNumber, acceptedWords, acceptedAt, writtenNumber, writtenWords, writtenAt}
-use Rattle.bufmodel.specs.Answer.{peekedNumber, peekedWords, peekedAt, extendedNumber, extendedWords, extendedAt}
-use Rattle.bufmodel.specs.Answer.{pinnedNumber, pinnedWords, pinnedAt}
+use Rattle.bufmodel.specs.Outcome.{Outcome, outcome}
 use Rattle.bufmodel.specs.Lent.{Lent, opened, ended}
-use Rattle.bufmodel.specs.Sweep.{Swept}
-use Rattle.bufmodel.specs.Rows.{rowOf}
-use Rattle.bufmodel.specs.Pin.{heldIn, pinHeld, pinFree, pinVictim, pinSwept, pinNew, pinTo, pin}
-use Rattle.bufmodel.specs.Calls.{setUp, fresh, unpin, read, write, flush, checkpoint, partOf, peek}
-use Rattle.bufmodel.specs.Calls.{extendAt, extend, dropAt, dropFile, logInserted, logFlushed}
+use Rattle.bufmodel.specs.Pin.{pin}
+use Rattle.bufmodel.specs.Calls.{setUp, fresh, unpin, read, write, flush, checkpoint, peek, extend, dropFile, logInserted, logFlushed}
 use Rattle.bufmodel.proofs.AnswerLaws.{end-first}
-use Rattle.bufpool.proofs.ExportLaws.{Early, Answers, under, endedBy}
-
--- ---- outcomes
--- an outcome is the one of an accepted call, or refused
-by-case : (P : Outcome → Type 0) (k : ℕ) (bytes : List ℕ) (m : Memory) (o : Outcome) → P o → ((j : ℕ) → P (refused (suc j) bytes m))
-    → P (outcome k bytes m o)
-unfolding outcome
-by-case P zero bytes m o p q = p
-by-case P (suc k) bytes m o p q = q k
-
--- ---- the five kinds of answer
-abbrev pub acceptedOf : Outcome → Accepted
-acceptedOf o = acceptedAt (o .refusal) []
-
-abbrev pub writtenOf : Outcome → Written
-writtenOf o = writtenAt (o .refusal) (o .answer)
-
-abbrev pub peekedOf : Outcome → Peeked
-peekedOf o = peekedAt (o .refusal) (o .answer)
-
-abbrev pub extendedOf : Outcome → Extended
-extendedOf o = extendedAt (o .refusal) (o .answer)
-
-abbrev pub pinnedOf : Outcome → Pinned
-pinnedOf o = pinnedAt (o .refusal) (o .answer)
-
-abbrev AcceptedIs : List ℕ → Memory → Outcome → Type 0
-AcceptedIs left m o = Answers acceptedNumber acceptedWords acceptedOf left m o
-
-abbrev WrittenIs : Memory → Outcome → Type 0
-WrittenIs m o = Answers writtenNumber writtenWords writtenOf [] m o
-
-abbrev PeekedIs : Memory → Outcome → Type 0
-PeekedIs m o = Answers peekedNumber peekedWords peekedOf [] m o
-
-abbrev ExtendedIs : Memory → Outcome → Type 0
-ExtendedIs m o = Answers extendedNumber extendedWords extendedOf [] m o
-
-abbrev PinnedIs : Memory → Outcome → Type 0
-PinnedIs m o = Answers pinnedNumber pinnedWords pinnedOf [] m o
-
--- ---- an outcome that is done, or that leaves the memory
-module _ {T : Type 0} {number : T → ℕ} {words : T → List ℕ} {at : Outcome → T} {bytes : List ℕ} {m : Memory} where
-  yes : {ws : List ℕ} {after : Memory} → number (at (done ws bytes after)) ≡ 0 → words (at (done ws bytes after)) ≡ ws
-      → Answers number words at bytes m (done ws bytes after)
-  yes e f = record { same-number = e; same-words = f; same-bytes = refl; kept = λ h. absurd (h refl) }
-
-  no : {k : ℕ} → number (at (refused k bytes m)) ≡ k → words (at (refused k bytes m)) ≡ zeros
-      → Answers number words at bytes m (refused k bytes m)
-  no e f = record { same-number = e; same-words = f; same-bytes = refl; kept = λ h. refl }
-
--- ---- a call that is done, or refused
-module _ (k : ℕ) (m : Memory) (o : Outcome) where
-  accepted-is : AcceptedIs [] m o → AcceptedIs [] m (outcome k [] m o)
-  unfolding acceptedNumber acceptedWords acceptedAt
-  accepted-is a = by-case (AcceptedIs [] m) k [] m o a (λ j. no refl refl)
-
-  written-is : WrittenIs m o → WrittenIs m (outcome k [] m o)
-  unfolding writtenNumber writtenWords writtenAt
-  written-is a = by-case (WrittenIs m) k [] m o a (λ j. no refl refl)
-
-  peeked-is : PeekedIs m o → PeekedIs m (outcome k [] m o)
-  unfolding peekedNumber peekedWords peekedAt
-  peeked-is a = by-case (PeekedIs m) k [] m o a (λ j. no refl refl)
-
-  extended-is : ExtendedIs m o → ExtendedIs m (outcome k [] m o)
-  unfolding extendedNumber extendedWords extendedAt
-  extended-is a = by-case (ExtendedIs m) k [] m o a (λ j. no refl refl)
-
-  pinned-is : PinnedIs m o → PinnedIs m (outcome k [] m o)
-  unfolding pinnedNumber pinnedWords pinnedAt
-  pinned-is a = by-case (PinnedIs m) k [] m o a (λ j. no refl refl)
+use Rattle.bufmodel.proofs.AnsweredLaws.{by-case}
+use Rattle.bufpool.proofs.ExportLaws.{Early, under, endedBy}
 
 -- ---- set up: it looks at no control record
 module _ (p at : ℕ) where
-  pub set-up-answers : (m : Memory) → AcceptedIs [] m (setUp m p at)
-  unfolding setUp acceptedNumber acceptedWords acceptedAt
-  set-up-answers m = accepted-is _ m _ (yes refl refl)
-
   ended-like : (l : Lent) (k : ℕ) (a b : Memory) (o : Outcome)
       → endedBy l (outcome k [] a o) ≡ endedBy l (outcome k [] b o)
   unfolding outcome ended
@@ -127,55 +33,28 @@ module _ (i : ℕ) where
   unfolding unpin
   unpin-early m k e h = end-first m _ [] _ e h
 
-  pub unpin-answers : (m : Memory) → AcceptedIs [] m (unpin m i)
-  unfolding unpin acceptedNumber acceptedWords acceptedAt
-  unpin-answers m = accepted-is _ m _ (yes refl refl)
-
   pub flush-early : Early (λ m. flush m i) []
   unfolding flush
   flush-early m k e h = end-first m _ [] _ e h
-
-  pub flush-answers : (m : Memory) → WrittenIs m (flush m i)
-  unfolding flush writtenNumber writtenWords writtenAt
-  flush-answers m = written-is _ m _ (yes refl refl)
 
   module _ (from : ℕ) (bytes : List ℕ) where
     pub read-early : Early (λ m. read m i from bytes) bytes
     unfolding read
     read-early m k e h = end-first m _ bytes _ e h
 
-    -- out is what the call says; the memory stays
-    pub read-answers : (m : Memory) → Answers acceptedNumber acceptedWords acceptedOf (read m i from bytes .bytes) m (read m i from bytes)
-    unfolding read acceptedNumber acceptedWords acceptedAt
-    read-answers m =
-        by-case (λ o. Answers acceptedNumber acceptedWords acceptedOf (o .bytes) m o) _ bytes m _
-        (yes refl refl)
-        (λ j. no refl refl)
-
+    -- the memory stays
     pub read-left : (m : Memory) → m ≡ read m i from bytes .after
     unfolding read
     read-left m = by-case (λ o. m ≡ o .after) _ bytes m _ refl (λ j. refl)
 
-    module _ (at : ℕ) where
-      pub write-early : Early (λ m. write m i from bytes at) bytes
-      unfolding write
-      write-early m k e h = end-first m _ bytes _ e h
-
-      pub write-answers : (m : Memory) → AcceptedIs bytes m (write m i from bytes at)
-      unfolding write acceptedNumber acceptedWords acceptedAt
-      write-answers m =
-          by-case (AcceptedIs bytes m) _ bytes m _
-          (yes refl refl)
-          (λ j. no refl refl)
+    pub write-early : (at : ℕ) → Early (λ m. write m i from bytes at) bytes
+    unfolding write
+    write-early at m k e h = end-first m _ bytes _ e h
 
 -- ---- checkpoint
 pub checkpoint-early : Early checkpoint []
 unfolding checkpoint
 checkpoint-early m k e h = end-first m _ [] _ e h
-
-pub checkpoint-answers : (m : Memory) → WrittenIs m (checkpoint m)
-unfolding checkpoint writtenNumber writtenWords writtenAt
-checkpoint-answers m = written-is _ m _ (yes refl refl)
 
 -- ---- log positions
 module _ (p : ℕ) where
@@ -183,17 +62,9 @@ module _ (p : ℕ) where
   unfolding logInserted
   inserted-early m k e h = end-first m _ [] _ e h
 
-  pub inserted-answers : (m : Memory) → AcceptedIs [] m (logInserted m p)
-  unfolding logInserted acceptedNumber acceptedWords acceptedAt
-  inserted-answers m = accepted-is _ m _ (yes refl refl)
-
   pub flushed-early : Early (λ m. logFlushed m p) []
   unfolding logFlushed
   flushed-early m k e h = end-first m _ [] _ e h
-
-  pub flushed-answers : (m : Memory) → AcceptedIs [] m (logFlushed m p)
-  unfolding logFlushed acceptedNumber acceptedWords acceptedAt
-  flushed-answers m = accepted-is _ m _ (yes refl refl)
 
 -- ---- calls on a file
 module _ (f : FileName) where
@@ -201,42 +72,15 @@ module _ (f : FileName) where
   unfolding extend
   extend-early m k e h = end-first m _ [] _ e h
 
-  extend-done : (m : Memory) (r : Found) → ExtendedIs m (extendAt m r)
-  unfolding extendAt extendedNumber extendedWords extendedAt
-  extend-done m (found r) = yes refl refl
-  extend-done m missing = yes refl refl
-
-  pub extend-answers : (m : Memory) → ExtendedIs m (extend m f)
-  unfolding extend
-  extend-answers m = extended-is _ m _ (extend-done m (rowOf (m .rows) f))
-
   pub drop-early : Early (λ m. dropFile m f) []
   unfolding dropFile
   drop-early m k e h = end-first m _ [] _ e h
-
-  drop-done : (m : Memory) (r : Found) → AcceptedIs [] m (dropAt m f r)
-  unfolding dropAt acceptedNumber acceptedWords acceptedAt
-  drop-done m (found r) = yes refl refl
-  drop-done m missing = yes refl refl
-
-  pub drop-answers : (m : Memory) → AcceptedIs [] m (dropFile m f)
-  unfolding dropFile
-  drop-answers m = accepted-is _ m _ (drop-done m (rowOf (m .rows) f))
 
 -- ---- calls on a page
 module _ (n : PageName) where
   pub peek-early : Early (λ m. peek m n) []
   unfolding peek
   peek-early m k e h = end-first m _ [] _ e h
-
-  peek-done : (m : Memory) (h : Held) → PeekedIs m (done (partOf m n h) [] m)
-  unfolding partOf peekedNumber peekedWords peekedAt
-  peek-done m (At b) = yes refl refl
-  peek-done m Nowhere = yes refl refl
-
-  pub peek-answers : (m : Memory) → PeekedIs m (peek m n)
-  unfolding peek
-  peek-answers m = peeked-is _ m _ (peek-done m (heldIn m n))
 
   pub peek-left : (m : Memory) → m ≡ peek m n .after
   unfolding peek
@@ -245,36 +89,3 @@ module _ (n : PageName) where
   pub pin-early : Early (λ m. pin m n) []
   unfolding pin
   pin-early m k e h = end-first m _ [] _ e h
-
-  pin-words : (m after : Memory) (i : ℕ) (hit wrote : Bool) (probes : ℕ)
-      → PinnedIs m (done (i ∷ ind hit ∷ ind wrote ∷ probes ∷ []) [] after)
-  unfolding pinnedNumber pinnedWords pinnedAt
-  pin-words m after i true true probes = yes refl refl
-  pin-words m after i true false probes = yes refl refl
-  pin-words m after i false true probes = yes refl refl
-  pin-words m after i false false probes = yes refl refl
-
-  pin-victim : (m : Memory) (s : Swept) (v : Found) → PinnedIs m (pinVictim m n s v)
-  unfolding pinVictim pinnedNumber pinnedWords pinnedAt
-  pin-victim m s (found v) = pin-words m _ v false (dirty (wordOf m v)) (s .probes)
-  pin-victim m s missing = no refl refl
-
-  pin-swept : (m : Memory) (s : Swept) → PinnedIs m (pinSwept m n s)
-  unfolding pinSwept
-  pin-swept m s = pin-victim m s (s .victim)
-
-  pin-new : (m : Memory) (l : Link) → PinnedIs m (pinNew m n l)
-  unfolding pinNew pinFree
-  pin-new m (To i) = pin-words m _ i false false 0
-  pin-new m End = pin-swept m _
-  pin-new m Off = pin-swept m _
-  pin-new m Bad = pin-swept m _
-
-  pin-done : (m : Memory) (h : Held) → PinnedIs m (pinTo m n h)
-  unfolding pinTo pinHeld
-  pin-done m (At b) = pin-words m _ (b .0) true false 0
-  pin-done m Nowhere = pin-new m (linkOf (m .control .top))
-
-  pub pin-answers : (m : Memory) → PinnedIs m (pin m n)
-  unfolding pin
-  pin-answers m = pinned-is _ m _ (pin-done m (heldIn m n))

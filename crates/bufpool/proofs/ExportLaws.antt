@@ -13,6 +13,7 @@ use Rattle.bufmodel.specs.Outcome.{Outcome, checked, refused, zeros}
 use Rattle.bufmodel.specs.Lent.{Lent, Called, controlWords, answerWords, wordsOf, opened, closed, ended, called}
 use Rattle.bufmodel.proofs.GoodLaws.{Good, passed-good}
 use Rattle.bufmodel.proofs.LentLaws.{words-of-control}
+use Rattle.bufmodel.proofs.AnsweredLaws.{Answers}
 use Rattle.bufmem.specs.Control.{controlRead}
 use Rattle.bufbooks.proofs.LentLaws.{read-opened, read-good}
 use Rattle.bufpool.specs.Lent.{lent, ends, keptWords}
@@ -29,14 +30,6 @@ over ws m = lent ws (m .states) (m .names) (m .pool) (m .free) (m .heads) (m .ch
 -- the places 1 and 2 refuse it with their number
 abbrev pub Early : (Memory → Outcome) → List ℕ → Type 0
 Early call bytes = (m : Memory) (k : ℕ) → k ≡ checked m [] → k ≢ 0 → call m ≡ refused k bytes m
-
--- the answer's number and words are the outcome's, the caller's own bytes are known, and a refused call leaves the memory
-pub record Answers {T : Type 0} (number : T → ℕ) (words : T → List ℕ) (at : Outcome → T) (left : List ℕ) (m : Memory) (o : Outcome)
-    : Type 0 where
-  pub same-number : number (at o) ≡ o .refusal
-  pub same-words : words (at o) ≡ o .answer
-  pub same-bytes : left ≡ o .bytes
-  pub kept : o .refusal ≢ 0 → o .after ≡ m
 
 -- ---- the memory as it is read
 ended-refused : (l : Lent) (bytes : List ℕ) (k : ℕ) (a b : Memory) → k ≢ 0 → ended l (refused k bytes a) k ≡ ended l (refused k bytes b) k
@@ -117,32 +110,25 @@ module _ {T : Type 0} {number : T → ℕ} {words : T → List ℕ} {at : Outcom
   called-made : endedBy l o ≡ called call l bytes answer
   called-made = read ∙ sym (called-ended call bytes l answer a h)
 
-  module _ {x : T} {r : ℕ} {ws : List ℕ} {m : Memory} (x-is : x ≡ at o) (r-is : r ≡ number x) (ws-is : ws ≡ words x) (m-is : m ≡ o .after)
-    where
-      r-same : r ≡ o .refusal
-      r-same = r-is ∙ ap number x-is ∙ answers .same-number
+  module _ {r : ℕ} {ws : List ℕ} {m : Memory} (r-is : r ≡ o .refusal) (ws-is : ws ≡ o .answer) (m-is : m ≡ o .after) where
+    made-kept : r ≢ 0 → over (l .control) m ≡ l
+    made-kept n = ap (λ (y : Memory). over (l .control) y) (m-is ∙ answers .kept (λ z. n (r-is ∙ z)))
 
-      ws-same : ws ≡ o .answer
-      ws-same = ws-is ∙ ap words x-is ∙ answers .same-words
+    -- the control record is stored where the result is 0
+    pub export-made : ends r ws left (over (keptWords r (m .control) (l .control)) m) ≡ called call l bytes answer
+    export-made =
+        rw (ws-is, answers .same-bytes)
+        (ended-made l o r m m-is made-kept ∙ ap (ended l o) r-is ∙ called-made)
 
-      made-kept : r ≢ 0 → over (l .control) m ≡ l
-      made-kept n = ap (λ (y : Memory). over (l .control) y) (m-is ∙ answers .kept (λ z. n (r-same ∙ z)))
-
-      -- the control record is stored where the result is 0
-      pub export-made : ends r ws left (over (keptWords r (m .control) (l .control)) m) ≡ called call l bytes answer
-      export-made =
-          rw (ws-same, answers .same-bytes)
-          (ended-made l o r m m-is made-kept ∙ ap (ended l o) r-same ∙ called-made)
-
-      -- or is left as it is
-      pub export-left : Early call bytes → c ≡ controlRead (l .control) → m .control ≡ c
-          → ends r ws left (over (l .control) m) ≡ called call l bytes answer
-      unfolding keptWords
-      export-left early is same = ap (λ (y : List ℕ). ends r ws left (over y m)) words-left ∙ export-made
-        where
-          words-left : l .control ≡ keptWords r (m .control) (l .control)
-          words-left =
-              ⊎-elim
-              (λ z. rw z (sym (ap wordsOf same ∙ accepted-words call bytes l early c is h (sym r-same ∙ z))))
-              (λ n. rw (ne-eqb r 0 n) refl)
-              (eq-or-ne r 0)
+    -- or is left as it is
+    pub export-left : Early call bytes → c ≡ controlRead (l .control) → m .control ≡ c
+        → ends r ws left (over (l .control) m) ≡ called call l bytes answer
+    unfolding keptWords
+    export-left early is same = ap (λ (y : List ℕ). ends r ws left (over y m)) words-left ∙ export-made
+      where
+        words-left : l .control ≡ keptWords r (m .control) (l .control)
+        words-left =
+            ⊎-elim
+            (λ z. rw z (sym (ap wordsOf same ∙ accepted-words call bytes l early c is h (sym r-is ∙ z))))
+            (λ n. rw (ne-eqb r 0 n) refl)
+            (eq-or-ne r 0)

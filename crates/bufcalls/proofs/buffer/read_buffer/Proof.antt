@@ -6,6 +6,7 @@ use native.Mathlib.Omega.{arith}
 use mathlib.Core.Path.{sym, _∙_}
 use Prim.Native.Nat.{ℕ, _+_, _≤_}
 use Rattle.bufmodel.specs.Memory.{Memory, memory}
+use Rattle.bufmodel.proofs.AnsweredLaws.{promised, read-answers}
 use Rattle.bufcalls.proofs.BufferLaws.{Held, buffer-held, held-pool, buffer-early, read-refused, read-outside, read-done}
 use Rattle.bufcalls.proofs.buffer.read_buffer.Statement.{statement}
 use Rattle.bufcalls.proofs.buffer.read_buffer.Tie as tie
@@ -35,8 +36,9 @@ returns : tie.Need-returns
 returns c =
     let r = c .before in
     let a = start r .args in
-    read-refused (lent r) (at r) (a .from) (now (a .out)) (buffer-early (lent r) (at r) _ (r .buffer-refusal .ensures) (c .if1 .taken))
-    (c .if1 .taken)
+    promised (read-answers _ _ _ _)
+    (read-refused (lent r) (at r) (a .from) (now (a .out)) (buffer-early (lent r) (at r) _ (r .buffer-refusal .ensures) (c .if1 .taken))
+    (c .if1 .taken))
 
 range-ok-requires : tie.Need-range-ok-requires
 range-ok-requires c κs = search needs
@@ -47,8 +49,9 @@ returns-2 c =
     let r = d .before .before in
     let a = start r .args in
     let past = leb-false _ _ (sym (d .range-ok .ensures) ∙ not-true _ (c .if2 .taken)) in
-    read-refused (lent r) (at r) (a .from) (now (a .out)) (read-outside (lent r) (at r) (a .from) (now (a .out)) (held (d .before)) past)
-    (λ z. omega (arith, z))
+    promised (read-answers _ _ _ _)
+    (read-refused (lent r) (at r) (a .from) (now (a .out)) (read-outside (lent r) (at r) (a .from) (now (a .out)) (held (d .before)) past)
+    (λ z. omega (arith, z)))
 
 read-page-requires : tie.Need-read-page-requires
 read-page-requires c κs =
@@ -65,7 +68,8 @@ returns-3 c =
     let d = p .before .before in
     let e = d .before .before in
     let a = start (e .before) .args in
-    read-done (lent (e .before)) (at (e .before)) (a .from) (now (a .out)) (held e) (within d) (p .read-page .ensures)
+    promised (read-answers _ _ _ _)
+    (read-done (lent (e .before)) (at (e .before)) (a .from) (now (a .out)) (held e) (within d) (p .read-page .ensures))
 
 pub read-buffer-spec : {M : Type 1} → statement M
 read-buffer-spec =

@@ -4,6 +4,7 @@ use mathlib.Core.Path.{ap, _∙_}
 use Prim.Native.Nat.{ℕ}
 use Rattle.bufmodel.specs.Word.{pinned, pinLess}
 use Rattle.bufmodel.specs.Memory.{Memory, memory}
+use Rattle.bufmodel.proofs.AnsweredLaws.{promised, unpin-answers}
 use Rattle.bufcalls.proofs.BufferLaws.{Held, buffer-held, unpin-refused, unpin-done}
 use Rattle.bufcalls.proofs.buffer.unpin_buffer.Statement.{statement}
 use Rattle.bufcalls.proofs.buffer.unpin_buffer.Tie as tie
@@ -30,7 +31,9 @@ same-length : tie.Need-same-length
 same-length c = search needs
 
 returns : tie.Need-returns
-returns c = let r = c .before in unpin-refused (lent r) (at r) (r .buffer-refusal .ensures) (c .if1 .taken)
+returns c =
+    let r = c .before in
+    promised (unpin-answers _ _) (unpin-refused (lent r) (at r) (r .buffer-refusal .ensures) (c .if1 .taken))
 
 state-of-requires : tie.Need-state-of-requires
 state-of-requires c κs = held (c .before) .within
@@ -50,8 +53,9 @@ returns-2 c =
     let l = p .before .before in
     let s = l .before in
     let e = s .before .before in
-    unpin-done (lent (e .before)) (at (e .before)) (held e) (l .pin-less .ensures ∙ ap pinLess (s .state-of .ensures))
-    (p .put-state .ensures)
+    promised (unpin-answers _ _)
+    (unpin-done (lent (e .before)) (at (e .before)) (held e) (l .pin-less .ensures ∙ ap pinLess (s .state-of .ensures))
+    (p .put-state .ensures))
 
 pub unpin-buffer-spec : {M : Type 1} → statement M
 unpin-buffer-spec =

@@ -4,6 +4,7 @@ use mathlib.Core.Path.{ap, _∙_}
 use Prim.Native.Nat.{ℕ}
 use Rattle.bufmodel.specs.Word.{makeDirty}
 use Rattle.bufmodel.specs.Memory.{Memory, memory}
+use Rattle.bufmodel.proofs.AnsweredLaws.{promised, write-answers}
 use Rattle.bufcalls.proofs.BufferLaws.{
   Held,
   buffer-held,
@@ -46,8 +47,9 @@ returns : tie.Need-returns
 returns c =
     let r = c .before in
     let a = start r .args in
-    write-refused (lent r) (at r) (a .from) (now (a .bytes)) (a .position)
-    (write-early (lent r) (at r) (a .from) (now (a .bytes)) (a .position) (r .buffer-refusal .ensures) (c .if1 .taken)) (c .if1 .taken)
+    promised (write-answers _ _ _ _ _)
+    (write-refused (lent r) (at r) (a .from) (now (a .bytes)) (a .position)
+    (write-early (lent r) (at r) (a .from) (now (a .bytes)) (a .position) (r .buffer-refusal .ensures) (c .if1 .taken)) (c .if1 .taken))
 
 write-refusal-requires : tie.Need-write-refusal-requires
 write-refusal-requires c κs =
@@ -67,8 +69,9 @@ returns-2 c =
     let e = w .before .before in
     let r = e .before in
     let a = start r .args in
-    write-refused (lent r) (at r) (a .from) (now (a .bytes)) (a .position)
-    (write-later (lent r) (at r) (a .from) (now (a .bytes)) (a .position) (held e) (w .write-refusal .ensures)) (c .if2 .taken)
+    promised (write-answers _ _ _ _ _)
+    (write-refused (lent r) (at r) (a .from) (now (a .bytes)) (a .position)
+    (write-later (lent r) (at r) (a .from) (now (a .bytes)) (a .position) (held e) (w .write-refusal .ensures)) (c .if2 .taken))
 
 write-page-requires : tie.Need-write-page-requires
 write-page-requires c κs =
@@ -108,9 +111,10 @@ returns-3 c =
     let e = w .before .before in
     let r = e .before in
     let a = start r .args in
-    write-done (lent r) (at r) (a .from) (now (a .bytes)) (a .position)
+    promised (write-answers _ _ _ _ _)
+    (write-done (lent r) (at r) (a .from) (now (a .bytes)) (a .position)
     (write-later (lent r) (at r) (a .from) (now (a .bytes)) (a .position) (held e) (w .write-refusal .ensures)) (d .if2 .left)
-    (p .write-page .ensures) (t .make-dirty .ensures ∙ ap makeDirty (s .state-of .ensures)) (u .put-state .ensures)
+    (p .write-page .ensures) (t .make-dirty .ensures ∙ ap makeDirty (s .state-of .ensures)) (u .put-state .ensures))
 
 pub write-buffer-spec : {M : Type 1} → statement M
 write-buffer-spec =

@@ -8,6 +8,7 @@ use Rattle.bufmodel.specs.Calls.{checkpoint}
 use Rattle.bufmodel.proofs.OutcomeLaws.{refusal-none}
 use Rattle.bufmodel.proofs.GoodLaws.{passed-good}
 use Rattle.bufmodel.proofs.AnswerLaws.{end-first, end-done, written-refused, written-done}
+use Rattle.bufmodel.proofs.AnsweredLaws.{promised, checkpoint-answers}
 use Rattle.bufcalls.proofs.CheckpointLaws.{good-stored, linked, up-linked}
 use Rattle.bufcalls.proofs.checkpoint.checkpoint_pool.Statement.{statement}
 use Rattle.bufcalls.proofs.checkpoint.checkpoint_pool.Tie as tie
@@ -32,7 +33,8 @@ same-length-2 c = search needs
 
 returns : tie.Need-returns
 unfolding checkpoint
-returns c = written-refused (c .if1 .taken) (end-first _ _ _ _ (c .before .refusal .ensures) (c .if1 .taken))
+returns c =
+    promised (checkpoint-answers _) (written-refused (c .if1 .taken) (end-first _ _ _ _ (c .before .refusal .ensures) (c .if1 .taken)))
 
 count-dirty-requires : tie.Need-count-dirty-requires
 count-dirty-requires c κs = search needs
@@ -57,6 +59,7 @@ returns-2 c =
     let e = n .before .before in
     let m = lent (entry (e .before)) in
     let end = written-done (end-done m [] [] _ (passed-good m (e .before .refusal .ensures) (e .if1 .left)) refusal-none) in
+    promised (checkpoint-answers m)
     (ap Pages (n .count-dirty .ensures) ∙ end .0, ap (linked m) (w .write-all .ensures) ∙ sym (up-linked m (buffers m)) ∙ end .1)
 
 pub checkpoint-pool-spec : {M : Type 1} → statement M

@@ -13,6 +13,7 @@ use Rattle.bufmodel.proofs.SizesLaws.{rows-say}
 use Rattle.bufmem.proofs.RowsLaws.{row-at, row-none, row-fits}
 use Rattle.bufmodel.proofs.GoodLaws.{passed-good}
 use Rattle.bufmodel.proofs.AnswerLaws.{accepted-refused}
+use Rattle.bufmodel.proofs.AnsweredLaws.{promised, drop-answers}
 use Rattle.bufcalls.proofs.FileLaws.{drop-early, drop-missing, drop-pinned, dropped}
 use Rattle.bufcalls.proofs.file.drop_file.Statement.{statement}
 use Rattle.bufcalls.proofs.file.drop_file.Tie as tie
@@ -78,7 +79,8 @@ returns c =
     let i = c .before in
     let s = i .before .before .before .before .before .before .before .before .before .before .before .before .before in
     rw (c .refused .ensures)
-    (accepted-refused (i .if1 .taken) (drop-early (lent s) (s .args .file) (i .before .refusal .ensures) (i .if1 .taken)))
+    (promised (drop-answers _ _)
+    (accepted-refused (i .if1 .taken) (drop-early (lent s) (s .args .file) (i .before .refusal .ensures) (i .if1 .taken))))
 
 find-row-requires : tie.Need-find-row-requires
 find-row-requires c κs = search needs
@@ -117,8 +119,9 @@ returns-2 c =
     let m = lent (start e) in
     let f = start e .args .file in
     rw (c .refused2 .ensures)
+    (promised (drop-answers _ _)
     (accepted-refused (λ z. absurd (omega arith))
-    (drop-missing m f (good e) (row-none (m .rows) f (t .before .before .find-row .ensures) (t .enum-told .given .1))))
+    (drop-missing m f (good e) (row-none (m .rows) f (t .before .before .find-row .ensures) (t .enum-told .given .1)))))
 
 any-pinned-requires : tie.Need-any-pinned-requires
 any-pinned-requires c κs = good (c .before .before .before .before .before .before .before) .sizes .names
@@ -150,8 +153,9 @@ returns-3 c =
     let k = i .before .before .before .before in
     let m = lent (start (passed k)) in
     rw (c .refused3 .ensures)
+    (promised (drop-answers _ _)
     (accepted-refused (λ z. absurd (omega arith))
-    (drop-pinned m (file k) (good (passed k)) (row-is k) (sym (i .before .any-pinned .ensures) ∙ i .if2 .taken)))
+    (drop-pinned m (file k) (good (passed k)) (row-is k) (sym (i .before .any-pinned .ensures) ∙ i .if2 .taken))))
 
 release-file-requires : tie.Need-release-file-requires
 release-file-requires c κs =
@@ -189,8 +193,9 @@ returns-4 c =
     let b = r .before .before .before .before .before .before .before in
     let k = rowed b in
     let n = sym (b .before .any-pinned .ensures) ∙ b .if2 .left in
-    dropped (lent (start (passed k))) (file k) (good (passed k)) (row-is k) n (r .release-file .ensures)
-    (c .before .before .set-blocks .ensures)
+    promised (drop-answers _ _)
+    (dropped (lent (start (passed k))) (file k) (good (passed k)) (row-is k) n (r .release-file .ensures)
+    (c .before .before .set-blocks .ensures))
 
 pub drop-file-spec : {M : Type 1} → statement M
 drop-file-spec =

@@ -18,6 +18,7 @@ use Rattle.bufmodel.proofs.SizesLaws.{rows-say}
 use Rattle.bufmem.proofs.RowsLaws.{row-at, row-none, row-fits}
 use Rattle.bufmodel.proofs.GoodLaws.{passed-good}
 use Rattle.bufmodel.proofs.AnswerLaws.{extended-refused}
+use Rattle.bufmodel.proofs.AnsweredLaws.{promised, extend-answers}
 use Rattle.bufcalls.proofs.FileLaws.{extend-early, extend-missing, extend-full}
 use Rattle.bufcalls.proofs.FileLaws.{next-less, next-in, extended-more}
 use Rattle.bufcalls.proofs.file.extend_file.Statement.{statement}
@@ -74,7 +75,8 @@ same-length-2 c = search needs
 returns : tie.Need-returns
 returns c =
     let s = c .before .before .before .before .before .before .before .before .before in
-    extended-refused (c .if1 .taken) (extend-early (lent s) (s .args .file) (c .before .refusal .ensures) (c .if1 .taken))
+    promised (extend-answers _ _)
+    (extended-refused (c .if1 .taken) (extend-early (lent s) (s .args .file) (c .before .refusal .ensures) (c .if1 .taken)))
 
 find-row-requires : tie.Need-find-row-requires
 find-row-requires c κs = search needs
@@ -96,8 +98,9 @@ returns-2 c =
     let e = c .before .before .before .before in
     let m = lent (start e) in
     let f = start e .args .file in
-    extended-refused (λ z. absurd (omega arith))
-    (extend-missing m f (good e) (row-none (m .rows) f (c .before .before .find-row .ensures) (c .enum-told .given .1)))
+    promised (extend-answers _ _)
+    (extended-refused (λ z. absurd (omega arith))
+    (extend-missing m f (good e) (row-none (m .rows) f (c .before .before .find-row .ensures) (c .enum-told .given .1))))
 
 blocks-at-requires : tie.Need-blocks-at-requires
 blocks-at-requires c κs = fits (c .before) .0
@@ -115,9 +118,10 @@ returns-3 : tie.Need-returns-3
 returns-3 c =
     let k = c .before .before .before .before .before in
     let m = lent (start (passed k)) in
-    extended-refused (λ z. absurd (omega arith))
+    promised (extend-answers _ _)
+    (extended-refused (λ z. absurd (omega arith))
     (extend-full m (file k) (good (passed k)) (row-is k)
-    (sym (c .before .before .before .blocks-at .ensures) ∙ c .if2 .taken ∙ c .before .capacity-at .ensures))
+    (sym (c .before .before .before .blocks-at .ensures) ∙ c .if2 .taken ∙ c .before .capacity-at .ensures)))
 
 block-place-requires : tie.Need-block-place-requires
 block-place-requires c κs =
@@ -162,9 +166,10 @@ returns-4 c =
     let m = lent (start (passed k)) in
     let n = b .before .before .before .blocks-at in
     let at = c .before .before .before .before .before .before .before .block-place .ensures in
-    extended-more m (file k) (good (passed k)) (row-is k) (room b) (n .ensures) (c .before .before .set-blocks .ensures)
+    promised (extend-answers _ _)
+    (extended-more m (file k) (good (passed k)) (row-is k) (room b) (n .ensures) (c .before .before .set-blocks .ensures)
     (c .before .before .before .before .before .before .clear-block .ensures
-    ∙ ap (λ (s : ℕ). putBlock (size m) s (replicate (size m) 0) (m .store)) at)
+    ∙ ap (λ (s : ℕ). putBlock (size m) s (replicate (size m) 0) (m .store)) at))
 
 pub extend-file-spec : {M : Type 1} → statement M
 extend-file-spec =

@@ -5,6 +5,7 @@ use Prim.Native.Nat.{ℕ}
 use Rattle.laws.specs.Sum.{ind}
 use Rattle.bufmodel.specs.Word.{dirty}
 use Rattle.bufmodel.specs.Memory.{Memory, memory}
+use Rattle.bufmodel.proofs.AnsweredLaws.{promised, flush-answers}
 use Rattle.bufmoves.proofs.WholeLaws.{good-backed}
 use Rattle.bufcalls.proofs.BufferLaws.{Held, buffer-held}
 use Rattle.bufcalls.proofs.FlushLaws.{flush-refused, flush-done}
@@ -36,7 +37,9 @@ same-length-2 : tie.Need-same-length-2
 same-length-2 c = search needs
 
 returns : tie.Need-returns
-returns c = let r = c .before in flush-refused (lent r) (at r) (r .buffer-refusal .ensures) (c .if1 .taken)
+returns c =
+    let r = c .before in
+    promised (flush-answers _ _) (flush-refused (lent r) (at r) (r .buffer-refusal .ensures) (c .if1 .taken))
 
 state-of-requires : tie.Need-state-of-requires
 state-of-requires c κs = held (c .before) .within
@@ -66,8 +69,9 @@ returns-2 c =
     let d = o .before in
     let s = d .before in
     let e = s .before .before in
-    flush-done (lent (e .before)) (at (e .before)) (held e)
-    (o .one-if .ensures ∙ ap ind (d .is-dirty .ensures ∙ ap dirty (s .state-of .ensures))) (b .write-back .ensures)
+    promised (flush-answers _ _)
+    (flush-done (lent (e .before)) (at (e .before)) (held e)
+    (o .one-if .ensures ∙ ap ind (d .is-dirty .ensures ∙ ap dirty (s .state-of .ensures))) (b .write-back .ensures))
 
 pub flush-buffer-spec : {M : Type 1} → statement M
 flush-buffer-spec =

@@ -9,6 +9,7 @@ use Rattle.bufmodel.specs.declared.answer.Peeked.the-variants.{InPool}
 use Rattle.bufmodel.specs.Memory.{Memory, memory}
 use Rattle.bufmodel.proofs.GoodLaws.{Good, passed-good}
 use Rattle.bufmodel.proofs.SizesLaws.{rows-say}
+use Rattle.bufmodel.proofs.AnsweredLaws.{answered, peek-answers}
 use Rattle.bufmem.specs.declared.seek.Sought.the-variants.{At}
 use Rattle.bufmem.specs.Seek.{sought}
 use Rattle.bufcalls.proofs.PeekLaws.{peek-early, peek-refused, peek-pool, peek-store, place-small, buffer-in}
@@ -50,7 +51,7 @@ refusal-requires c κs = search needs
 returns : tie.Need-returns
 returns c =
     let s = c .before .before .before .before .before .before .before in
-    peek-early (lent s) (s .args .name) (c .before .refusal .ensures) (c .if1 .taken)
+    answered (peek-answers _ _) (peek-early (lent s) (s .args .name) (c .before .refusal .ensures) (c .if1 .taken))
 
 seek-requires : tie.Need-seek-requires
 seek-requires c κs = rows-say (now (start c .args .rows)) .shown (good c .sizes .rows)
@@ -80,7 +81,7 @@ returns-2 : tie.Need-returns-2
 returns-2 c =
     let k = c .before .before .before .before in
     let h = sym (c .before .before .before .look-up .ensures) ∙ c .before .enum-told .given .1 in
-    peek-store (lent (start (passed k))) (name k) (good (passed k)) (placed k) h
+    answered (peek-answers _ _) (peek-store (lent (start (passed k))) (name k) (good (passed k)) (placed k) h)
 
 page-offset-requires : tie.Need-page-offset-requires
 page-offset-requires c κs =
@@ -91,12 +92,13 @@ returns-3 : tie.Need-returns-3
 returns-3 c =
     let e = c .before .before .before .before in
     let h = sym (c .before .before .before .seek .ensures) ∙ c .before .sought .given .1 in
-    peek-refused (lent (start e)) (start e .args .name) (good e) h
+    answered (peek-answers _ _) (peek-refused (lent (start e)) (start e .args .name) (good e) h)
 
 returns-4 : tie.Need-returns-4
 returns-4 c =
     let k = c .before .before .before .before .before in
-    ap InPool (c .page-offset .ensures) ∙ peek-pool (lent (start (passed k))) (name k) (good (passed k)) (placed k) (found (c .before))
+    answered (peek-answers _ _)
+    (ap InPool (c .page-offset .ensures) ∙ peek-pool (lent (start (passed k))) (name k) (good (passed k)) (placed k) (found (c .before)))
 
 pub peek-at-spec : {M : Type 1} → statement M
 peek-at-spec =

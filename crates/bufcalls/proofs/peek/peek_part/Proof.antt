@@ -26,7 +26,7 @@ abbrev Tells : tie.After-peek-at → Peeked → Type 0
 Tells c p = Told (lent c) (part (peek (lent c) (start c .args .name))) p
 
 tells : (c : tie.After-peek-at) {p : Peeked} → c .peek-at .result ≡ p → Tells c p
-tells c e = told (lent c) (start c .args .name) (sym e ∙ c .peek-at .ensures)
+tells c e = told (lent c) (start c .args .name) (sym e ∙ c .peek-at .ensures .0)
 
 -- the page is in the pool
 abbrev held : tie.After-struct-known → tie.After-peek-at

@@ -16,6 +16,7 @@ use Rattle.bufmodel.specs.Calls.{freeLinks, fresh, setUp}
 use Rattle.bufmodel.proofs.SizesLaws.{sizes-say}
 use Rattle.bufmodel.proofs.OutcomeLaws.{refusal-at, refusal-past, refusal-none, outcome-refused, outcome-done}
 use Rattle.bufmodel.proofs.AnswerLaws.{accepted-refused, accepted-done}
+use Rattle.bufmodel.proofs.AnsweredLaws.{promised, set-up-answers}
 use Rattle.bufcalls.proofs.set_up.set_up_pool.Statement.{statement}
 use Rattle.bufcalls.proofs.set_up.set_up_pool.Tie as tie
 
@@ -82,8 +83,9 @@ returns c =
     let i = c .before in
     let s = entry (i .before) in
     rw (c .refused .ensures)
+    (promised (set-up-answers _ _ _)
     (accepted-refused (λ z. omega arith)
-    (unfit (lent s) (s .args .size) (s .args .position) (sym (i .before .sizes-ok .ensures) ∙ not-true _ (i .if1 .taken))))
+    (unfit (lent s) (s .args .size) (s .args .position) (sym (i .before .sizes-ok .ensures) ∙ not-true _ (i .if1 .taken)))))
 
 clear-words-requires : tie.Need-clear-words-requires
 clear-words-requires c κs = search needs
@@ -127,9 +129,10 @@ returns-2 c =
     let w = n .before .before .before .before in
     let e = w .before .before in
     let s = entry (e .before) in
-    accepted-done
+    promised (set-up-answers _ _ _)
+    (accepted-done
     (fit (lent s) (s .args .size) (s .args .position) (passed e) (w .clear-words .ensures) (n .clear-words2 .ensures)
-    (f .link-all .ensures) (h .clear-links .ensures) (c .before .clear-links2 .ensures))
+    (f .link-all .ensures) (h .clear-links .ensures) (c .before .clear-links2 .ensures)))
 
 pub set-up-pool-spec : {M : Type 1} → statement M
 set-up-pool-spec =

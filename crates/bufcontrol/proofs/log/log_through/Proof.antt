@@ -40,12 +40,12 @@ use denote.Triple.Statement.{Contract, Triple}
 use denote.Triple.Call.{calls-at}
 use denote.Triple.Clauses.{ensured, lasts}
 use denote.Triple.Table.{entered, cited}
-use denote.Triple.Walked.{says, Stays, stay-none, stay-none-slice, walkOf, Walks, ends-at, walked, walk-meets}
+use denote.Triple.Walked.{Stays, stay-none, stay-none-slice, walkOf, Walks, ends-at, walked, walk-meets}
 use denote.Triple.Walked.{AllGo, goes-none, goes-none-slice}
 use denote.Exit.{yes}
 use Rattle.bufmodel.specs.Memory.{memory}
 use Rattle.bufmodel.specs.Memory as model
-use Rattle.bufmodel.specs.Answer.{acceptedAt}
+use Rattle.bufmodel.specs.Answer.{acceptedNumber, acceptedWords, acceptedOf}
 use Rattle.bufmodel.specs.Calls.{logInserted, logFlushed}
 use Rattle.bufmodel.specs.declared.control.Control.{Control}
 use Rattle.bufmodel.specs.declared.answer.Accepted.{Accepted}
@@ -66,7 +66,7 @@ use Rattle.bufcontrol.proofs.log.log_flushed_to.Symbol.{name as #call2}
 use Rattle.bufcontrol.proofs.log.log_flushed_to.Met as call2-thm
 use Rattle.bufcontrol.proofs.StoredLaws.{mach}
 use Rattle.bufcontrol.proofs.LendLaws.{borrowed, lends, comes-home}
-use Rattle.bufcontrol.proofs.WalkLaws.{_▹_, slice, shared, twice}
+use Rattle.bufcontrol.proofs.WalkLaws.{_▹_, slice, shared, twice, says-all}
 use Rattle.bufcontrol.proofs.log.log_through.Key.{name as #log-through}
 use Rattle.bufcontrol.proofs.log.log_through as f
 use Rattle.bufcontrol.proofs.log.log_through.Statement as stated
@@ -174,30 +174,46 @@ module _ {M : Type 1} (𝓤 : URA M) (H : Heap 𝓤) (A : Atoms 𝓤) (W : Given
       (named 2) κ2 u32 ∷ ShrSlice (named 3) κ3 u8 ∷ ShrSlice (named 4) κ4 i32 ∷ ShrSlice (named 5) κ5 i32 ∷ ShrSlice (named 6) κ6 i32 ∷
       ShrSlice (named 7) κ7 u32 ∷ ShrSlice (named 8) κ8 u8 ∷ u64 ∷ []) (args δ l d) (call-at l)) ∷ []) ∵ join ! $ frame ! $ done !
 
-  -- what each ensures: its answer, and the memory that it leaves, where the record was d before the second
+  -- what each ensures of its answer and of the memory that it leaves, where the record was d before the second
   abbrev before : Control → model.Memory
   before d = memory d (states .now) (names .now) (pool .now) (free .now) (heads .now) (chain .now) (rows .now) (store .now)
 
   abbrev Answered1 : Accepted → Type 0
-  Answered1 r = r ≡ acceptedAt (logInserted (before c) position .refusal) []
+  Answered1 r = r ≡ acceptedOf (logInserted (before c) position)
+
+  abbrev Numbered1 : Accepted → Type 0
+  Numbered1 r = acceptedNumber r ≡ logInserted (before c) position .refusal
+
+  abbrev Worded1 : Accepted → Type 0
+  Worded1 r = acceptedWords r ≡ logInserted (before c) position .answer
 
   abbrev Left1 : Control → Type 0
   Left1 z = before z ≡ logInserted (before c) position .after
 
   abbrev Answered2 : Control → Accepted → Type 0
-  Answered2 d r = r ≡ acceptedAt (logFlushed (before d) position .refusal) []
+  Answered2 d r = r ≡ acceptedOf (logFlushed (before d) position)
+
+  abbrev Numbered2 : Control → Accepted → Type 0
+  Numbered2 d r = acceptedNumber r ≡ logFlushed (before d) position .refusal
+
+  abbrev Worded2 : Control → Accepted → Type 0
+  Worded2 d r = acceptedWords r ≡ logFlushed (before d) position .answer
 
   abbrev Left2 : Control → Control → Type 0
   Left2 d z = before z ≡ logFlushed (before d) position .after
 
   -- what both ensure
   abbrev Ended : Control → Accepted → Accepted → Type 0
-  Ended z r s = Answered1 r × ((s ≡ acceptedAt (logFlushed (logInserted (before c) position .after) position .refusal) []) ×
-      (before z ≡ logFlushed (logInserted (before c) position .after) position .after))
+  Ended z r s = Answered1 r × (Numbered1 r × (Worded1 r × ((s ≡ acceptedOf (logFlushed (logInserted (before c) position .after) position)) ×
+      ((acceptedNumber s ≡ logFlushed (logInserted (before c) position .after) position .refusal) ×
+      ((acceptedWords s ≡ logFlushed (logInserted (before c) position .after) position .answer) ×
+      (before z ≡ logFlushed (logInserted (before c) position .after) position .after))))))
 
-  follows : (d z : Control) (r s : Accepted) → Answered1 r → Left1 d → Answered2 d s → Left2 d z → Ended z r s
-  follows d z r s a e b g =
-      a ▹ b ∙ ap (λ m. acceptedAt (logFlushed m position .refusal) []) e ▹ g ∙ ap (λ m. logFlushed m position .after) e
+  follows : (d z : Control) (r s : Accepted) → Answered1 r → Numbered1 r → Worded1 r → Left1 d → Answered2 d s → Numbered2 d s → Worded2 d s
+      → Left2 d z → Ended z r s
+  follows d z r s e11 e12 e13 e14 e21 e22 e23 e24 =
+      e11 ▹ e12 ▹ e13 ▹ e21 ∙ ap (λ m. acceptedOf (logFlushed m position)) e14 ▹ e22 ∙ ap (λ m. logFlushed m position .refusal) e14 ▹ e23 ∙
+      ap (λ m. logFlushed m position .answer) e14 ▹ e24 ∙ ap (λ m. logFlushed m position .after) e14
 
   -- what is owned at exit
   abbrev at-exit : List (Item 𝓤)
@@ -211,7 +227,7 @@ module _ {M : Type 1} (𝓤 : URA M) (H : Heap 𝓤) (A : Atoms 𝓤) (W : Given
       suffices ! _ (ends-at 𝓤 H A f.ended stayed (f.clauses 𝓤 H A at-mem run) W ((lfts, shares, tt, x, at), tt) (mach-left (left z r s))
       (left z r s) (tt, (tt, (tt, (tt, (tt, (tt, (tt, (tt, (tt, (tt, tt))))))))))
       (tt, (tt, (tt, (tt, (tt, (tt, (tt, (tt, (tt, (tt, tt))))))))))) $
-      says ! e $
+      says-all ! _ (_ ∷ _ ∷ _ ∷ _ ∷ _ ∷ _ ∷ []) e $
       frame ! $ nothing ! $ owned ! u64 (Is u64) (uint-makes 𝓤 H A W w64) position _ (refl, fits-position) $ fjoin ! $
       move ! (8 ∷ 0 ∷ []) $ fjoin ! $ move ! (7 ∷ 0 ∷ []) $ fjoin ! $ move ! (6 ∷ 0 ∷ []) $ fjoin ! $ move ! (5 ∷ 0 ∷ []) $
       fjoin ! $ move ! (4 ∷ 0 ∷ []) $ fjoin ! $ move ! (3 ∷ 0 ∷ []) $ fjoin ! $ move ! (2 ∷ 0 ∷ []) $ fjoin ! $
@@ -269,10 +285,11 @@ module _ {M : Type 1} (𝓤 : URA M) (H : Heap 𝓤) (A : Atoms 𝓤) (W : Given
         split ! $ move ! (1 ∷ []) $
         use1 W (some (λ (zs : Control × (Unit {0} × (Unit {0} × (Unit {0} × (Unit {0} ×
         (Unit {0} × (Unit {0} × (Unit {0} × (Unit {0} × (Unit {0} × (Unit {0}))))))))))).
-        ‵ (lasts call1.ended (ν1 ∷ [], lfts) (args δ1 l11 c) zs) ⊛ raw (fact 𝓤 (Answered1 r1)) ⊛ raw (fact 𝓤 (Left1 (zs .0))))) (id⊢ 𝓤 _) $
-        pick ! (λ z1. split ! $
-        move ! (1 ∷ []) $ split ! $ heard ! (Answered1 r1) (λ a1. heard ! (Left1 (z1 .0)) (λ e1. fsplit ! $ move ! (1 ∷ []) $
-        drop ! $ move ! (1 ∷ []) $ split ! $ split ! $ move ! (2 ∷ []) $
+        ‵ (lasts call1.ended (ν1 ∷ [], lfts) (args δ1 l11 c) zs) ⊛ raw (fact 𝓤 (Answered1 r1)) ⊛ raw (fact 𝓤 (Numbered1 r1)) ⊛ raw
+        (fact 𝓤 (Worded1 r1)) ⊛ raw (fact 𝓤 (Left1 (zs .0))))) (id⊢ 𝓤 _) $ pick ! (λ z1. split ! $
+        move ! (1 ∷ []) $ split ! $ heard ! (Answered1 r1) (λ e11. split ! $ heard ! (Numbered1 r1) (λ e12.
+        split ! $ heard ! (Worded1 r1) (λ e13. heard ! (Left1 (z1 .0)) (λ e14. fsplit ! $ move ! (1 ∷ []) $ drop ! $
+        move ! (1 ∷ []) $ split ! $ split ! $ move ! (2 ∷ []) $
         peeks ! E.the-row (Is E.the-row) (shows 𝓤 H A E.the-row) r1 (w1 ∷ []) (λ is1.
         land ! (from ! (stop !)) (init ! 13 refl (EL.lawful E.the-type E′.the-laws 𝓤 H A W tt .typed r1 _ is1 .0)) $
         rewrite ! 13 (λ (u : Val). ‵ (fat fullShare E′.mir l12 0 u)) (ap only (EL.tells E.the-type E′.the-laws r1 (w1 ∷ []) is1)) refl $
@@ -298,9 +315,11 @@ module _ {M : Type 1} (𝓤 : URA M) (H : Heap 𝓤) (A : Atoms 𝓤) (W : Given
         use1 W (some (λ (zs : Control × (Unit {0} × (Unit {0} × (Unit {0} × (Unit {0} ×
         (Unit {0} × (Unit {0} × (Unit {0} × (Unit {0} × (Unit {0} × (Unit {0}))))))))))).
         ‵ (lasts call2.ended (ν2 ∷ [], lfts) (args δ2 l11 (z1 .0)) zs) ⊛ raw (fact 𝓤 (Answered2 (z1 .0) r2)) ⊛ raw
-        (fact 𝓤 (Left2 (z1 .0) (zs .0))))) (id⊢ 𝓤 _) $ pick ! (λ z2. split ! $
-        move ! (1 ∷ []) $ split ! $ heard ! (Answered2 (z1 .0) r2) (λ a2. heard ! (Left2 (z1 .0) (z2 .0)) (λ e2. fsplit ! $
-        move ! (1 ∷ []) $ drop ! $ move ! (1 ∷ []) $ split ! $ split ! $ move ! (2 ∷ []) $
+        (fact 𝓤 (Numbered2 (z1 .0) r2)) ⊛ raw (fact 𝓤 (Worded2 (z1 .0) r2)) ⊛ raw (fact 𝓤 (Left2 (z1 .0) (zs .0))))) (id⊢ 𝓤 _) $
+        pick ! (λ z2. split ! $
+        move ! (1 ∷ []) $ split ! $ heard ! (Answered2 (z1 .0) r2) (λ e21. split ! $ heard ! (Numbered2 (z1 .0) r2) (λ e22.
+        split ! $ heard ! (Worded2 (z1 .0) r2) (λ e23. heard ! (Left2 (z1 .0) (z2 .0)) (λ e24. fsplit ! $ move ! (1 ∷ []) $
+        drop ! $ move ! (1 ∷ []) $ split ! $ split ! $ move ! (2 ∷ []) $
         peeks ! E.the-row (Is E.the-row) (shows 𝓤 H A E.the-row) r2 (w2 ∷ []) (λ is2.
         land ! (from ! (stop !)) (init ! 11 refl (EL.lawful E.the-type E′.the-laws 𝓤 H A W tt .typed r2 _ is2 .0)) $
         rewrite ! 11 (λ (u : Val). ‵ (fat fullShare E′.mir l13 0 u)) (ap only (EL.tells E.the-type E′.the-laws r2 (w2 ∷ []) is2)) refl $
@@ -322,8 +341,8 @@ module _ {M : Type 1} (𝓤 : URA M) (H : Heap 𝓤) (A : Atoms 𝓤) (W : Given
         move ! (9 ∷ 10 ∷ []) $ free1 ! $ move ! (7 ∷ 8 ∷ []) $ free1 ! $ move ! (5 ∷ 6 ∷ []) $ free1 ! $ move ! (3 ∷ 4 ∷ []) $
         free1 ! $ move ! (1 ∷ 2 ∷ []) $ free1 ! $ free0 ! $
         keep ! (0 ∷ 10 ∷ 9 ∷ 8 ∷ 7 ∷ 6 ∷ 5 ∷ 4 ∷ 3 ∷ []) $ by ! (exits (z2 .0) r1 r2
-        (is-left (z2 .0) r1 r2 g2 (is-spelt r1 w1 is1) (is-spelt r2 w2 is2)) (follows (z1 .0) (z2 .0) r1 r2 a1 e1 a2
-        e2)))))))))))))))))))))))))))))))))))
+        (is-left (z2 .0) r1 r2 g2 (is-spelt r1 w1 is1) (is-spelt r2 w2 is2)) (follows (z1 .0) (z2 .0) r1 r2 e11 e12 e13 e14 e21 e22 e23
+        e24)))))))))))))))))))))))))))))))))))))))
 
 module _ {M : Type 1} (𝓤 : URA M) (H : Heap 𝓤) (A : Atoms 𝓤) (W : Given 𝓤 H A) (mem : Memory → SProp 𝓤) (run : Routine → Fun 𝓤) where
   walks : (C : Calls 𝓤 H) (Λ : Loops 𝓤 H) → FmC 𝓤 H (W .laws) C → Triple 𝓤 (C #call1) (Call1 𝓤 H A mem run) → Triple 𝓤 (C #call2)

@@ -47,7 +47,7 @@ use denote.Triple.Walked.{Stays, stay-ref, stay-none, stay-none-slice, gave-slic
 use denote.Triple.Walked.{AllGo, goes-none, goes-none-slice, goes-gave-slice, goes-ref}
 use denote.Exit.{yes}
 use Rattle.bufmodel.specs.Memory.{memory}
-use Rattle.bufmodel.specs.Answer.{pinnedAt}
+use Rattle.bufmodel.specs.Answer.{pinnedNumber, pinnedWords, pinnedOf}
 use Rattle.bufmodel.specs.Pin.{pin}
 use Rattle.bufcontrol.proofs.SizeLaws.{pin-size}
 use Rattle.bufmodel.specs.declared.control.Control.{Control}
@@ -67,7 +67,7 @@ use Rattle.bufpin.proofs.pin.pin_page.Symbol as core-def
 use Rattle.bufpin.proofs.pin.pin_page.Symbol.{name as #core}
 use Rattle.bufpin.proofs.pin.pin_page.Met as core-thm
 use Rattle.bufcontrol.proofs.StoredLaws.{mach, back, is-back, hand-fits, top-fits, inserted-fits, flushed-fits, stored}
-use Rattle.bufcontrol.proofs.WalkLaws.{_▹_, slice, shared, twice, says-both}
+use Rattle.bufcontrol.proofs.WalkLaws.{_▹_, slice, shared, twice, says-all}
 use Rattle.bufcontrol.proofs.pin.pin.Key.{name as #pin}
 use Rattle.bufcontrol.proofs.pin.pin as f
 use Rattle.bufcontrol.proofs.pin.pin.Statement as stated
@@ -153,11 +153,18 @@ module _ {M : Type 1} (𝓤 : URA M) (H : Heap 𝓤) (A : Atoms 𝓤) (W : Given
       (named 3) κ4 i32 ∷ MutSlice (named 4) κ5 i32 ∷ MutSlice (named 5) κ6 i32 ∷ ShrSlice (named 6) κ7 u32 ∷ MutSlice (named 7) κ8 u8 ∷
       B.the-row ∷ []) args core-at) ∷ []) ∵ join ! $ frame ! $ done !
 
-  -- what it ensures: its answer, and the memory that it leaves
+  -- what it ensures: its answer, the answer's number and words, and the memory that it leaves
   abbrev Answered : PinnedEnd → Type 0
-  Answered r = r .answer ≡ pinnedAt (pin (memory h (states .now) (names .now) (pool .now) (free .now) (heads .now) (chain .now) (rows .now)
-      (store .now)) name .refusal) (pin (memory h (states .now) (names .now) (pool .now) (free .now) (heads .now) (chain .now) (rows .now)
-      (store .now)) name .answer)
+  Answered r = r .answer ≡ pinnedOf (pin (memory h (states .now) (names .now) (pool .now) (free .now) (heads .now) (chain .now) (rows .now)
+      (store .now)) name)
+
+  abbrev Numbered : PinnedEnd → Type 0
+  Numbered r = pinnedNumber (r .answer) ≡ pin (memory h (states .now) (names .now) (pool .now) (free .now) (heads .now) (chain .now)
+      (rows .now) (store .now)) name .refusal
+
+  abbrev Worded : PinnedEnd → Type 0
+  Worded r = pinnedWords (r .answer) ≡ pin (memory h (states .now) (names .now) (pool .now) (free .now) (heads .now) (chain .now)
+      (rows .now) (store .now)) name .answer
 
   abbrev Left : PinnedEnd → List ℕ → List ℕ → List ℕ → List ℤ → List ℤ → List ℤ → List ℕ → Type 0
   Left r Zstates Znames Zpool Zfree Zheads Zchain Zstore = memory (r .control) Zstates Znames Zpool Zfree Zheads Zchain (rows .now) Zstore ≡
@@ -178,17 +185,18 @@ module _ {M : Type 1} (𝓤 : URA M) (H : Heap 𝓤) (A : Atoms 𝓤) (W : Given
       rows ∷ []
 
   exits : (r : PinnedEnd) (Zstates : List ℕ) (Znames : List ℕ) (Zpool : List ℕ) (Zfree : List ℤ) (Zheads : List ℤ) (Zchain : List ℤ)
-      (Zstore : List ℕ) → Answered r → Left r Zstates Znames Zpool Zfree Zheads Zchain Zstore → length Zstates ≡ length (states .now) →
-      length Znames ≡ length (names .now) → length Zpool ≡ length (pool .now) → length Zfree ≡ length (free .now) → length Zheads ≡ length
-      (heads .now) → length Zchain ≡ length (chain .now) → length Zstore ≡ length (store .now) → Is E.the-row (r .answer)
-      (mach-answer (r .answer) ∷ [])
+      (Zstore : List ℕ) → Answered r → Numbered r → Worded r → Left r Zstates Znames Zpool Zfree Zheads Zchain Zstore → length Zstates ≡
+      length (states .now) → length Znames ≡ length (names .now) → length Zpool ≡ length (pool .now) → length Zfree ≡ length (free .now) →
+      length Zheads ≡ length (heads .now) → length Zchain ≡ length (chain .now) → length Zstore ≡ length (store .now) → Is E.the-row
+      (r .answer) (mach-answer (r .answer) ∷ [])
       → ent 𝓤 (⋆ 𝓤 H A (at-exit r Zstates Znames Zpool Zfree Zheads Zchain Zstore)) (Post (mach-answer (r .answer)))
-  exits r Zstates Znames Zpool Zfree Zheads Zchain Zstore e1 e2 len-states len-names len-pool len-free len-heads len-chain len-store fits =
+  exits r Zstates Znames Zpool Zfree Zheads Zchain Zstore e1 e2 e3 e4 len-states len-names len-pool len-free len-heads len-chain len-store
+      fits =
       qed W (at-exit r Zstates Znames Zpool Zfree Zheads Zchain Zstore) ∵
       suffices ! _ (ends-at 𝓤 H A f.ended stayed (f.clauses 𝓤 H A at-mem run) W ((lfts, shares, tt, x, at), tt) (mach-answer (r .answer))
       (r .answer) (back h (r .control), (Zstates, (Znames, (Zpool, (Zfree, (Zheads, (Zchain, (tt, (Zstore, (tt, tt))))))))))
       (tt, (len-states, (len-names, (len-pool, (len-free, (len-heads, (len-chain, (tt, (len-store, (tt, tt))))))))))) $
-      says-both ! e1 (stored h (r .control) _ _ _ _ _ _ _ _ _ e2 (pin-size _ name)) $
+      says-all ! _ (_ ∷ _ ∷ _ ∷ []) (e1 ▹ e2 ▹ e3 ▹ stored h (r .control) _ _ _ _ _ _ _ _ _ e4 (pin-size _ name)) $
       move ! (2 ∷ 3 ∷ []) $ join ! $ frame ! $ feqI ! (List Val) (vptr b o ∷ []) (vptr b o ∷ []) refl $ fjoin3 ! $ nothing ! $
       owned ! B.the-row (Is B.the-row) (LL.makes B.the-type B′.the-plain 𝓤 H A) name _ is-name $ fjoin ! $
       move ! (8 ∷ 0 ∷ []) $ fjoin ! $ move ! (8 ∷ 0 ∷ []) $ fjoin ! $ move ! (7 ∷ 0 ∷ []) $ fjoin ! $ move ! (6 ∷ 0 ∷ []) $
@@ -282,11 +290,13 @@ module _ {M : Type 1} (𝓤 : URA M) (H : Heap 𝓤) (A : Atoms 𝓤) (W : Given
         split ! $ move ! (1 ∷ []) $
         use1 W (some (λ (zs : Unit {0} × (List ℕ × (List ℕ × (List ℕ × (List ℤ ×
         (List ℤ × (List ℤ × (Unit {0} × (List ℕ × (Unit {0} × (Unit {0}))))))))))). ‵ (lasts core.ended core-lfts args zs) ⊛ raw
-        (fact 𝓤 (Answered r)) ⊛ raw (fact 𝓤 (Left r (zs .1 .0) (zs .1 .1 .0) (zs .1 .1 .1 .0) (zs .1 .1 .1 .1 .0) (zs .1 .1 .1 .1 .1 .0)
-        (zs .1 .1 .1 .1 .1 .1 .0) (zs .1 .1 .1 .1 .1 .1 .1 .1 .0))))) (id⊢ 𝓤 _) $ pick ! (λ zs. split ! $
-        move ! (1 ∷ []) $
-        split ! $ heard ! (Answered r) (λ e1. heard ! (Left r (zs .1 .0) (zs .1 .1 .0) (zs .1 .1 .1 .0) (zs .1 .1 .1 .1 .0)
-        (zs .1 .1 .1 .1 .1 .0) (zs .1 .1 .1 .1 .1 .1 .0) (zs .1 .1 .1 .1 .1 .1 .1 .1 .0)) (λ e2.
+        (fact 𝓤 (Answered r)) ⊛ raw (fact 𝓤 (Numbered r)) ⊛ raw (fact 𝓤 (Worded r)) ⊛ raw
+        (fact 𝓤 (Left r (zs .1 .0) (zs .1 .1 .0) (zs .1 .1 .1 .0) (zs .1 .1 .1 .1 .0) (zs .1 .1 .1 .1 .1 .0) (zs .1 .1 .1 .1 .1 .1 .0)
+        (zs .1 .1 .1 .1 .1 .1 .1 .1 .0))))) (id⊢ 𝓤 _) $ pick ! (λ zs. split ! $
+        move ! (1 ∷ []) $ split ! $ heard ! (Answered r) (λ e1. split ! $ heard ! (Numbered r) (λ e2.
+        split ! $ heard ! (Worded r) (λ e3.
+        heard ! (Left r (zs .1 .0) (zs .1 .1 .0) (zs .1 .1 .1 .0) (zs .1 .1 .1 .1 .0) (zs .1 .1 .1 .1 .1 .0) (zs .1 .1 .1 .1 .1 .1 .0)
+        (zs .1 .1 .1 .1 .1 .1 .1 .1 .0)) (λ e4.
         fsplit ! $ drop ! $ fsplit ! $ fsplit ! $ move ! (1 ∷ []) $ feqL ! (λ len-states. move ! (1 ∷ []) $ fsplit ! $ fsplit ! $
         move ! (1 ∷ []) $ feqL ! (λ len-names. move ! (1 ∷ []) $ fsplit ! $ fsplit ! $ move ! (1 ∷ []) $ feqL ! (λ len-pool.
         move ! (1 ∷ []) $ fsplit ! $ fsplit ! $ move ! (1 ∷ []) $ feqL ! (λ len-free. move ! (1 ∷ []) $ fsplit ! $ fsplit ! $
@@ -330,8 +340,8 @@ module _ {M : Type 1} (𝓤 : URA M) (H : Heap 𝓤) (A : Atoms 𝓤) (W : Given
         move ! (22 ∷ 23 ∷ []) $ free1 ! $ move ! (20 ∷ 21 ∷ []) $ free1 ! $ move ! (18 ∷ 19 ∷ []) $ free1 ! $
         move ! (16 ∷ 17 ∷ []) $ free1 ! $ move ! (14 ∷ 15 ∷ []) $ free1 ! $ move ! (12 ∷ 13 ∷ []) $ free1 ! $ free0 ! $
         keep ! (0 ∷ 1 ∷ 2 ∷ 3 ∷ 11 ∷ 10 ∷ 9 ∷ 8 ∷ 7 ∷ 6 ∷ 5 ∷ 14 ∷ []) $ by ! (exits r (zs .1 .0) (zs .1 .1 .0) (zs .1 .1 .1 .0)
-        (zs .1 .1 .1 .1 .0) (zs .1 .1 .1 .1 .1 .0) (zs .1 .1 .1 .1 .1 .1 .0) (zs .1 .1 .1 .1 .1 .1 .1 .1 .0) e1 e2 len-states len-names
-        len-pool len-free len-heads len-chain len-store (is-answer r w is))))))))))))))))))))))))))))))))))))))))))))
+        (zs .1 .1 .1 .1 .0) (zs .1 .1 .1 .1 .1 .0) (zs .1 .1 .1 .1 .1 .1 .0) (zs .1 .1 .1 .1 .1 .1 .1 .1 .0) e1 e2 e3 e4 len-states
+        len-names len-pool len-free len-heads len-chain len-store (is-answer r w is))))))))))))))))))))))))))))))))))))))))))))))
 
 module _ {M : Type 1} (𝓤 : URA M) (H : Heap 𝓤) (A : Atoms 𝓤) (W : Given 𝓤 H A) (mem : Memory → SProp 𝓤) (run : Routine → Fun 𝓤) where
   walks : (C : Calls 𝓤 H) (Λ : Loops 𝓤 H) → FmC 𝓤 H (W .laws) C → Triple 𝓤 (C #core) (Core 𝓤 H A mem run)

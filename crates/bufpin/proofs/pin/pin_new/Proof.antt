@@ -6,7 +6,7 @@ use Rattle.buftag.specs.Link.{linkOf}
 use Rattle.buftag.proofs.SignedLaws.{bits-back}
 use Rattle.bufmodel.specs.Memory.{Memory, memory}
 use Rattle.bufmodel.specs.Outcome.{Outcome}
-use Rattle.bufmodel.specs.Answer.{pinnedAt}
+use Rattle.bufmodel.specs.Answer.{pinnedOf}
 use Rattle.bufmodel.proofs.GoodLaws.{Good, good-of}
 use Rattle.bufmodel.proofs.FreeListLaws.{top-empty}
 use Rattle.bufmoves.proofs.WholeLaws.{load-whole, good-lodged}
@@ -84,7 +84,7 @@ returns c =
     let at-match = at-pin-swept .before .before .before .before .before .before .before .before in
     let s = at-match .before .before .before .before .before .before .before .before in
     let e = new-swept (whole s) (s .args .name) (none at-match) in (
-      at-pin-swept .pin-swept .ensures .0 ∙ ap (λ (o : Outcome). pinnedAt (o .refusal) (o .answer)) (sym e),
+      at-pin-swept .pin-swept .ensures .0 ∙ ap pinnedOf (sym e),
       at-pin-swept .pin-swept .ensures .1 ∙ ap (λ (o : Outcome). o .after) (sym e),
     )
 

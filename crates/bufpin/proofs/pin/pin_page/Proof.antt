@@ -7,7 +7,7 @@ use Rattle.buftag.specs.declared.lookup.Held.the-variants.{At}
 use Rattle.bufmodel.specs.Memory.{Memory, memory}
 use Rattle.bufmodel.specs.Outcome.{Outcome}
 use Rattle.bufmodel.specs.Books.{emptyAt}
-use Rattle.bufmodel.specs.Answer.{pinnedAt}
+use Rattle.bufmodel.specs.Answer.{pinnedOf}
 use Rattle.bufmodel.specs.Pin.{heldIn}
 use Rattle.bufmodel.proofs.SizesLaws.{rows-say}
 use Rattle.bufmodel.proofs.GoodLaws.{Good, good-sized, good-sound}
@@ -15,6 +15,7 @@ use Rattle.bufmodel.proofs.HeldLaws.{held-at}
 use Rattle.bufmem.specs.declared.seek.Sought as name
 use Rattle.bufmem.specs.Seek.{sought}
 use Rattle.bufmodel.proofs.GoodLaws.{passed-good}
+use Rattle.bufmodel.proofs.AnsweredLaws.{promised, pin-answers}
 use Rattle.bufmem.proofs.SeekLaws.{name-at, looked-up}
 use Rattle.bufpin.proofs.PinLaws.{pin-early, pin-nameless, pin-held, pin-new}
 use Rattle.bufpin.proofs.pin.pin_page.Statement.{statement}
@@ -84,7 +85,8 @@ returns : tie.Need-returns
 returns c =
     let i = c .before in
     let s = i .before .before .before .before .before .before .before .before .before .before .before .before .before .before in
-    rw (c .pin-refused .ensures) (pin-early (whole s) (s .args .name) (i .if1 .taken) (i .before .refusal .ensures))
+    rw (c .pin-refused .ensures)
+    (promised (pin-answers _ _) (pin-early (whole s) (s .args .name) (i .if1 .taken) (i .before .refusal .ensures)))
 
 seek-requires : tie.Need-seek-requires
 seek-requires c κs =
@@ -150,8 +152,9 @@ returns-2 c =
     let at-known-told2 = at-look-up .before .before .before .before in
     let at-if1 = at-known-told2 .before .before .before .before in
     let s = at-if1 .before .before .before .before .before .before .before .before .before .before .before .before .before .before in
-    let e = pin-new (whole s) (s .args .name) (good at-if1) (at at-known-told2) (held at-look-up ∙ at-enum-told .enum-told .given .1) in (
-      at-pin-new .pin-new .ensures .0 ∙ ap (λ (o : Outcome). pinnedAt (o .refusal) (o .answer)) (sym e),
+    let e = pin-new (whole s) (s .args .name) (good at-if1) (at at-known-told2) (held at-look-up ∙ at-enum-told .enum-told .given .1) in
+    promised (pin-answers _ _) (
+      at-pin-new .pin-new .ensures .0 ∙ ap pinnedOf (sym e),
       at-pin-new .pin-new .ensures .1 ∙ ap (λ (o : Outcome). o .after) (sym e),
     )
 
@@ -195,7 +198,8 @@ returns-3 c =
     let at-if1 = at-seek .before in
     let s = at-if1 .before .before .before .before .before .before .before .before .before .before .before .before .before .before in
     rw (c .pin-refused2 .ensures)
-    (pin-nameless (whole s) (s .args .name) (good at-if1) (sym (at-seek .seek .ensures) ∙ t .before .sought .given .1))
+    (promised (pin-answers _ _)
+    (pin-nameless (whole s) (s .args .name) (good at-if1) (sym (at-seek .seek .ensures) ∙ t .before .sought .given .1)))
 
 same-length-22 : tie.Need-same-length-22
 same-length-22 c = search needs
@@ -230,7 +234,7 @@ returns-4 c =
     let h = held at-look-up ∙ at-buffer .buffer .given .1 in
     let e = pin-held m (s .args .name) (good at-if1) (at at-known-told2) b h in
     let o = c .before .before .pin-held .ensures in
-    (o .1 .0 ∙ e .0, rw (o .0, o .1 .1) (e .1))
+    promised (pin-answers _ _) (o .1 .0 ∙ e .0, rw (o .0, o .1 .1) (e .1))
 
 pub pin-page-spec : {M : Type 1} → statement M
 pin-page-spec =

@@ -1,6 +1,8 @@
 use borrow.Author.Needs.{needs}
+use mathlib.Core.Path.{_∙_}
+use Rattle.bufmodel.proofs.AnsweredLaws.{checkpoint-answers}
 use Rattle.bufpool.proofs.ExportLaws.{export-answer, export-control, call-read, export-made}
-use Rattle.bufpool.proofs.CallLaws.{checkpoint-early, checkpoint-answers}
+use Rattle.bufpool.proofs.CallLaws.{checkpoint-early}
 use Rattle.bufpool.proofs.back.bufpool_checkpoint.Statement.{statement}
 use Rattle.bufpool.proofs.back.bufpool_checkpoint.Tie as tie
 
@@ -56,7 +58,8 @@ returns-3 c =
     let u = at-checkpoint-pool .checkpoint-pool .ensures in
     let read = call-read _ _ _ (checkpoint-early) _ (at-read-control .read-control .ensures) in
     rw (at-keep-control .keep-control .ensures)
-    (export-made _ _ _ _ (at-if1 .if1 .left) (at-if2 .if2 .left) read (checkpoint-answers _) (u .0) (p .0) (p .1) (u .1))
+    (export-made _ _ _ _ (at-if1 .if1 .left) (at-if2 .if2 .left) read (checkpoint-answers _)
+    (p .0 ∙ u .1 .0) (p .1 ∙ u .1 .1 .0) (u .1 .1 .1))
 
 pub bufpool-checkpoint-spec : {M : Type 1} → statement M
 bufpool-checkpoint-spec =

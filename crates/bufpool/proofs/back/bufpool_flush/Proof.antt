@@ -1,6 +1,8 @@
 use borrow.Author.Needs.{needs}
+use mathlib.Core.Path.{_∙_}
+use Rattle.bufmodel.proofs.AnsweredLaws.{flush-answers}
 use Rattle.bufpool.proofs.ExportLaws.{export-answer, export-control, call-read, export-made}
-use Rattle.bufpool.proofs.CallLaws.{flush-early, flush-answers}
+use Rattle.bufpool.proofs.CallLaws.{flush-early}
 use Rattle.bufpool.proofs.back.bufpool_flush.Statement.{statement}
 use Rattle.bufpool.proofs.back.bufpool_flush.Tie as tie
 
@@ -56,7 +58,8 @@ returns-3 c =
     let u = at-flush-buffer .flush-buffer .ensures in
     let read = call-read _ _ _ (flush-early _) _ (at-read-control .read-control .ensures) in
     rw (at-keep-control .keep-control .ensures)
-    (export-made _ _ _ _ (at-if1 .if1 .left) (at-if2 .if2 .left) read (flush-answers _ _) (u .0) (p .0) (p .1) (u .1))
+    (export-made _ _ _ _ (at-if1 .if1 .left) (at-if2 .if2 .left) read (flush-answers _ _)
+    (p .0 ∙ u .1 .0) (p .1 ∙ u .1 .1 .0) (u .1 .1 .1))
 
 pub bufpool-flush-spec : {M : Type 1} → statement M
 bufpool-flush-spec =

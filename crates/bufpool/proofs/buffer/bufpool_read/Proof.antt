@@ -1,7 +1,8 @@
 use borrow.Author.Needs.{needs}
-use mathlib.Core.Path.{refl}
+use mathlib.Core.Path.{refl, _∙_}
+use Rattle.bufmodel.proofs.AnsweredLaws.{read-answers}
 use Rattle.bufpool.proofs.ExportLaws.{export-answer, export-control, call-read, export-left}
-use Rattle.bufpool.proofs.CallLaws.{read-early, read-answers, read-left}
+use Rattle.bufpool.proofs.CallLaws.{read-early, read-left}
 use Rattle.bufpool.proofs.buffer.bufpool_read.Statement.{statement}
 use Rattle.bufpool.proofs.buffer.bufpool_read.Tie as tie
 
@@ -47,9 +48,9 @@ returns-3 c =
     let u = at-read-buffer .read-buffer .ensures in
     let is = at-read-control .read-control .ensures in
     let early = read-early _ _ _ in
-    rw (u .1)
-    (export-left _ _ _ _ (at-if1 .if1 .left) (at-if2 .if2 .left) (call-read _ _ _ early _ is) (read-answers _ _ _ _) (u .0) (p .0) (p .1)
-    (read-left _ _ _ _) early is refl)
+    rw (u .1 .1 .1)
+    (export-left _ _ _ _ (at-if1 .if1 .left) (at-if2 .if2 .left) (call-read _ _ _ early _ is) (read-answers _ _ _ _)
+    (p .0 ∙ u .1 .0) (p .1 ∙ u .1 .1 .0) (read-left _ _ _ _) early is refl)
 
 pub bufpool-read-spec : {M : Type 1} → statement M
 bufpool-read-spec =

@@ -1,7 +1,8 @@
 use borrow.Author.Needs.{needs}
-use mathlib.Core.Path.{refl}
+use mathlib.Core.Path.{refl, _∙_}
+use Rattle.bufmodel.proofs.AnsweredLaws.{unpin-answers}
 use Rattle.bufpool.proofs.ExportLaws.{export-answer, export-control, call-read, export-left}
-use Rattle.bufpool.proofs.CallLaws.{unpin-early, unpin-answers}
+use Rattle.bufpool.proofs.CallLaws.{unpin-early}
 use Rattle.bufpool.proofs.buffer.bufpool_unpin.Statement.{statement}
 use Rattle.bufpool.proofs.buffer.bufpool_unpin.Tie as tie
 
@@ -48,7 +49,7 @@ returns-3 c =
     let p = at-put-accepted .put-accepted .ensures in
     let u = at-unpin-buffer .unpin-buffer .ensures in
     export-left _ _ _ _ (at-if1 .if1 .left) (at-if2 .if2 .left) (call-read _ _ _ early _ is) (unpin-answers _ _)
-    (u .0) (p .0) (p .1) (u .1) early is refl
+    (p .0 ∙ u .1 .0) (p .1 ∙ u .1 .1 .0) (u .1 .1 .1) early is refl
 
 pub bufpool-unpin-spec : {M : Type 1} → statement M
 bufpool-unpin-spec =

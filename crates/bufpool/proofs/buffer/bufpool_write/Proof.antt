@@ -1,7 +1,8 @@
 use borrow.Author.Needs.{needs}
-use mathlib.Core.Path.{refl}
+use mathlib.Core.Path.{refl, _∙_}
+use Rattle.bufmodel.proofs.AnsweredLaws.{write-answers}
 use Rattle.bufpool.proofs.ExportLaws.{export-answer, export-control, call-read, export-left}
-use Rattle.bufpool.proofs.CallLaws.{write-early, write-answers}
+use Rattle.bufpool.proofs.CallLaws.{write-early}
 use Rattle.bufpool.proofs.buffer.bufpool_write.Statement.{statement}
 use Rattle.bufpool.proofs.buffer.bufpool_write.Tie as tie
 
@@ -51,7 +52,7 @@ returns-3 c =
     let is = at-read-control .read-control .ensures in
     let early = write-early _ _ _ _ in
     export-left _ _ _ _ (at-if1 .if1 .left) (at-if2 .if2 .left) (call-read _ _ _ early _ is) (write-answers _ _ _ _ _)
-    (u .0) (p .0) (p .1) (u .1) early is refl
+    (p .0 ∙ u .1 .0) (p .1 ∙ u .1 .1 .0) (u .1 .1 .1) early is refl
 
 pub bufpool-write-spec : {M : Type 1} → statement M
 bufpool-write-spec =

@@ -1,6 +1,8 @@
 use borrow.Author.Needs.{needs}
+use mathlib.Core.Path.{_∙_}
+use Rattle.bufmodel.proofs.AnsweredLaws.{drop-answers}
 use Rattle.bufpool.proofs.ExportLaws.{export-answer, export-control, call-read, export-made}
-use Rattle.bufpool.proofs.CallLaws.{drop-early, drop-answers}
+use Rattle.bufpool.proofs.CallLaws.{drop-early}
 use Rattle.bufpool.proofs.file.bufpool_drop.Statement.{statement}
 use Rattle.bufpool.proofs.file.bufpool_drop.Tie as tie
 
@@ -72,7 +74,8 @@ returns-3 c =
     let u = at-drop-file .drop-file .ensures in
     let read = call-read _ _ _ (drop-early _) _ (at-read-control .read-control .ensures) in
     rw (at-keep-control .keep-control .ensures, ← at-file-name .file-name .ensures)
-    (export-made _ _ _ _ (at-if1 .if1 .left) (at-if2 .if2 .left) read (drop-answers _ _) (u .0) (p .0) (p .1) (u .1))
+    (export-made _ _ _ _ (at-if1 .if1 .left) (at-if2 .if2 .left) read (drop-answers _ _)
+    (p .0 ∙ u .1 .0) (p .1 ∙ u .1 .1 .0) (u .1 .1 .1))
 
 pub bufpool-drop-spec : {M : Type 1} → statement M
 bufpool-drop-spec =

@@ -1,7 +1,8 @@
 use borrow.Author.Needs.{needs}
-use mathlib.Core.Path.{refl}
+use mathlib.Core.Path.{refl, _∙_}
+use Rattle.bufmodel.proofs.AnsweredLaws.{extend-answers}
 use Rattle.bufpool.proofs.ExportLaws.{export-answer, export-control, call-read, export-left}
-use Rattle.bufpool.proofs.CallLaws.{extend-early, extend-answers}
+use Rattle.bufpool.proofs.CallLaws.{extend-early}
 use Rattle.bufpool.proofs.file.bufpool_extend.Statement.{statement}
 use Rattle.bufpool.proofs.file.bufpool_extend.Tie as tie
 
@@ -56,7 +57,7 @@ returns-3 c =
     let early = extend-early _ in
     rw (← at-file-name .file-name .ensures)
     (export-left _ _ _ _ (at-if1 .if1 .left) (at-if2 .if2 .left) (call-read _ _ _ early _ is) (extend-answers _ _)
-    (u .0) (p .0) (p .1) (u .1) early is refl)
+    (p .0 ∙ u .1 .0) (p .1 ∙ u .1 .1 .0) (u .1 .1 .1) early is refl)
 
 pub bufpool-extend-spec : {M : Type 1} → statement M
 bufpool-extend-spec =

@@ -1,7 +1,8 @@
 use borrow.Author.Needs.{needs}
-use mathlib.Core.Path.{refl}
+use mathlib.Core.Path.{refl, _∙_}
+use Rattle.bufmodel.proofs.AnsweredLaws.{peek-answers}
 use Rattle.bufpool.proofs.ExportLaws.{export-answer, export-control, call-read, export-left}
-use Rattle.bufpool.proofs.CallLaws.{peek-early, peek-answers, peek-left}
+use Rattle.bufpool.proofs.CallLaws.{peek-early, peek-left}
 use Rattle.bufpool.proofs.page.bufpool_peek.Statement.{statement}
 use Rattle.bufpool.proofs.page.bufpool_peek.Tie as tie
 
@@ -49,8 +50,8 @@ returns-3 c =
     let is = at-read-control .read-control .ensures in
     let early = peek-early _ in
     rw (← at-page-name .page-name .ensures)
-    (export-left _ _ _ _ (at-if1 .if1 .left) (at-if2 .if2 .left) (call-read _ _ _ early _ is) (peek-answers _ _) u (p .0) (p .1)
-    (peek-left _ _) early is refl)
+    (export-left _ _ _ _ (at-if1 .if1 .left) (at-if2 .if2 .left) (call-read _ _ _ early _ is) (peek-answers _ _)
+    (p .0 ∙ u .1 .0) (p .1 ∙ u .1 .1) (peek-left _ _) early is refl)
 
 pub bufpool-peek-spec : {M : Type 1} → statement M
 bufpool-peek-spec =

@@ -1,6 +1,8 @@
 use borrow.Author.Needs.{needs}
+use mathlib.Core.Path.{_∙_}
+use Rattle.bufmodel.proofs.AnsweredLaws.{pin-answers}
 use Rattle.bufpool.proofs.ExportLaws.{export-answer, export-control, call-read, export-made}
-use Rattle.bufpool.proofs.CallLaws.{pin-early, pin-answers}
+use Rattle.bufpool.proofs.CallLaws.{pin-early}
 use Rattle.bufpool.proofs.page.bufpool_pin.Statement.{statement}
 use Rattle.bufpool.proofs.page.bufpool_pin.Tie as tie
 
@@ -76,7 +78,8 @@ returns-3 c =
     let u = at-pin-page .pin-page .ensures in
     let read = call-read _ _ _ (pin-early _) _ (at-read-control .read-control .ensures) in
     rw (at-keep-control .keep-control .ensures, ← at-page-name .page-name .ensures)
-    (export-made _ _ _ _ (at-if1 .if1 .left) (at-if2 .if2 .left) read (pin-answers _ _) (u .0) (p .0) (p .1) (u .1))
+    (export-made _ _ _ _ (at-if1 .if1 .left) (at-if2 .if2 .left) read (pin-answers _ _)
+    (p .0 ∙ u .1 .0) (p .1 ∙ u .1 .1 .0) (u .1 .1 .1))
 
 pub bufpool-pin-spec : {M : Type 1} → statement M
 bufpool-pin-spec =

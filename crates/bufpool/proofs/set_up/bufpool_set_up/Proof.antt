@@ -1,6 +1,8 @@
 use borrow.Author.Needs.{needs}
+use mathlib.Core.Path.{_∙_}
+use Rattle.bufmodel.proofs.AnsweredLaws.{set-up-answers}
 use Rattle.bufpool.proofs.ExportLaws.{export-answer, export-control, export-made}
-use Rattle.bufpool.proofs.CallLaws.{set-up-answers, set-up-read}
+use Rattle.bufpool.proofs.CallLaws.{set-up-read}
 use Rattle.bufpool.proofs.set_up.bufpool_set_up.Statement.{statement}
 use Rattle.bufpool.proofs.set_up.bufpool_set_up.Tie as tie
 
@@ -63,7 +65,8 @@ returns-3 c =
     let p = at-put-accepted .put-accepted .ensures in
     let u = at-set-up-pool .set-up-pool .ensures in
     rw (at-keep-control .keep-control .ensures)
-    (export-made _ _ _ _ (at-if1 .if1 .left) (at-if2 .if2 .left) (set-up-read _ _ _ _) (set-up-answers _ _ _) (u .0) (p .0) (p .1) (u .1))
+    (export-made _ _ _ _ (at-if1 .if1 .left) (at-if2 .if2 .left) (set-up-read _ _ _ _) (set-up-answers _ _ _)
+    (p .0 ∙ u .1 .0) (p .1 ∙ u .1 .1 .0) (u .1 .1 .1))
 
 pub bufpool-set-up-spec : {M : Type 1} → statement M
 bufpool-set-up-spec =
