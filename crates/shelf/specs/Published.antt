@@ -1,11 +1,11 @@
--- Demand 2: each pin's buffer, probe count and state words are those of the published free list and clock sweep. Besides: words, hand and
--- free list after every other call, and what flush, checkpoint and peek answer. In document 01's own numbers.
-use Prim.Native.Nat.{ℕ, zero, suc, _+_, _-_, _*_, _^_, _≤_, _<_}
+-- Demand 2: names, state words and log positions are packed as published; each pin's buffer, probe count and state words are those of the
+-- published free list and clock sweep. And what every other call leaves of the books and answers. In document 01's own numbers.
+use Prim.Native.Nat.{ℕ, zero, suc, _+_, _-_, _*_, _/_, _%_, _^_, _≤_, _<_}
 use mathlib.Core.Path.{_≡_}
 use mathlib.Core.Logic.{_≢_}
 use mathlib.Core.Bool.{Bool, not, _&&_, cond}
-use mathlib.Core.List.{[], _∷_}
-use lib.ListN.{getD}
+use mathlib.Core.List.{List, [], _∷_}
+use lib.ListN.{length, getD}
 use lib.IntN.{ℤ, pos, negsuc}
 use lib.Dec.{eqb}
 use Rattle.laws.specs.Sum.{count}
@@ -15,10 +15,12 @@ use Rattle.buftag.specs.declared.lookup.Held.the-variants.{At, Nowhere}
 use Rattle.buftag.specs.declared.number.BufferNumber.{BufferNumber}
 use Rattle.buftag.specs.declared.name.FileName.{FileName}
 use Rattle.buftag.specs.declared.name.PageName.{PageName}
-use Rattle.buftag.specs.Name.{sameFile}
-use Rattle.buftag.specs.Link.{numberAt, linkOf}
+use Rattle.buftag.specs.Name.{bucketOf, sameFile}
+use Rattle.buftag.specs.Names.{noName}
+use Rattle.buftag.specs.Link.{numberAt, linkOf, isTo}
 use Rattle.bufmodel.specs.Word.{usage, dirty}
-use Rattle.bufmodel.specs.Memory.{Memory, buffers, size, wordOf, nameOf}
+use Rattle.bufmodel.specs.Rows.{placeOf}
+use Rattle.bufmodel.specs.Memory.{Memory, buffers, size, wordOf, nameOf, pageOf}
 use Rattle.bufmodel.specs.Sizes.{SizedFor}
 use Rattle.bufmodel.specs.Books.{BooksSound}
 use Rattle.bufmodel.specs.Sweep.{Swept, Sweeps}
@@ -43,92 +45,167 @@ cleaned w = cond (dirty w) (w - 0x10800000) w
 abbrev pub justLoaded : ℕ
 justLoaded = 0x83040001
 
--- ---- what a call leaves of the clock and the free list: each buffer's word and free link, the hand and the top
-pub record Leaves (m : Memory) (o : Outcome) (word : ℕ → ℕ) (at : ℕ) (link : ℕ → ℤ) (first : ℤ) : Type 0 where
-  pub many : buffers (o .after) ≡ buffers m
-  pub words : (i : ℕ) → i < buffers m → wordOf (o .after) i ≡ word i
-  pub hand : o .after .control .hand ≡ at
-  pub links : (i : ℕ) → i < buffers m → numberAt (o .after .free) i ≡ link i
-  pub top : o .after .control .top ≡ first
+-- ---- the books, place by place: each buffer's word, name, free link and chain link, each bucket's head, the hand, the free list's top
+pub record Marks : Type 0 where
+  pub word : ℕ → ℕ
+  pub name : ℕ → PageName
+  pub link : ℕ → ℤ
+  pub chain : ℕ → ℤ
+  pub head : ℕ → ℤ
+  pub hand : ℕ
+  pub top : ℤ
 
--- a free link of −2: not in the list
+abbrev pub marksOf : Memory → Marks
+marksOf m =
+    record {
+      word = wordOf m;
+      name = nameOf m;
+      link = numberAt (m .free);
+      chain = numberAt (m .chain);
+      head = numberAt (m .heads);
+      hand = m .control .hand;
+      top = m .control .top;
+    }
+
+-- other words, and another hand
+abbrev pub withWords : (ℕ → ℕ) → ℕ → Marks → Marks
+withWords word hand k =
+    record { word = word; name = k .name; link = k .link; chain = k .chain; head = k .head; hand = hand; top = k .top }
+
+-- −1 ends a list, −2 means not in it
+abbrev pub listEnd : ℤ
+listEnd = negsuc 0
+
 abbrev pub unlisted : ℤ
 unlisted = negsuc 1
 
-module _ (m : Memory) where
-  abbrev pub freeLink : ℕ → ℤ
-  freeLink = numberAt (m .free)
+-- a link that led to buffer i leads to where its own does
+abbrev pub ledPast : ℕ → ℤ → ℤ → ℤ
+ledPast i own link = cond (isTo i (linkOf link)) own link
 
-  -- hand and free list as before
-  abbrev pub Stays : Outcome → (ℕ → ℕ) → Type 0
-  Stays o word = Leaves m o word (m .control .hand) freeLink (m .control .top)
+-- buffer i is emptied, its chain entry goes, and it is put on top of the free list
+unfoldable pub emptied : ℕ → Marks → Marks
+emptied i k =
+    record {
+      word = with i 0 (k .word);
+      name = with i noName (k .name);
+      link = with i (k .top) (k .link);
+      chain = with i listEnd (λ j. ledPast i (k .chain i) (k .chain j));
+      head = λ b. ledPast i (k .chain i) (k .head b);
+      hand = k .hand;
+      top = pos i;
+    }
+
+-- page n comes into buffer i, the free list's top: the name enters at the head of bucket b; pin and usage counts are 1, clean
+unfoldable pub loadedInto : ℕ → PageName → ℕ → Marks → Marks
+loadedInto b n i k =
+    record {
+      word = with i justLoaded (k .word);
+      name = with i n (k .name);
+      link = with i unlisted (k .link);
+      chain = with i (k .head b) (k .chain);
+      head = with b (pos i) (k .head);
+      hand = k .hand;
+      top = k .link i;
+    }
+
+-- two of them are alike for n buffers and b buckets
+pub record Alike (n b : ℕ) (k l : Marks) : Type 0 where
+  pub words : (i : ℕ) → i < n → k .word i ≡ l .word i
+  pub names : (i : ℕ) → i < n → k .name i ≡ l .name i
+  pub links : (i : ℕ) → i < n → k .link i ≡ l .link i
+  pub chains : (i : ℕ) → i < n → k .chain i ≡ l .chain i
+  pub heads : (j : ℕ) → j < b → k .head j ≡ l .head j
+  pub hand : k .hand ≡ l .hand
+  pub top : k .top ≡ l .top
+
+module _ (m : Memory) where
+  abbrev pub buckets : ℕ
+  buckets = length (m .heads)
+
+  -- ---- what an accepted call leaves: as many buffers and buckets, the books so, and the bytes of an empty buffer's page as they were
+  pub record Leaves (o : Outcome) (k : Marks) : Type 0 where
+    pub many : buffers (o .after) ≡ buffers m
+    pub wide : length (o .after .heads) ≡ buckets
+    pub alike : Alike (buffers m) buckets (marksOf (o .after)) k
+    pub idle : (i : ℕ) → i < buffers m → wordOf (o .after) i ≡ 0 → pageOf (o .after) i ≡ pageOf m i
+
+  -- other words and nothing else
+  abbrev pub Words : Outcome → (ℕ → ℕ) → Type 0
+  Words o word = Leaves o (withWords word (m .control .hand) (marksOf m))
 
   -- ---- A pin's probes are the buffers that its sweep looks at, each time counted
-  pub data Probes (n : PageName) (o : Outcome) : ℕ → Type 0 where
-    -- none on a hit: the buffer that has the page; hit, nothing written
-    hit : {b : BufferNumber} → heldIn m n ≡ At b → o .refusal ≡ 0 → o .answer ≡ b .0 ∷ 1 ∷ 0 ∷ 0 ∷ []
-        → Stays o (with (b .0) (morePins (wordOf m (b .0))) (wordOf m))
-        → Probes n o 0
-    -- or from the free list: its top, whose link the top becomes; loaded, nothing written
-    free : {i : ℕ} → heldIn m n ≡ Nowhere → linkOf (m .control .top) ≡ To i → o .refusal ≡ 0 → o .answer ≡ i ∷ 0 ∷ 0 ∷ 0 ∷ []
-        → Leaves m o (with i justLoaded (wordOf m)) (m .control .hand) (with i unlisted freeLink) (freeLink i)
-        → Probes n o 0
-    -- or at a refusal before a victim is sought
-    early : o .refusal ≢ 0 → o .refusal ≢ 6 → Probes n o 0
-    -- those of a sweep that gave the buffer, and left words and hand; loaded, and written if the victim was dirty
-    taken : {s : Swept} {v : ℕ} → heldIn m n ≡ Nowhere → linkOf (m .control .top) ≡ End → o .refusal ≡ 0
-        → Sweeps (buffers m) 0 (m .control .hand) (m .states) s
-        → s .victim ≡ found v
-        → o .answer ≡ v ∷ 0 ∷ cond (dirty (wordOf m v)) 1 0 ∷ s .probes ∷ []
-        → Leaves m o (with v justLoaded (λ i. getD (s .words) i 0)) (s .hand) (with v unlisted freeLink) (m .control .top)
-        → Probes n o (s .probes)
-    -- those of a sweep that found all pinned
-    stuck : {s : Swept} → heldIn m n ≡ Nowhere → linkOf (m .control .top) ≡ End → o .refusal ≡ 6
-        → Sweeps (buffers m) 0 (m .control .hand) (m .states) s
-        → s .victim ≡ missing
-        → Probes n o (s .probes)
+  module _ (n : PageName) where
+    -- page n comes into buffer i
+    abbrev pub loaded : ℕ → Marks → Marks
+    loaded = loadedInto (bucketOf n buckets) n
 
-  pub record Sought (n : PageName) (o : Outcome) : Type 0 where
-    pub probes : ℕ
-    pub looked : Probes n o probes
-    -- at most six probes for each buffer
-    pub bound : probes ≤ 6 * buffers m
-    -- N at 6; an accepted pin answers their number
-    pub atSix : o .refusal ≡ 6 → probes ≡ buffers m
-    pub answered : o .refusal ≡ 0 → getD (o .answer) 3 0 ≡ probes
+    pub data Probes (o : Outcome) : ℕ → Type 0 where
+      -- none on a hit: the buffer that has the page; hit, nothing written
+      hit : {b : BufferNumber} → heldIn m n ≡ At b → o .refusal ≡ 0 → o .answer ≡ b .0 ∷ 1 ∷ 0 ∷ 0 ∷ []
+          → Words o (with (b .0) (morePins (wordOf m (b .0))) (wordOf m))
+          → Probes o 0
+      -- or from the free list: its top; loaded, nothing written
+      free : {i : ℕ} → heldIn m n ≡ Nowhere → linkOf (m .control .top) ≡ To i → o .refusal ≡ 0 → o .answer ≡ i ∷ 0 ∷ 0 ∷ 0 ∷ []
+          → Leaves o (loaded i (marksOf m))
+          → Probes o 0
+      -- or at a refusal before a victim is sought
+      early : o .refusal ≢ 0 → o .refusal ≢ 6 → Probes o 0
+      -- those of a sweep that gave the buffer, and left words and hand; loaded, and written if the victim was dirty
+      taken : {s : Swept} {v : ℕ} → heldIn m n ≡ Nowhere → linkOf (m .control .top) ≡ End → o .refusal ≡ 0
+          → Sweeps (buffers m) 0 (m .control .hand) (m .states) s
+          → s .victim ≡ found v
+          → o .answer ≡ v ∷ 0 ∷ cond (dirty (wordOf m v)) 1 0 ∷ s .probes ∷ []
+          → Leaves o (loaded v (emptied v (withWords (λ i. getD (s .words) i 0) (s .hand) (marksOf m))))
+          → Probes o (s .probes)
+      -- those of a sweep that found all pinned
+      stuck : {s : Swept} → heldIn m n ≡ Nowhere → linkOf (m .control .top) ≡ End → o .refusal ≡ 6
+          → Sweeps (buffers m) 0 (m .control .hand) (m .states) s
+          → s .victim ≡ missing
+          → Probes o (s .probes)
 
-  -- ---- the other calls
-  -- 1 for the pool's page if held, 0 for the store's block
-  pub record Peeks (n : PageName) (o : Outcome) : Type 0 where
-    pub inPool : (b : BufferNumber) → heldIn m n ≡ At b → o .answer ≡ two 1 (b .0 * size m)
-    pub inStore : heldIn m n ≡ Nowhere → getD (o .answer) 0 0 ≡ 0
+    pub record Sought (o : Outcome) : Type 0 where
+      pub probes : ℕ
+      pub looked : Probes o probes
+      -- at most six probes for each buffer
+      pub bound : probes ≤ 6 * buffers m
+      -- N at 6; an accepted pin answers their number
+      pub atSix : o .refusal ≡ 6 → probes ≡ buffers m
+      pub answered : o .refusal ≡ 0 → getD (o .answer) 3 0 ≡ probes
 
-  -- a buffer of the file, and the top of the free list after those below k were put on it, rising
-  unfoldable pub filed : FileName → ℕ → Bool
-  filed f i = not (eqb (wordOf m i) 0) && sameFile (nameOf m i .file) f
+    -- ---- peek: 1 for the pool's page if held, 0 for the store's block, and a byte offset
+    pub record Peeks (o : Outcome) : Type 0 where
+      pub inPool : (b : BufferNumber) → heldIn m n ≡ At b → o .answer ≡ two 1 (b .0 * size m)
+      pub inStore : (g : ℕ) → heldIn m n ≡ Nowhere → placeOf (m .rows) n ≡ found g → o .answer ≡ two 0 (g * size m)
 
-  unfoldable pub topAfter : FileName → ℕ → ℤ
-  topAfter f zero = m .control .top
-  topAfter f (suc k) = cond (filed f k) (pos k) (topAfter f k)
+  -- ---- drop: the file's buffers below j, rising, are emptied
+  module _ (f : FileName) where
+    unfoldable pub filed : ℕ → Bool
+    filed i = not (eqb (wordOf m i) 0) && sameFile (nameOf m i .file) f
 
-  -- what each leaves where it is accepted; the count that flush and checkpoint wrote; a pin's is above
+    unfoldable pub droppedTo : ℕ → Marks
+    droppedTo zero = marksOf m
+    droppedTo (suc j) = let k = droppedTo j in cond (filed j) (emptied j k) k
+
+  -- ---- what each call leaves where it is accepted; the count that flush and checkpoint wrote; a pin's is above
   abbrev pub Accepts : Call → Outcome → Type 0
   Accepts (Pin n) o = Unit {0}
-  Accepts (Unpin b) o = Stays o (with b (wordOf m b - 1) (wordOf m))
-  Accepts (Read b from out) o = Stays o (wordOf m)
-  Accepts (Write b from bytes at) o = Stays o (with b (dirtied (wordOf m b)) (wordOf m))
-  Accepts (Flush b) o = Stays o (with b (cleaned (wordOf m b)) (wordOf m)) × (o .answer ≡ one (cond (dirty (wordOf m b)) 1 0))
-  Accepts Checkpoint o = Stays o (λ i. cleaned (wordOf m i)) × (o .answer ≡ one (count (buffers m) (λ i. dirty (wordOf m i))))
-  Accepts (Peek n) o = Stays o (wordOf m) × Peeks n o
-  Accepts (Extend f) o = Stays o (wordOf m)
-  Accepts (Drop f) o =
-      Leaves m o (λ i. cond (filed f i) 0 (wordOf m i)) (m .control .hand) (λ i. cond (filed f i) (topAfter f i) (freeLink i))
-      (topAfter f (buffers m))
-  Accepts (LogInserted p) o = Stays o (wordOf m)
-  Accepts (LogFlushed p) o = Stays o (wordOf m)
+  Accepts (Unpin b) o = Words o (with b (wordOf m b - 1) (wordOf m))
+  Accepts (Read b from out) o = Words o (wordOf m)
+  Accepts (Write b from bytes at) o = Words o (with b (dirtied (wordOf m b)) (wordOf m))
+  Accepts (Flush b) o = Words o (with b (cleaned (wordOf m b)) (wordOf m)) × (o .answer ≡ one (cond (dirty (wordOf m b)) 1 0))
+  Accepts Checkpoint o = Words o (λ i. cleaned (wordOf m i)) × (o .answer ≡ one (count (buffers m) (λ i. dirty (wordOf m i))))
+  Accepts (Peek n) o = Words o (wordOf m) × Peeks n o
+  Accepts (Extend f) o = Words o (wordOf m)
+  Accepts (Drop f) o = Leaves o (droppedTo f (buffers m))
+  Accepts (LogInserted p) o = Words o (wordOf m)
+  Accepts (LogFlushed p) o = Words o (wordOf m)
 
-  abbrev pub Published : Call → Outcome → Type 0
-  Published c o = ((n : PageName) → c ≡ Pin n → Sought n o) × (o .refusal ≡ 0 → Accepts c o)
+  pub record Published (c : Call) (o : Outcome) : Type 0 where
+    pub sought : (n : PageName) → c ≡ Pin n → Sought n o
+    pub accepts : o .refusal ≡ 0 → Accepts c o
+    -- a refusal changes nothing
+    pub same : o .refusal ≢ 0 → o .after ≡ m
 
 -- DEMAND 2, of a pool over every sound memory with words of 32 bits, whatever calls came before
 abbrev pub Demand2For : (Memory → Call → Outcome) → Type 0

@@ -1,20 +1,22 @@
 -- Demand 3: one claim about a whole list of calls after one accepted set-up, as the till program makes them. Each clause stands under
 -- the sentence that it is, of document 01 or of the demand.
-use Prim.Native.Nat.{ℕ, _+_, _^_, _≤_, _<_}
+use Prim.Native.Nat.{ℕ, zero, suc, _+_, _^_, _≤_, _<_}
 use mathlib.Core.Path.{_≡_}
 use mathlib.Core.Logic.{_≢_, _↔_}
-use mathlib.Core.Bool.{true, false}
+use mathlib.Core.Bool.{true, false, cond}
 use mathlib.Core.List.{List, [], _∷_}
 use lib.ListN.{length, getD, take, drop}
-use lib.IntN.{ℤ, pos}
+use lib.IntN.{ℤ, pos, negsuc}
+use lib.Dec.{eqb}
 use lib.Signed.{mag}
 use Rattle.laws.specs.First.{found, missing}
 use Rattle.laws.specs.Block.{block}
 use Rattle.buftag.specs.declared.name.PageName.{PageName}
 use Rattle.buftag.specs.Name.{FitsFile, Fits}
+use Rattle.buftag.specs.Names.{noName}
 use Rattle.bufmodel.specs.Position.{position}
 use Rattle.bufmodel.specs.Rows.{files, blocksAt, rowOf, startOf, storeBlocks, placeOf}
-use Rattle.bufmodel.specs.Memory.{Memory}
+use Rattle.bufmodel.specs.Memory.{Memory, buffers, wordOf, nameOf, pageOf}
 use Rattle.bufmodel.specs.Sizes.{SizedFor}
 use Rattle.bufmodel.specs.Books.{BooksSound}
 use Rattle.bufmodel.specs.Outcome.{Outcome, zeros, one, two}
@@ -23,7 +25,7 @@ use Rattle.bufmodel.specs.Step.{Call, Pin, Unpin, Read, Write, Flush, Checkpoin
 use Rattle.bufmodel.specs.Lent.{Lent, Called, answerWords, opened, called}
 use Rattle.shelf.specs.Shelf.{Shelf, firstOf, hasPins, pinnedPages, above, refuses}
 use Rattle.shelf.specs.Ledger.{Ledger, firstLedger, bufferIn, ledgerAfter, puts}
-use Rattle.shelf.specs.Published.{Published}
+use Rattle.shelf.specs.Published.{Marks, marksOf, listEnd, Alike, Published}
 
 -- ---- all that is assumed of numbers: the lists lent and the calls' arguments hold what their C types can hold
 abbrev pub Below : ℕ → List ℕ → Type 0
@@ -93,7 +95,7 @@ module _ (s : Shelf) (o : Outcome) where
     pub fresh : hasPins s g ≡ false → s .holds (bufferIn (o .answer)) ≡ missing
 
   abbrev pub Shows : Call → Type 0
-  Shows (Pin n) = (g : ℕ) × (placeOf (s .rows) n ≡ found g) × PinRule g
+  Shows (Pin n) = (g : ℕ) × (placeOf (s .rows) n ≡ found g) × PinRule g × (o .bytes ≡ [])
   Shows (Unpin b) = o .bytes ≡ []
   -- the bytes that a read fills
   Shows (Read b from out) = (g : ℕ) × (s .holds b ≡ found g) × (o .bytes ≡ take (length out) (drop from (s .bytes g)))
@@ -101,9 +103,9 @@ module _ (s : Shelf) (o : Outcome) where
   Shows (Flush b) = o .bytes ≡ []
   Shows Checkpoint = o .bytes ≡ []
   -- or a peek hands back
-  Shows (Peek n) = (g : ℕ) × (placeOf (s .rows) n ≡ found g) × (part o ≡ s .bytes g)
+  Shows (Peek n) = (g : ℕ) × (placeOf (s .rows) n ≡ found g) × (part o ≡ s .bytes g) × (o .bytes ≡ [])
   -- an extend's block number
-  Shows (Extend f) = (r : ℕ) × (rowOf (s .rows) f ≡ found r) × (getD (o .answer) 0 0 ≡ blocksAt (s .rows) r)
+  Shows (Extend f) = (r : ℕ) × (rowOf (s .rows) f ≡ found r) × (getD (o .answer) 0 0 ≡ blocksAt (s .rows) r) × (o .bytes ≡ [])
   Shows (Drop f) = o .bytes ≡ []
   Shows (LogInserted p) = o .bytes ≡ []
   Shows (LogFlushed p) = o .bytes ≡ []
@@ -116,7 +118,8 @@ pub record Agrees (m : Memory) (l : Ledger) (c : Call) (o : Outcome) (l′ : Led
   pub neither : (o .refusal ≢ 1) × (o .refusal ≢ 2)
   -- the answer's parts in four words, unused ones 0
   pub answers : o .refusal ≡ 0 → Answers o c
-  -- the bytes that a read fills or a peek hands back, an extend's block number; an accepted pin's buffer number keeps the rule
+  -- the bytes that a read fills or a peek hands back, an extend's block number; an accepted pin's buffer number keeps the rule; the
+  -- caller's bytes are touched by a read alone
   pub shows : o .refusal ≡ 0 → Shows (l .shelf) o c
   -- a refusal gives the number, other parts of the answer zero, and changes nothing in the caller's buffer; that it changes nothing in
   -- the pool or the store: `Left.same`. A refused peek hands back an empty part: `part` has no other for it
@@ -136,11 +139,21 @@ pub record Agrees (m : Memory) (l : Ledger) (c : Call) (o : Outcome) (l′ : Led
   pub others : (g : ℕ) → g < storeBlocks (l .shelf .rows) → puts l c (o .answer) (o .refusal) g ≡ false
       → block (l .shelf .size) g (o .after .store) ≡ block (l .shelf .size) g (m .store)
   pub long : length (o .after .store) ≡ length (m .store)
+  -- the blocks that it puts there, and the page of each buffer in use, are the shelf's
+  pub stored : (g : ℕ) → g < storeBlocks (l .shelf .rows) → puts l c (o .answer) (o .refusal) g ≡ true
+      → block (l .shelf .size) g (o .after .store) ≡ l′ .shelf .bytes g
+  pub held : (i g : ℕ) → i < buffers (o .after) → wordOf (o .after) i ≢ 0 → placeOf (o .after .rows) (nameOf (o .after) i) ≡ found g
+      → pageOf (o .after) i ≡ l′ .shelf .bytes g
   -- after an accepted checkpoint also, in the store, every byte of each block below its file's block count
   pub settled : c ≡ Checkpoint → o .refusal ≡ 0 → (r b : ℕ) → r < files (l .shelf .rows) → b < blocksAt (l .shelf .rows) r
       → block (l .shelf .size) (startOf (l .shelf .rows) r + b) (o .after .store) ≡ l .shelf .bytes (startOf (l .shelf .rows) r + b)
 
 -- ---- and for the memory as it is lent: m before the call, r what it ended with, l′ the ledger after it
+-- −1 as 64 one bits
+abbrev pub topWord : ℤ → ℕ
+topWord (pos i) = i
+topWord (negsuc k) = 0xFFFFFFFFFFFFFFFF
+
 pub record Left (m : Lent) (r : Called) (l′ : Ledger) : Type 0 where
   -- a refusal changes nothing in the pool or the store, to the letter
   pub same : r .result ≢ 0 → r .lent ≡ m
@@ -148,8 +161,40 @@ pub record Left (m : Lent) (r : Called) (l′ : Ledger) : Type 0 where
   pub sizes : SizedFor (l′ .shelf .size) (opened (r .lent))
   pub books : BooksSound (opened (r .lent))
   -- the control record as 64-bit words in the order P, hand, top of the free list, inserted, flushed
-  pub control : (top : ℕ)
-      × (r .lent .control ≡ l′ .shelf .size ∷ opened (r .lent) .control .hand ∷ top ∷ l′ .shelf .inserted ∷ l′ .flushed ∷ [])
+  pub control : let k = opened (r .lent) .control in
+      r .lent .control ≡ l′ .shelf .size ∷ k .hand ∷ topWord (k .top) ∷ l′ .shelf .inserted ∷ l′ .flushed ∷ []
+
+-- ---- set up, before the list
+-- the books of n empty buffers: free list 0, 1, .. n − 1; hand 0; all chains empty
+abbrev pub freshMarks : ℕ → Marks
+freshMarks n =
+    record {
+      word = λ i. 0;
+      name = λ i. noName;
+      link = λ i. cond (eqb (suc i) n) listEnd (pos (suc i));
+      chain = λ i. listEnd;
+      head = λ b. listEnd;
+      hand = 0;
+      top = pos 0;
+    }
+
+pub record Fresh (m k : Lent) (p at : ℕ) : Type 0 where
+  pub many : length (k .states) ≡ length (m .states)
+  pub wide : length (k .heads) ≡ length (m .heads)
+  pub sizes : SizedFor p (opened k)
+  pub alike : Alike (length (m .states)) (length (m .heads)) (marksOf (opened k)) (freshMarks (length (m .states)))
+  pub control : k .control ≡ p ∷ 0 ∷ 0 ∷ at ∷ at ∷ []
+  pub pool : k .pool ≡ m .pool
+  pub rows : k .rows ≡ m .rows
+  pub store : k .store ≡ m .store
+
+-- accepted exactly where lengths and rows keep the rules, else 1 and nothing changed
+pub record SetsUp (m : Lent) (p at : ℕ) (r : Called) : Type 0 where
+  pub accepted : (r .result ≡ 0) ↔ (SizedFor p (opened m) × (length (m .control) ≡ 5))
+  pub fresh : r .result ≡ 0 → Fresh m (r .lent) p at
+  pub refused : r .result ≢ 0 → (r .result ≡ 1) × (r .lent ≡ m)
+  pub answer : r .answer ≡ zeros
+  pub bytes : r .bytes ≡ []
 
 -- ---- the claim for a list
 -- a call as the till program makes it, with an answer slice of its own
@@ -165,31 +210,58 @@ FitsMade (c ∷ cs) = FitsCall (c .call) × (length (c .answer) ≡ answerWords)
 abbrev pub outcomeOf : Called → Outcome
 outcomeOf r = record { refusal = r .result; answer = r .answer; bytes = r .bytes; after = opened (r .lent) }
 
--- a pool as the till program calls it: a call, the lent memory, the caller's own bytes, an answer slice
-abbrev pub Pool : Type 0
-Pool = Call → Lent → List ℕ → List ℕ → Called
+-- a pool as the till program calls it: set up with P, a log position and an answer slice; a call with the caller's own bytes and an answer
+-- slice; both over the lent memory
+pub record Pool : Type 0 where
+  pub setsUp : ℕ → ℕ → Lent → List ℕ → Called
+  pub calls : Call → Lent → List ℕ → List ℕ → Called
 
--- the pool of a function over the memory
+-- the pool of a function over the memory, with the right set up
 abbrev pub calling : (Memory → Call → Outcome) → Pool
-calling f c = called (λ m. f m c)
+calling f = record { setsUp = λ p at m. called (λ k. setUp k p at) m []; calls = λ c. called (λ m. f m c) }
 
 -- each call gets all the lent memory, the control record too, as the call before left it
 abbrev pub ClaimFor : Pool → Lent → Ledger → List Made → Type 0
 ClaimFor pool m l [] = Unit {0}
 ClaimFor pool m l (c ∷ cs) =
-    let r = pool (c .call) m (own (c .call)) (c .answer) in
+    let r = pool .calls (c .call) m (own (c .call)) (c .answer) in
     let o = outcomeOf r in
     let l′ = ledgerAfter l (c .call) (o .answer) (o .refusal) in
     Agrees (opened m) l (c .call) o l′ × Left m r l′ × Published (opened m) (c .call) o × ClaimFor pool (r .lent) l′ cs
 
--- DEMAND 3, of a pool: for every lent memory, every accepted set-up and every list of calls
+-- DEMAND 3, of a pool: for every lent memory, every set-up and, where it is accepted, every list of calls
 abbrev pub Demand3For : Pool → Type 0
 Demand3For pool =
     (m : Lent) (p at : ℕ) (answer : List ℕ) (calls : List Made) → FitsLent m → p < 2 ^ 64 → at < 2 ^ 64
     → length answer ≡ answerWords → FitsMade calls
-    → let r = called (λ k. setUp k p at) m [] answer in
-    r .result ≡ 0 → ClaimFor pool (r .lent) (firstLedger (opened m) p at) calls
+    → let r = pool .setsUp p at m answer in
+    SetsUp m p at r × (r .result ≡ 0 → ClaimFor pool (r .lent) (firstLedger (opened m) p at) calls)
 
 -- and of this one
 abbrev pub Demand3 : Type 0
 Demand3 = Demand3For (calling step)
+
+-- ---- what the till program gets: from set up, and, where that is accepted, from each call of the list
+abbrev pub receipts : Pool → Lent → List Made → List Called
+receipts pool m [] = []
+receipts pool m (c ∷ cs) =
+    let r = pool .calls (c .call) m (own (c .call)) (c .answer) in
+    r ∷ receipts pool (r .lent) cs
+
+abbrev pub ifAccepted : ℕ → List Called → List Called
+ifAccepted zero rs = rs
+ifAccepted (suc k) rs = []
+
+abbrev pub received : Pool → ℕ → ℕ → Lent → List ℕ → List Made → List Called
+received pool p at m answer calls =
+    let r = pool .setsUp p at m answer in
+    r ∷ ifAccepted (r .result) (receipts pool (r .lent) calls)
+
+-- DEMAND 3 LEAVES ONE POOL: whichever meets it gives the till program what this one gives, to the last byte of the lent memory
+abbrev pub OnePool : Type 0
+OnePool =
+    (pool : Pool) → Demand3For pool → (m : Lent) (p at : ℕ) (answer : List ℕ) (calls : List Made) → FitsLent m → p < 2 ^ 64
+    → at < 2 ^ 64
+    → length answer ≡ answerWords
+    → FitsMade calls
+    → received pool p at m answer calls ≡ received (calling step) p at m answer calls
