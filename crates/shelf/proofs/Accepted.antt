@@ -1,7 +1,7 @@
 -- An accepted call: what it has to show, and that this is all.
 use Prim.Native.Nat.{ℕ, _+_, _≤_, _<_}
 use mathlib.Core.Path.{_≡_, refl, sym, _∙_, subst}
-use mathlib.Core.Bool.{false}
+use mathlib.Core.Bool.{true, false}
 use mathlib.Core.List.{List}
 use native.Mathlib.Omega.{arith}
 use lib.ListN.{length}
@@ -16,6 +16,7 @@ use Rattle.shelf.specs.Shelf.{Shelf, refuses, pinnedAt, unpinnedAt, writ
 use Rattle.shelf.specs.Ledger.{Ledger, bufferIn, putBy, acceptedBy, ledgerAfter, puts}
 use Rattle.shelf.specs.Statement.{Answers, Shows}
 use Rattle.shelf.proofs.Kept.{View, shelfOf, ledgerOf, viewOf, Kept, Ended}
+use Rattle.shelf.proofs.KeptLaws.{page-held}
 use Rattle.shelf.proofs.ShelfPlaces.{six-of}
 
 -- the ledger after an accepted call that answered so
@@ -41,6 +42,7 @@ pub record Accepted (m : Memory) (v : View) (c : Call) (answer bytes : List ℕ)
   pub others : (g : ℕ) → g < storeBlocks (m .rows) → putBy (ledgerOf m v) c answer g ≡ false
       → block (size m) g (m′ .store) ≡ block (size m) g (m .store)
   pub long : length (m′ .store) ≡ length (m .store)
+  pub stored : (g : ℕ) → putBy (ledgerOf m v) c answer g ≡ true → block (size m) g (m′ .store) ≡ shelfThen m v c answer .bytes g
   pub settled : c ≡ Checkpoint → (r b : ℕ) → r < files (m .rows) → b < blocksAt (m .rows) r
       → block (size m) (startOf (m .rows) r + b) (m′ .store) ≡ v .bytes (startOf (m .rows) r + b)
 
@@ -121,6 +123,8 @@ module _ (m : Memory) (v : View) (c : Call) (answer bytes : List ℕ) (m′ : Me
                   (subst (λ (p : ℕ). position (block p g (m′ .store)) ≤ m′ .control .flushed) (sym (a .wide)) (a .kept .put g h .1));
               others = a .others;
               long = a .long;
+              stored = λ g l. a .stored g;
+              held = page-held m′ (viewOf (ledgerThen m v c answer)) (a .kept);
               settled = λ q z. a .settled q;
             };
         kept = a .kept;

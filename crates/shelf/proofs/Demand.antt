@@ -1,13 +1,17 @@
 -- DEMAND 3, proved: an accepted set up starts the relation between memory and ledger, and each call keeps it.
-use mathlib.Core.Path.{sym, subst}
+use Prim.Native.Nat.{ℕ}
+use mathlib.Core.Path.{_≡_, sym, subst}
+use mathlib.Core.List.{List, []}
+use lib.ListN.{length}
 use Rattle.bufmodel.specs.Calls.{setUp}
 use Rattle.bufmodel.specs.Step.{Pin, Unpin, Read, Write, Flush, Checkpoint, Peek, Extend, Drop, LogInserted, LogFlushed, step}
-use Rattle.bufmodel.specs.Lent.{Lent, opened}
+use Rattle.bufmodel.specs.Lent.{Lent, answerWords, opened, called}
 use Rattle.bufmodel.proofs.CalledLaws.{called-accepted}
 use Rattle.shelf.specs.Ledger.{Ledger, firstLedger}
-use Rattle.shelf.specs.Statement.{calling, ClaimFor, Demand3}
+use Rattle.shelf.specs.Statement.{Made, FitsMade, calling, ClaimFor, Demand3}
 use Rattle.shelf.proofs.Kept.{viewOf, Runs, Steps, runs-of}
 use Rattle.shelf.proofs.Start.{start-kept, start-ledger}
+use Rattle.shelf.proofs.SetUpSays.{sets-up}
 use Rattle.shelf.proofs.StepPin.{pin-step}
 use Rattle.shelf.proofs.StepUnpin.{unpin-step}
 use Rattle.shelf.proofs.StepRead.{read-step}
@@ -33,8 +37,11 @@ steps m v (Drop f) k g = drop-step m v k f
 steps m v (LogInserted p) k f = inserted-step m v k p
 steps m v (LogFlushed p) k f = flushed-step m v k p
 
-pub demand-3 : Demand3
-demand-3 m p at answer calls fm fp fat fa fc e =
+-- where set up is accepted
+listed : (m : Lent) (p at : ℕ) (answer : List ℕ) (calls : List Made) → length answer ≡ answerWords → FitsMade calls
+    → let r = called (λ k. setUp k p at) m [] answer in
+    r .result ≡ 0 → ClaimFor (calling step) (r .lent) (firstLedger (opened m) p at) calls
+listed m p at answer calls fa fc e =
     let k = opened m in
     let s = called-accepted (λ k. setUp k p at) m _ answer fa e in
     let kept = start-kept k p at (s .0) in
@@ -42,3 +49,6 @@ demand-3 m p at answer calls fm fp fat fa fc e =
     (lift (setUp k p at .after) (firstLedger k p at) calls (kept .good) (kept .words) fc
     (subst (λ (l : Ledger). Runs (setUp k p at .after) l (callsOf calls)) (sym (start-ledger k p at (s .0)))
     (runs-of steps (setUp k p at .after) (viewOf (firstLedger k p at)) (callsOf calls) kept (fits-calls calls fc))))
+
+pub demand-3 : Demand3
+demand-3 m p at answer calls fm fp fat fa fc = (sets-up m p at answer fa, listed m p at answer calls fa fc)

@@ -65,7 +65,7 @@ module _ (m : Memory) (v : View) (k : Kept m v) (r : ℕ) (l : r < files (m .row
       omega (arith, ap (startOf (m .rows)) a, ap (blocksAt (m .rows)) a)
 
   -- ---- the store
-  store-same : block (size m) (placeMore (m .rows) r) (memoryMore m r .store) ≡ replicate (size m) 0
+  pub store-same : block (size m) (placeMore (m .rows) r) (memoryMore m r .store) ≡ replicate (size m) 0
   store-same =
       block-put-same (size m) (storeBlocks (m .rows)) (replicate (size m) 0) (m .store) (k .good .sizes .store)
       (length-replicate (size m) 0) (placeMore (m .rows) r) more-in

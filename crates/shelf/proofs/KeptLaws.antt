@@ -8,7 +8,7 @@ use borrow.Author.Tests.{eqb-true, eq-eqb, ne-eqb, not-true}
 use Rattle.laws.specs.First.{Found, found, missing, first}
 use Rattle.bufmodel.specs.Word.{pinned, empty}
 use Rattle.bufmodel.specs.Rows.{placeOf}
-use Rattle.bufmodel.specs.Memory.{Memory, buffers, wordOf, nameOf}
+use Rattle.bufmodel.specs.Memory.{Memory, buffers, wordOf, nameOf, pageOf}
 use Rattle.bufmodel.specs.Books.{emptyAt}
 use Rattle.bufmodel.proofs.GoodLaws.{Good}
 use Rattle.bufmodel.proofs.RowsLaws.{place-same}
@@ -123,3 +123,10 @@ module _ (m : Memory) (v : View) (k : Kept m v) where
 
   pub holds-none : (i : ℕ) → i < buffers m → pinned (wordOf m i) ≡ false → v .holds i ≡ missing
   holds-none i l e = k .holds i l ∙ ap (λ (t : Bool). cond t (placeOf (m .rows) (nameOf m i)) missing) e
+
+-- ---- bytes
+module _ (m : Memory) (v : View) (k : Kept m v) where
+  -- the page of a buffer in use is the shelf's
+  pub page-held : (i g : ℕ) → i < buffers m → wordOf m i ≢ 0 → placeOf (m .rows) (nameOf m i) ≡ found g → pageOf m i ≡ v .bytes g
+  unfolding emptyAt empty
+  page-held i g l ne e = sym (k .same i g (record { below = l; full = ne-eqb (wordOf m i) 0 ne; place = e }) .bytes)

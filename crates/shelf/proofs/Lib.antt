@@ -56,6 +56,7 @@ pub mod PinVictim
 pub mod StepPin
 -- set up, calls over lent memory, and the theorem
 pub mod Start
+pub mod SetUpSays
 pub mod Lift
 pub mod Demand
 -- the calls of the theorem are the exports' calls

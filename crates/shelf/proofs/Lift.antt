@@ -1,19 +1,21 @@
 -- A list of calls over the memory, as calls of the memory as it is lent.
 use Prim.Native.Nat.{ℕ}
-use mathlib.Core.Path.{_≡_, sym, ap, subst}
+use mathlib.Core.Path.{_≡_, refl, sym, ap, _∙_, subst}
 use mathlib.Core.List.{List, [], _∷_}
+use lib.IntN.{ℤ, pos, negsuc}
 use Rattle.bufmodel.specs.Memory.{Memory}
 use Rattle.bufmodel.specs.Outcome.{Outcome}
 use Rattle.bufmodel.specs.Step.{Call, step}
 use Rattle.bufmodel.specs.Sizes.{SizedFor}
 use Rattle.bufmodel.specs.Books.{BooksSound}
-use Rattle.bufmodel.specs.Lent.{Lent, Called, topWord, wordsOf, closed, called}
+use Rattle.bufmodel.specs.Lent as lent
+use Rattle.bufmodel.specs.Lent.{Lent, Called, wordsOf, closed, called}
 use Rattle.bufmodel.proofs.GoodLaws.{Good}
 use Rattle.bufmodel.proofs.LentLaws.{opened-closed, calledOf, called-closed}
 use Rattle.bufmodel.proofs.CalledLaws.{top-fits}
 use Rattle.shelf.specs.Ledger.{Ledger, ledgerAfter}
 use Rattle.shelf.specs.Published.{Published}
-use Rattle.shelf.specs.Statement.{Agrees, Left, Made, FitsMade, own, outcomeOf, calling, ClaimFor}
+use Rattle.shelf.specs.Statement.{Agrees, topWord, Left, Made, FitsMade, own, outcomeOf, calling, ClaimFor}
 use Rattle.shelf.proofs.Kept.{Ran, Runs, FitsCalls}
 use Rattle.shelf.proofs.PublishedWords.{HeldWords}
 use Rattle.shelf.proofs.Published.{published, refused-same}
@@ -41,9 +43,15 @@ Says m k l c cs r =
     Agrees m l (c .call) o l′ × Left k r l′ × Published m (c .call) o × ClaimFor (calling step) (r .lent) l′ cs
 
 -- the words of a control record, one by one
-words-are : {a b c d a′ b′ c′ d′ : ℕ} (top : ℕ) → a ≡ a′ → b ≡ b′ → c ≡ c′ → d ≡ d′
-    → _≡_ {A = List ℕ} (a ∷ b ∷ top ∷ c ∷ d ∷ []) (a′ ∷ b′ ∷ top ∷ c′ ∷ d′ ∷ [])
-words-are top e f g h = cc
+words-are : {a b c d e a′ b′ c′ d′ e′ : ℕ} → a ≡ a′ → b ≡ b′ → c ≡ c′ → d ≡ d′ → e ≡ e′
+    → _≡_ {A = List ℕ} (a ∷ b ∷ c ∷ d ∷ e ∷ []) (a′ ∷ b′ ∷ c′ ∷ d′ ∷ e′ ∷ [])
+words-are f g h i j = cc
+
+-- −1 as 64 one bits
+top-word : (t : ℤ) → lent.topWord t ≡ topWord t
+unfolding lent.topWord
+top-word (pos i) = refl
+top-word (negsuc k) = refl
 
 -- what a call leaves of the lent memory
 left-is : (m : Memory) (l : Ledger) (c : Call) → let o = step m c in
@@ -57,10 +65,10 @@ left-is m l c r =
       same = λ h. ap closed (refused-same m c h);
       sizes = subst (SizedFor _) (sym back) (subst (λ (p : ℕ). SizedFor p (o .after)) (sym (r .size)) (r .good .sizes));
       books = subst BooksSound (sym back) (r .good .books);
-      control = (
-        topWord (o .after .control .top),
-        words-are _ (sym (r .size)) (ap (λ (x : Memory). x .control .hand) (sym back)) (r .agrees .inserted) (r .agrees .flushed),
-      );
+      control =
+          words-are (sym (r .size)) (ap (λ (x : Memory). x .control .hand) (sym back))
+          (top-word (o .after .control .top) ∙ ap (λ (x : Memory). topWord (x .control .top)) (sym back)) (r .agrees .inserted)
+          (r .agrees .flushed);
     }
 
 -- what holds of the calls over the memory holds of those that the till program makes

@@ -97,6 +97,7 @@ module _ (m : Memory) (v : View) (n : PageName) (g : ℕ) (answer : List ℕ) (m
     pub kept : Kept m′ (viewPin v answer g)
     pub others : (h : ℕ) → h < storeBlocks (m .rows) → back h ≡ false → block (size m) h (m′ .store) ≡ block (size m) h (m .store)
     pub long : length (m′ .store) ≡ length (m .store)
+    pub stored : (h : ℕ) → back h ≡ true → block (size m) h (m′ .store) ≡ v .bytes h
 
   -- this is all, whichever way the pin got its buffer
   pub pin-accepted : placeOf (m .rows) n ≡ found g → PinAccepted → Accepted m v (Pin n) answer [] m′
@@ -107,7 +108,7 @@ module _ (m : Memory) (v : View) (n : PageName) (g : ℕ) (answer : List ℕ) (m
       record {
         number = a .number;
         answers = a .words;
-        shows = (g, place, a .rule);
+        shows = (g, place, a .rule, refl);
         many = a .many;
         wide = a .wide;
         rows = ap (λ (f : Found). pinnedAt s b f .rows) place ∙ a .rows;
@@ -116,5 +117,6 @@ module _ (m : Memory) (v : View) (n : PageName) (g : ℕ) (answer : List ℕ) (m
         kept = kept-alike m′ (viewPin v answer g) (viewOf (ledgerThen m v (Pin n) answer)) (pin-view m v n g place answer) (a .kept);
         others = λ h l e. a .others h l (sym (or-false (back h)) ∙ e);
         long = a .long;
+        stored = λ h t. a .stored h (sym (or-false (back h)) ∙ t) ∙ sym (ap (λ (f : Found). pinnedAt s b f .bytes h) place);
         settled = λ q. absurd (not-checkpoint refl q);
       }

@@ -3,6 +3,7 @@ use Prim.Native.Nat.{ℕ}
 use mathlib.Core.Path.{_≡_, refl, sym, subst}
 use mathlib.Core.List.{List, [], _∷_}
 use Rattle.laws.specs.First.{found}
+use Rattle.laws.proofs.Tests.{never}
 use Rattle.buftag.specs.declared.link.Link.the-variants.{To}
 use Rattle.buftag.specs.declared.lookup.Held.the-variants.{Nowhere}
 use Rattle.buftag.specs.declared.name.PageName.{PageName}
@@ -45,6 +46,7 @@ module _ (m : Memory) (v : View) (k : Kept m v) (n : PageName) (i g : ℕ) (new 
         kept = kept-load m v k n i g top place new;
         others = λ h l e. refl;
         long = refl;
+        stored = λ h t. never t refl;
       }
 
   -- the pin as the program makes it, accepted

@@ -6,6 +6,7 @@ use mathlib.Core.List.{List, [], _∷_}
 use native.Mathlib.Omega.{arith}
 use lib.ListN.{set, length-set}
 use Rattle.laws.specs.First.{found, missing}
+use Rattle.laws.proofs.Tests.{never}
 use Rattle.buftag.specs.declared.lookup.Held.the-variants.{At}
 use Rattle.buftag.specs.declared.name.PageName.{PageName}
 use Rattle.buftag.specs.declared.number.BufferNumber.{BufferNumber}
@@ -86,4 +87,5 @@ module _ (m : Memory) (v : View) (k : Kept m v) (n : PageName) (b : BufferNumber
         kept = hit-kept;
         others = λ h l q. refl;
         long = refl;
+        stored = λ h t. never t refl;
       })

@@ -6,13 +6,16 @@ use mathlib.Core.List.{List, [], _∷_}
 use lib.Dec.{eqb}
 use Rattle.laws.specs.Sum.{ind}
 use Rattle.laws.specs.First.{found}
+use Rattle.laws.specs.Block.{block}
+use Rattle.laws.proofs.First.{found-same}
+use Rattle.laws.proofs.Tests.{and-right}
 use Rattle.buftag.specs.declared.link.Link.the-variants.{End}
 use Rattle.buftag.specs.declared.lookup.Held.the-variants.{Nowhere}
 use Rattle.buftag.specs.declared.name.PageName.{PageName}
 use Rattle.buftag.specs.Link.{linkOf}
 use Rattle.bufmodel.specs.Word.{pinned, dirty}
 use Rattle.bufmodel.specs.Rows.{storeBlocks, placeOf}
-use Rattle.bufmodel.specs.Memory.{Memory, buffers, wordOf, nameOf, withStates, withHand}
+use Rattle.bufmodel.specs.Memory.{Memory, buffers, size, wordOf, nameOf, withStates, withHand}
 use Rattle.bufmodel.specs.Sweep.{Swept, Sweeps, sweepAll}
 use Rattle.bufmodel.specs.Moves.{writeBack, release, loadAt, load}
 use Rattle.bufmodel.specs.Pin.{heldIn}
@@ -27,13 +30,13 @@ use Rattle.shelf.specs.Shelf.{refuses}
 use Rattle.shelf.specs.Ledger.{bufferIn, wroteIn}
 use Rattle.shelf.proofs.PublishedPin.{sweep-published}
 use Rattle.shelf.proofs.Kept.{View, shelfOf, ledgerOf, Has, Nobody, Kept}
-use Rattle.shelf.proofs.KeptLaws.{has-page}
+use Rattle.shelf.proofs.KeptLaws.{isPlace-true, has-page}
 use Rattle.shelf.proofs.Accepted.{Accepted}
 use Rattle.shelf.proofs.SweptKept.{sweptIn, swept-from, swept-has, has-swept, kept-swept}
 use Rattle.shelf.proofs.ReleaseKept.{has-release, kept-release}
 use Rattle.shelf.proofs.NamePage.{held-nobody, nobody-held}
 use Rattle.shelf.proofs.LoadKept.{viewLoad, kept-load}
-use Rattle.shelf.proofs.PinAccepted.{viewWrote, highest-last, PinAccepted, new-rule, pin-accepted}
+use Rattle.shelf.proofs.PinAccepted.{wasLast, viewWrote, highest-last, PinAccepted, new-rule, pin-accepted}
 use Rattle.shelf.proofs.BackKept.{back-buffers}
 use Rattle.shelf.proofs.VictimBack.{Backed, victim-backed}
 
@@ -123,6 +126,16 @@ module _ (m : Memory) (v : View) (k : Kept m v) (n : PageName) (w g : ℕ) (new 
     after-many =
         sym (load-buffers (release backed w) n w g ∙ release-buffers backed w ∙ back-buffers swept w ∙ from .same-length)
 
+    -- the page that was written back is in the store
+    last-is : (h : ℕ) → wasLast v (wroteIn answer) w h ≡ true → v .last w ≡ found h
+    last-is h t = isPlace-true (v .last w) h (and-right (wroteIn answer) _ t)
+
+    victim-stored : (h : ℕ) → page .0 ≡ h → block (size m) h (backed .store) ≡ v .bytes h
+    unfolding writeBack
+    victim-stored h e =
+        subst (λ (j : ℕ). block (size m) j (backed .store) ≡ v .bytes j) e
+        (let same = back .kept .same w (page .0) (back .has) in same .clean (back .clean) ∙ sym (same .bytes))
+
     victim-new : refuses (shelfOf m v) (Pin n) ≡ 0 → PinAccepted m v n g answer after
     unfolding loadAt release writeBack bufferIn
     victim-new number =
@@ -141,6 +154,7 @@ module _ (m : Memory) (v : View) (k : Kept m v) (n : PageName) (w g : ℕ) (new 
           kept = after-kept;
           others = λ x l e. back .others x e;
           long = back .long;
+          stored = λ h t. victim-stored h (found-same (sym (k .same w (page .0) (page .1) .last) ∙ last-is h t));
         }
 
   -- the pin as the program makes it, accepted

@@ -5,6 +5,7 @@ use mathlib.Core.Logic.{_≢_}
 use mathlib.Core.Bool.{Bool, true, false}
 use mathlib.Core.List.{List, [], _∷_}
 use native.Mathlib.Omega.{arith}
+use Rattle.laws.proofs.Tests.{never}
 use Rattle.bufmodel.specs.Memory.{Memory}
 use Rattle.bufmodel.specs.Outcome.{Outcome, Place, place, refusalOf, checked, refused, outcome}
 use Rattle.bufmodel.specs.Step.{Call, step}
@@ -12,6 +13,7 @@ use Rattle.bufmodel.proofs.GoodLaws.{checked-good}
 use Rattle.shelf.specs.Shelf.{refuses}
 use Rattle.shelf.specs.Ledger.{ledgerAfter, puts}
 use Rattle.shelf.specs.Statement.{own}
+use Rattle.shelf.proofs.KeptLaws.{page-held}
 use Rattle.shelf.proofs.ShelfPlaces.{six-of}
 use Rattle.shelf.proofs.Kept.{View, shelfOf, Kept, Ended}
 
@@ -50,6 +52,8 @@ module _ (m : Memory) (v : View) (c : Call) (kept : Kept m v) where
               ordered = λ g h. kept .put g h .1;
               others = λ g h z. refl;
               long = refl;
+              stored = λ g l e. never e refl;
+              held = page-held m v kept;
               settled = λ q z. absurd (omega arith);
             };
         kept = kept;

@@ -98,6 +98,7 @@ module _ (m : Memory) (v : View) (k : Kept m v) (r : BackUpTo m v (buffers m)) w
             }) (r .kept);
         others = λ g b z. r .others g (sym (or-false (v .dirty g)) ∙ z);
         long = r .kept .good .sizes .store ∙ sym (k .good .sizes .store);
+        stored = λ g t. dirty-stored g (sym (or-false (v .dirty g)) ∙ t);
         settled = λ q f b l h. let p = place-row (m .rows) (k .good .sizes .rows) f b l h in all-stored (p .0) _ (p .1);
       }
 

@@ -82,6 +82,7 @@ module _ (m : Memory) (v : View) (k : Kept m v) (f : FileName) where
               (dropped-kept m v k f r e d x (none-pinned m f none));
           others = λ g b q. refl;
           long = refl;
+          stored = λ g t. never t refl;
           settled = λ q. absurd (not-checkpoint refl q);
         }
 

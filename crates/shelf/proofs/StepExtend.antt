@@ -5,12 +5,13 @@ use mathlib.Core.Bool.{Bool, _||_}
 use mathlib.Core.List.{List, [], _∷_}
 use native.Mathlib.Omega.{arith}
 use lib.Dec.{eqb}
-use borrow.Author.Tests.{eqb-false}
+use borrow.Author.Tests.{eqb-true, eqb-false}
 use Rattle.laws.specs.First.{Found, found, missing}
+use Rattle.laws.specs.Block.{block}
 use Rattle.laws.proofs.Tests.{never}
 use Rattle.buftag.specs.declared.name.FileName.{FileName}
-use Rattle.bufmodel.specs.Rows.{blocksAt, capacityAt, rowOf, storeBlocks}
-use Rattle.bufmodel.specs.Memory.{Memory}
+use Rattle.bufmodel.specs.Rows.{files, blocksAt, capacityAt, rowOf, storeBlocks}
+use Rattle.bufmodel.specs.Memory.{Memory, size}
 use Rattle.bufmodel.specs.Outcome.{Place, place, refusalOf, one}
 use Rattle.bufmodel.specs.Pin.{noRow}
 use Rattle.bufmodel.specs.Calls.{fileFull, extendAt, extend}
@@ -25,8 +26,9 @@ use Rattle.shelf.proofs.KeptLaws.{Alike, kept-alike}
 use Rattle.shelf.proofs.ShelfPlaces.{refuses-is}
 use Rattle.shelf.proofs.Refused.{neither-none, neither-place, call-step}
 use Rattle.shelf.proofs.Accepted.{ledgerThen, shelfThen, Accepted, accepted-ended}
+use Rattle.shelf.proofs.WithLaws.{with-same}
 use Rattle.shelf.proofs.HighestLaws.{highest-still}
-use Rattle.shelf.proofs.ExtendKept.{placeMore, memoryMore, viewMore, store-other, store-long, kept-more}
+use Rattle.shelf.proofs.ExtendKept.{placeMore, memoryMore, viewMore, store-same, store-other, store-long, kept-more}
 
 -- the places of extend, for a row that was found or not
 abbrev placesAt : List ℕ → Found → List Place
@@ -65,6 +67,15 @@ module _ (m : Memory) (v : View) (k : Kept m v) (f : FileName) (r : ℕ) (e : ro
         put = λ g. ap (λ (t : Bool). t || v .put g) (put-then g);
       }
 
+  -- the new block is zeros on both sides
+  new-stored : (l : r < files (m .rows)) (room : blocksAt (m .rows) r < capacityAt (m .rows) r) (g : ℕ) → g ≡ placeMore (m .rows) r
+      → block (size m) g (memoryMore m r .store) ≡ shelfThen m v (Extend f) (one (blocksAt (m .rows) r)) .bytes g
+  unfolding extendedAt nextBlock
+  new-stored l room g q =
+      rw q
+      (store-same m v k r l room
+      ∙ sym (ap (λ (s : Shelf). s .bytes (placeMore (m .rows) r)) shelf-then ∙ with-same (placeMore (m .rows) r) _ (v .bytes)))
+
   -- ---- accepted
   extend-accepted : refuses (shelfOf m v) (Extend f) ≡ 0 → (blocksAt (m .rows) r ≡ capacityAt (m .rows) r → ⊥)
       → Accepted m v (Extend f) (one (blocksAt (m .rows) r)) [] (memoryMore m r)
@@ -75,7 +86,7 @@ module _ (m : Memory) (v : View) (k : Kept m v) (f : FileName) (r : ℕ) (e : ro
       record {
         number = z;
         answers = (_, refl);
-        shows = (r, e, refl);
+        shows = (r, e, refl, refl);
         many = refl;
         wide = refl;
         rows = ap (λ (s : Shelf). s .rows) shelf-then;
@@ -84,6 +95,7 @@ module _ (m : Memory) (v : View) (k : Kept m v) (f : FileName) (r : ℕ) (e : ro
         kept = kept-alike (memoryMore m r) (viewMore m v r) _ alike-then (kept-more m v k r l room);
         others = λ g b h. store-other m v k r l room g (eqb-false _ _ (sym (put-then g) ∙ h));
         long = store-long m v k r l room;
+        stored = λ g t. new-stored l room g (eqb-true _ _ (sym (put-then g) ∙ t));
         settled = λ q. absurd (not-checkpoint refl q);
       }
 

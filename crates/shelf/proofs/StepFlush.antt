@@ -7,12 +7,13 @@ use mathlib.Core.List.{List, []}
 use lib.ListN.{length-set}
 use Rattle.laws.specs.Sum.{ind}
 use Rattle.laws.specs.First.{found}
+use Rattle.laws.specs.Block.{block}
 use Rattle.laws.proofs.First.{found-same}
 use Rattle.laws.proofs.Tests.{true-or-false, eq-or-ne, never}
 use Rattle.bufmodel.specs.Word.{dirty}
 use Rattle.bufmodel.specs.Position.{position}
 use Rattle.bufmodel.specs.Rows.{storeBlocks}
-use Rattle.bufmodel.specs.Memory.{Memory, wordOf}
+use Rattle.bufmodel.specs.Memory.{Memory, size, wordOf}
 use Rattle.bufmodel.specs.Moves.{writeBack}
 use Rattle.bufmodel.specs.Outcome.{one, done}
 use Rattle.bufmodel.specs.Calls.{bufferPlaces, flush}
@@ -27,7 +28,7 @@ use Rattle.shelf.proofs.ShelfPlaces.{refuses-is}
 use Rattle.shelf.proofs.Refused.{neither-none, call-step}
 use Rattle.shelf.proofs.Accepted.{Accepted, accepted-ended}
 use Rattle.shelf.proofs.HighestLaws.{highest-none, highest-one}
-use Rattle.shelf.proofs.BackKept.{backOf, back-dirty, back-clean, place-below, back-long, back-other, viewBack, kept-backOf}
+use Rattle.shelf.proofs.BackKept.{backOf, back-has, back-own, back-dirty, back-clean, place-below, back-long, back-other, viewBack, kept-backOf}
 use Rattle.shelf.proofs.BufferPlaces.{number-same, number-neither, number-page}
 
 module _ (m : Memory) (v : View) (k : Kept m v) (i g : ℕ) (x : Has m i g) (held : v .holds i ≡ found g) where
@@ -73,6 +74,7 @@ module _ (m : Memory) (v : View) (k : Kept m v) (i g : ℕ) (x : Has m i g) (hel
                 }) k;
             others = λ h b z. refl;
             long = refl;
+            stored = λ h t. never t (or-false (back h) ∙ back-none h);
             settled = λ q. absurd (not-checkpoint refl q);
           }
 
@@ -86,6 +88,13 @@ module _ (m : Memory) (v : View) (k : Kept m v) (i g : ℕ) (x : Has m i g) (hel
           highest-one (ledgerOf m v) back (m .control .flushed) (storeBlocks (m .rows)) g (place-below m v k i g x)
           (back-one g ∙ isPlace-self g) (λ h b e. sym (found-same (isPlace-true (found g) h (sym (back-one h) ∙ e))))
           ∙ ap (λ (page : List ℕ). max (m .control .flushed) (position page)) (k .same i g x .bytes)
+
+      -- its block has the page's bytes
+      one-stored : (h : ℕ) → g ≡ h → block (size m) h (backOf m i g .store) ≡ v .bytes h
+      one-stored h e =
+          subst (λ (j : ℕ). block (size m) j (backOf m i g .store) ≡ v .bytes j) e
+          (let same = kept-backOf m v k i g x d .same i g (back-has m v k i g x i g x) in
+          same .clean (back-own m v k i g x) ∙ sym (same .bytes))
 
       dirty-accepted : Accepted m v (Flush i) (one count) [] (backOf m i g)
       unfolding acceptedBy shelfAfter dirtyAfter dirtiedBy backBy newBy putBy lastAfter flushedAfter saidFlushed
@@ -112,6 +121,7 @@ module _ (m : Memory) (v : View) (k : Kept m v) (i g : ℕ) (x : Has m i g) (hel
             others = λ h b z. back-other m v k i g x h
                 (λ e. never (ap (isPlace (found g)) e ∙ isPlace-self g) (sym (back-one h) ∙ sym (or-false (back h)) ∙ z));
             long = back-long m v k i g x;
+            stored = λ h t. one-stored h (found-same (isPlace-true (found g) h (sym (back-one h) ∙ sym (or-false (back h)) ∙ t)));
             settled = λ q. absurd (not-checkpoint refl q);
           }
 

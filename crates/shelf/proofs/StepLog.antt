@@ -5,6 +5,7 @@ use mathlib.Core.List.{[], _∷_}
 use native.Mathlib.Omega.{arith}
 use lib.Dec.{ltb}
 use borrow.Author.Tests.{ltb-false}
+use Rattle.laws.proofs.Tests.{never}
 use Rattle.bufmodel.specs.Rows.{storeBlocks}
 use Rattle.bufmodel.specs.Memory.{Memory, withInserted, withFlushed}
 use Rattle.bufmodel.specs.Books.{emptyAt}
@@ -64,6 +65,7 @@ module _ (m : Memory) (v : View) (k : Kept m v) (p : ℕ) where
             (omega (arith, k .good .books .log));
         others = λ g b z. refl;
         long = refl;
+        stored = λ g t. never t refl;
         settled = λ q. absurd (not-checkpoint refl q);
       }
 
@@ -95,6 +97,7 @@ module _ (m : Memory) (v : View) (k : Kept m v) (p : ℕ) where
         kept = kept-log p (m .control .flushed) h (omega arith) (omega (arith, k .good .books .log));
         others = λ g b z. refl;
         long = refl;
+        stored = λ g t. never t refl;
         settled = λ q. absurd (not-checkpoint refl q);
       }
 

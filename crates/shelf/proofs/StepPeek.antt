@@ -1,6 +1,7 @@
 -- Peek agrees with the shelf.
 use Prim.Native.Nat.{ℕ}
 use mathlib.Core.Path.{_≡_, refl, sym, _∙_}
+use mathlib.Core.Bool.{false}
 use mathlib.Core.List.{List, []}
 use Rattle.laws.specs.First.{found}
 use Rattle.laws.specs.Block.{block}
@@ -35,6 +36,10 @@ module _ (m : Memory) (v : View) (k : Kept m v) (n : PageName) where
   unfolding acceptedBy shelfAfter dirtyAfter dirtiedBy backBy newBy putBy lastAfter flushedAfter saidFlushed
   peek-ledger answer = ledger-stays m v
 
+  peek-none : (answer : List ℕ) (g : ℕ) → putBy (ledgerOf m v) (Peek n) answer g ≡ false
+  unfolding putBy backBy newBy
+  peek-none answer g = refl
+
   -- the part handed back is the page, by where the look-up found it
   peek-part : (g : ℕ) → placeOf (m .rows) n ≡ found g → (h : Held) → heldIn m n ≡ h
       → part (done (partOf m n h) [] m) ≡ v .bytes g
@@ -51,7 +56,8 @@ module _ (m : Memory) (v : View) (k : Kept m v) (n : PageName) where
   peek-accepted : refuses (shelfOf m v) (Peek n) ≡ 0 → (g : ℕ) → placeOf (m .rows) n ≡ found g
       → Accepted m v (Peek n) (partOf m n (heldIn m n)) [] m
   peek-accepted e g q =
-      unchanged m v k (Peek n) _ [] (peek-ledger _) (not-checkpoint refl) e (two-words (heldIn m n)) (g, q, peek-part g q (heldIn m n) refl)
+      unchanged m v k (Peek n) _ [] (peek-ledger _) (not-checkpoint refl) e (two-words (heldIn m n)) (g, q, peek-part g q (heldIn m n) refl, refl)
+      (peek-none _)
 
   pub peek-step : Ended m v (Peek n) (step m (Peek n))
   unfolding step peek places

@@ -1,6 +1,7 @@
 -- Read agrees with the shelf.
 use Prim.Native.Nat.{ℕ, _+_}
 use mathlib.Core.Path.{_≡_, refl, sym, ap, _∙_}
+use mathlib.Core.Bool.{false}
 use mathlib.Core.List.{List, [], _∷_}
 use native.Mathlib.Omega.{arith}
 use lib.Dec.{ltb}
@@ -25,6 +26,10 @@ module _ (m : Memory) (v : View) (k : Kept m v) (i from : ℕ) (out : List ℕ) 
   unfolding acceptedBy shelfAfter dirtyAfter dirtiedBy backBy newBy putBy lastAfter flushedAfter saidFlushed
   read-ledger answer = ledger-stays m v
 
+  read-none : (g : ℕ) → putBy (ledgerOf m v) (Read i from out) zeros g ≡ false
+  unfolding putBy backBy newBy
+  read-none g = refl
+
   abbrev ps : List Place
   ps = place 9 (ltb (size m) (from + length out)) ∷ []
 
@@ -38,7 +43,7 @@ module _ (m : Memory) (v : View) (k : Kept m v) (i from : ℕ) (out : List ℕ) 
   read-accepted e =
       let p = number-page m v k i ps e in
       unchanged m v k (Read i from out) zeros _ (read-ledger zeros) (not-checkpoint refl) (sym read-number ∙ e)
-      refl (p .page, p .holds, ap (λ (x : List ℕ). take (length out) (drop from x)) (sym (p .same .bytes)))
+      refl (p .page, p .holds, ap (λ (x : List ℕ). take (length out) (drop from x)) (sym (p .same .bytes))) read-none
 
   pub read-step : Ended m v (Read i from out) (step m (Read i from out))
   unfolding step read

@@ -9,7 +9,7 @@ use lib.Dec.{eqb}
 use lib.ListN.{set, length-set}
 use borrow.Author.Tests.{eq-eqb, ne-eqb}
 use Rattle.laws.specs.First.{Found, found, missing}
-use Rattle.laws.proofs.Tests.{eq-or-ne}
+use Rattle.laws.proofs.Tests.{never, eq-or-ne}
 use Rattle.bufmodel.specs.Word.{pins, pinned, pinLess}
 use Rattle.bufmodel.specs.Rows.{storeBlocks}
 use Rattle.bufmodel.specs.Memory.{Memory, wordOf, withStates}
@@ -76,6 +76,7 @@ module _ (m : Memory) (v : View) (k : Kept m v) (i : ℕ) where
         kept = unpin-kept p;
         others = λ g b z. refl;
         long = refl;
+        stored = λ g t. never t refl;
         settled = λ q. absurd (not-checkpoint refl q);
       }
 

@@ -8,7 +8,7 @@ use lib.Dec.{eqb, ltb}
 use lib.ListN.{length, length-set}
 use borrow.Author.Tests.{ltb-false}
 use Rattle.laws.specs.First.{Found}
-use Rattle.laws.proofs.Tests.{or-neither}
+use Rattle.laws.proofs.Tests.{never, or-neither}
 use Rattle.bufmodel.specs.Word.{makeDirty}
 use Rattle.bufmodel.specs.Position.{position}
 use Rattle.bufmodel.specs.Rows.{storeBlocks}
@@ -97,6 +97,7 @@ module _ (m : Memory) (v : View) (k : Kept m v) (i from : ℕ) (bytes : List ℕ
         kept = write-kept m v from bytes at k short (p .1) i (p .0);
         others = λ g b z. refl;
         long = refl;
+        stored = λ g t. never t refl;
         settled = λ q. absurd (not-checkpoint refl q);
       }
 

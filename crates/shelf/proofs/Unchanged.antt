@@ -3,12 +3,13 @@ use Prim.Native.Nat.{ℕ}
 use mathlib.Core.Path.{_≡_, refl, sym, ap, subst}
 use mathlib.Core.Bool.{false}
 use mathlib.Core.List.{List}
+use Rattle.laws.proofs.Tests.{never}
 use Rattle.bufmodel.specs.Rows.{storeBlocks}
 use Rattle.bufmodel.specs.Memory.{Memory}
 use Rattle.bufmodel.specs.Outcome.{done}
 use Rattle.bufmodel.specs.Step.{Call, Checkpoint}
 use Rattle.shelf.specs.Shelf.{refuses}
-use Rattle.shelf.specs.Ledger.{Ledger, highest}
+use Rattle.shelf.specs.Ledger.{Ledger, highest, putBy}
 use Rattle.shelf.specs.Statement.{Answers, Shows}
 use Rattle.shelf.proofs.Kept.{View, shelfOf, ledgerOf, viewOf, Kept}
 use Rattle.shelf.proofs.Accepted.{Accepted, ledgerThen}
@@ -32,8 +33,9 @@ ledger-stays m v =
 -- nothing is left to show but the number and what the call shows
 pub unchanged : (m : Memory) (v : View) → Kept m v → (c : Call) (answer bytes : List ℕ) → ledgerThen m v c answer ≡ ledgerOf m v
     → (c ≡ Checkpoint → ⊥) → refuses (shelfOf m v) c ≡ 0 → Answers (done answer bytes m) c → Shows (shelfOf m v) (done answer bytes m) c
+    → ((g : ℕ) → putBy (ledgerOf m v) c answer g ≡ false)
     → Accepted m v c answer bytes m
-unchanged m v k c answer bytes e other number answers shows =
+unchanged m v k c answer bytes e other number answers shows none =
     record {
       number = number;
       answers = answers;
@@ -46,5 +48,6 @@ unchanged m v k c answer bytes e other number answers shows =
       kept = subst (λ (l : Ledger). Kept m (viewOf l)) (sym e) k;
       others = λ g h z. refl;
       long = refl;
+      stored = λ g t. never t (none g);
       settled = λ q. absurd (other q);
     }
