@@ -47,13 +47,13 @@ module _ (m : Memory) (i : ℕ) where
       call-done m (bufferPlaces m i []) [] (done zeros [] _) refl (Accepts m (Unpin i))
       (λ e.
       let p = number-passed m i [] e in
-      stays-set m _ refl refl (p .0) (less-pins (wordOf m i) (pinned-pins (wordOf m i) (p .1))) refl (λ j l e. refl))
+      stays-set m _ refl refl (p .0) (less-pins (wordOf m i) (pinned-pins (wordOf m i) (p .1))) refl (λ j l z. refl))
 
   pub read-says : (from : ℕ) (out : List ℕ) → Says m (Read i from out)
   unfolding step read
   read-says from out =
       call-done m (bufferPlaces m i _) out (done zeros _ m) refl (Accepts m (Read i from out))
-      (λ e. stays-whole m _ refl refl refl (λ j l e. refl))
+      (λ e. stays-whole m _ refl refl refl (λ j l z. refl))
 
   pub flush-says : HeldWords m → Says m (Flush i)
   unfolding step flush writeBack
@@ -61,7 +61,7 @@ module _ (m : Memory) (i : ℕ) where
       call-done m (bufferPlaces m i []) [] (done _ [] (writeBack m i)) refl (Accepts m (Flush i))
       (λ e.
       let p = number-passed m i [] e in (
-        stays-set m _ refl refl (p .0) (cleaned-is (wordOf m i) (dirty-held m held i (p .0))) refl (λ j l q. refl),
+        stays-set m _ refl refl (p .0) (cleaned-is (wordOf m i) (dirty-held m held i (p .0))) refl (λ j l z. refl),
         ap one (ind-cond (dirty (wordOf m i))),
       ))
 
@@ -115,7 +115,7 @@ module _ (m : Memory) where
   unfolding step peek
   peek-says n =
       call-done m _ [] (done (partOf m n (heldIn m n)) [] m) refl (Accepts m (Peek n))
-      (λ e. (stays-whole m _ refl refl refl (λ j l e. refl), peek-part n))
+      (λ e. (stays-whole m _ refl refl refl (λ j l z. refl), peek-part n))
 
   extend-done : (r : Found) → extendAt m r .refusal ≡ 0
   unfolding extendAt
@@ -124,8 +124,8 @@ module _ (m : Memory) where
 
   extend-stays : (r : Found) → Words m (extendAt m r) (wordOf m)
   unfolding extendAt
-  extend-stays (found r) = stays-whole m _ refl refl refl (λ j l e. refl)
-  extend-stays missing = stays-whole m _ refl refl refl (λ j l e. refl)
+  extend-stays (found r) = stays-whole m _ refl refl refl (λ j l z. refl)
+  extend-stays missing = stays-whole m _ refl refl refl (λ j l z. refl)
 
   pub extend-says : (f : FileName) → Says m (Extend f)
   unfolding step extend
@@ -135,8 +135,10 @@ module _ (m : Memory) where
 
   pub inserted-says : (p : ℕ) → Says m (LogInserted p)
   unfolding step logInserted
-  inserted-says p = call-done m _ [] (done zeros [] _) refl (Accepts m (LogInserted p)) (λ e. stays-whole m _ refl refl refl (λ j l e. refl))
+  inserted-says p =
+      call-done m _ [] (done zeros [] _) refl (Accepts m (LogInserted p)) (λ e. stays-whole m _ refl refl refl (λ j l z. refl))
 
   pub flushed-says : (p : ℕ) → Says m (LogFlushed p)
   unfolding step logFlushed
-  flushed-says p = call-done m _ [] (done zeros [] _) refl (Accepts m (LogFlushed p)) (λ e. stays-whole m _ refl refl refl (λ j l e. refl))
+  flushed-says p =
+      call-done m _ [] (done zeros [] _) refl (Accepts m (LogFlushed p)) (λ e. stays-whole m _ refl refl refl (λ j l z. refl))

@@ -25,8 +25,8 @@ Idle m d = (i : ℕ) → i < buffers m → wordOf d i ≡ 0 → pageOf d i ≡ p
 -- ---- other words and nothing else of the books
 module _ (m : Memory) (o : Outcome) (wide : length (o .after .heads) ≡ length (m .heads))
     (marks : marksOf (o .after) ≡ withWords (wordOf (o .after)) (m .control .hand) (marksOf m)) where
-  pub words-left : {word : ℕ → ℕ} → buffers (o .after) ≡ buffers m → ((i : ℕ) → i < buffers m → wordOf (o .after) i ≡ word i) → Idle m (o .after)
-      → Words m o word
+  pub words-left : {word : ℕ → ℕ} → buffers (o .after) ≡ buffers m → ((i : ℕ) → i < buffers m → wordOf (o .after) i ≡ word i)
+      → Idle m (o .after) → Words m o word
   words-left {word} many words idle =
       record {
         many = many;
