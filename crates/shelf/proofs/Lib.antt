@@ -4,6 +4,7 @@ pub mod WithLaws
 pub mod CallKinds
 pub mod MemoryPlaces
 pub mod PublishedWords
+pub mod PublishedMarks
 pub mod PublishedLeaves
 pub mod PublishedCalls
 pub mod PublishedBack

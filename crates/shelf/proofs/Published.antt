@@ -38,33 +38,6 @@ use Rattle.shelf.proofs.PublishedBack.{checkpoint-says}
 use Rattle.shelf.proofs.PublishedDrop.{drop-says}
 use Rattle.shelf.proofs.PublishedPin.{pin-sought}
 
--- ---- what a call does is as published
-pin-same : {a b : PageName} → Pin a ≡ Pin b → a ≡ b
-pin-same e = cc
-
--- a call that is no pin has no probes
-other-published : {m : Memory} {c : Call} → isPin c ≡ false → Says m c → Published m c (step m c)
-other-published h says = (λ n e. absurd (not-pin h n e), says)
-
--- write, flush and checkpoint set a word's flags, and so ask what flags it had
-pub published : (m : Memory) (c : Call) → Good m → HeldWords m → Published m c (step m c)
-published m (Pin n) k held =
-    (λ n′ e. subst (λ (x : PageName). Sought m x (step m (Pin n))) (pin-same e) (pin-sought m k n), λ z. tt)
-published m (Unpin i) k held = other-published refl (unpin-says m i)
-published m (Read i from out) k held = other-published refl (read-says m i from out)
-published m (Write i from bytes at) k held = other-published refl (write-says m i held from bytes at)
-published m (Flush i) k held = other-published refl (flush-says m i held)
-published m Checkpoint k held = other-published refl (checkpoint-says m held)
-published m (Peek n) k held = other-published refl (peek-says m n)
-published m (Extend f) k held = other-published refl (extend-says m f)
-published m (Drop f) k held = other-published refl (drop-says m f (k .sizes .free))
-published m (LogInserted p) k held = other-published refl (inserted-says m p)
-published m (LogFlushed p) k held = other-published refl (flushed-says m p)
-
--- DEMAND 2
-pub demand-2 : Demand2
-demand-2 m c narrow sizes books = published m c (record { sizes = sizes; books = books }) (held-words m books narrow)
-
 -- ---- a refused call leaves the memory as it was, whatever memory that is
 refused-call : (k : ℕ) (bytes : List ℕ) (m : Memory) (o : Outcome) → (o .refusal ≢ 0 → o .after ≡ m)
     → outcome k bytes m o .refusal ≢ 0 → outcome k bytes m o .after ≡ m
@@ -114,3 +87,34 @@ refused-same m (Extend f) = refused-call _ _ m _ (extend-same m (rowOf (m .rows)
 refused-same m (Drop f) = refused-call _ _ m _ (drop-same m f (rowOf (m .rows) f))
 refused-same m (LogInserted p) = refused-call _ _ m _ (λ h. absurd (h refl))
 refused-same m (LogFlushed p) = refused-call _ _ m _ (λ h. absurd (h refl))
+
+-- ---- what a call does is as published
+pin-same : {a b : PageName} → Pin a ≡ Pin b → a ≡ b
+pin-same e = cc
+
+-- a call that is no pin has no probes
+other-published : {m : Memory} {c : Call} → isPin c ≡ false → Says m c → Published m c (step m c)
+other-published {m} {c} h says = record { sought = λ n e. absurd (not-pin h n e); accepts = says; same = refused-same m c }
+
+-- write, flush and checkpoint set a word's flags, and so ask what flags it had
+pub published : (m : Memory) (c : Call) → Good m → HeldWords m → Published m c (step m c)
+published m (Pin n) k held =
+    record {
+      sought = λ n′ e. subst (λ (x : PageName). Sought m x (step m (Pin n))) (pin-same e) (pin-sought m k n);
+      accepts = λ z. tt;
+      same = refused-same m (Pin n);
+    }
+published m (Unpin i) k held = other-published refl (unpin-says m i)
+published m (Read i from out) k held = other-published refl (read-says m i from out)
+published m (Write i from bytes at) k held = other-published refl (write-says m k held i from bytes at)
+published m (Flush i) k held = other-published refl (flush-says m i held)
+published m Checkpoint k held = other-published refl (checkpoint-says m held)
+published m (Peek n) k held = other-published refl (peek-says m n)
+published m (Extend f) k held = other-published refl (extend-says m f)
+published m (Drop f) k held = other-published refl (drop-says m f k)
+published m (LogInserted p) k held = other-published refl (inserted-says m p)
+published m (LogFlushed p) k held = other-published refl (flushed-says m p)
+
+-- DEMAND 2
+pub demand-2 : Demand2
+demand-2 m c narrow sizes books = published m c (record { sizes = sizes; books = books }) (held-words m books narrow)

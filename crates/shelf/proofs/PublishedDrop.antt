@@ -1,32 +1,31 @@
 -- What drop leaves: the file's buffers are emptied and put on top of the free list one after another, rising.
 use Prim.Native.Nat.{ℕ, zero, suc, _≤_, _<_}
 use mathlib.Core.Path.{_≡_, refl, ap₂, _∙_}
-use mathlib.Core.Bool.{true, false, not, _&&_, cond}
+use mathlib.Core.Bool.{true, false, not, _&&_}
 use mathlib.Core.Logic.{⊎-elim}
 use mathlib.Core.List.{[], _∷_}
 use native.Mathlib.Omega.{arith}
 use lib.Dec.{eqb}
-use lib.IntN.{pos}
-use lib.ListN.{length, length-set}
-use lib.Seq.{getD-set-same, getD-set-other}
+use lib.ListN.{length}
 use Rattle.laws.specs.First.{Found, found, missing}
-use Rattle.laws.proofs.Tests.{eq-or-ne, never, true-or-false}
+use Rattle.laws.proofs.Tests.{never, true-or-false}
 use Rattle.buftag.specs.declared.name.FileName.{FileName}
 use Rattle.buftag.specs.declared.name.PageName.{PageName}
 use Rattle.buftag.specs.Name.{sameFile}
-use Rattle.buftag.specs.Link.{numberAt}
 use Rattle.bufmodel.specs.Word.{empty}
 use Rattle.bufmodel.specs.Rows.{rowOf}
-use Rattle.bufmodel.specs.Memory.{Memory, buffers, wordOf, nameOf}
+use Rattle.bufmodel.specs.Memory.{Memory, buffers, wordOf, nameOf, pageOf}
 use Rattle.bufmodel.specs.Books.{emptyAt}
 use Rattle.bufmodel.specs.Moves.{release, ofFile, releaseIf, releaseUpTo}
 use Rattle.bufmodel.specs.Outcome.{place}
 use Rattle.bufmodel.specs.Pin.{noRow}
 use Rattle.bufmodel.specs.Calls.{filePinned, dropAt, dropFile}
 use Rattle.bufmodel.specs.Step.{Drop, step}
+use Rattle.bufmodel.proofs.GoodLaws.{Good}
 use Rattle.bufmodel.proofs.OutcomeLaws.{refusal-passed}
-use Rattle.bufmodel.proofs.ReleaseLaws.{release-buffers, release-word, release-name, release-own}
-use Rattle.shelf.specs.Published.{freeLink, filed, topAfter, Accepts}
+use Rattle.bufmodel.proofs.ReleaseLaws.{release-word, release-name}
+use Rattle.shelf.specs.Published.{marksOf, Alike, filed, droppedTo, Accepts}
+use Rattle.shelf.proofs.PublishedMarks.{alike-same, alike-then, emptied-alike, Shape, good-shape, release-shape, release-marks}
 use Rattle.shelf.proofs.PublishedLeaves.{call-done}
 use Rattle.shelf.proofs.PublishedCalls.{Says}
 
@@ -38,55 +37,41 @@ filed-is m d f i w n = ap₂ (λ (x : ℕ) (y : PageName). not (eqb x 0) && same
 module _ (m : Memory) (f : FileName) where
   -- memory d is m after the file's buffers below k were released
   record DroppedTo (k : ℕ) (d : Memory) : Type 0 where
-    many : buffers d ≡ buffers m
-    long : length (d .free) ≡ buffers m
-    hand : d .control .hand ≡ m .control .hand
-    top : d .control .top ≡ topAfter m f k
-    -- the buffers below k
-    word : (i : ℕ) → i < k → wordOf d i ≡ cond (filed m f i) 0 (wordOf m i)
-    link : (i : ℕ) → i < k → numberAt (d .free) i ≡ cond (filed m f i) (topAfter m f i) (freeLink m i)
-    -- and the others
+    shape : Shape (buffers m) (length (m .heads)) d
+    alike : Alike (buffers m) (length (m .heads)) (marksOf d) (droppedTo m f k)
+    page : (i : ℕ) → pageOf d i ≡ pageOf m i
+    -- the other buffers
     words : (i : ℕ) → k ≤ i → wordOf d i ≡ wordOf m i
     names : (i : ℕ) → k ≤ i → nameOf d i ≡ nameOf m i
-    links : (i : ℕ) → k ≤ i → numberAt (d .free) i ≡ freeLink m i
 
   module _ (k : ℕ) (d : Memory) (x : DroppedTo k d) where
     -- a buffer of another file
     dropped-past : filed m f k ≡ false → DroppedTo (suc k) d
-    unfolding topAfter
+    unfolding droppedTo
     dropped-past e =
         record {
-          many = x .many;
-          long = x .long;
-          hand = x .hand;
-          top = rw e (x .top);
-          word = λ i l. ⊎-elim (λ q. rw q (rw e (x .words k (omega arith)))) (λ ne. x .word i (omega arith)) (eq-or-ne i k);
-          link = λ i l. ⊎-elim (λ q. rw q (rw e (x .links k (omega arith)))) (λ ne. x .link i (omega arith)) (eq-or-ne i k);
+          shape = x .shape;
+          alike = rw e (x .alike);
+          page = x .page;
           words = λ i l. x .words i (omega arith);
           names = λ i l. x .names i (omega arith);
-          links = λ i l. x .links i (omega arith);
         }
 
     -- one of the file
+    dropped-alike : k < buffers m → filed m f k ≡ true
+        → Alike (buffers m) (length (m .heads)) (marksOf (release d k)) (droppedTo m f (suc k))
+    unfolding droppedTo
+    dropped-alike b e = rw e (alike-then (release-marks d (x .shape) k b) (emptied-alike k b (x .alike)))
+
     dropped-here : k < buffers m → filed m f k ≡ true → DroppedTo (suc k) (release d k)
-    unfolding topAfter release
+    unfolding release
     dropped-here b e =
         record {
-          many = release-buffers d k ∙ x .many;
-          long = length-set (d .free) k _ ∙ x .long;
-          hand = x .hand;
-          top = rw e refl;
-          word = λ i l.
-              ⊎-elim (λ q. rw q (rw e (release-own d k (omega (arith, x .many)))))
-              (λ ne. release-word d k i ne ∙ x .word i (omega arith))
-              (eq-or-ne i k);
-          link = λ i l.
-              ⊎-elim (λ q. rw q (rw e (getD-set-same (d .free) k _ (pos 0) (omega (arith, x .long)) ∙ x .top)))
-              (λ ne. getD-set-other (d .free) k i _ (pos 0) ne ∙ x .link i (omega arith))
-              (eq-or-ne i k);
+          shape = release-shape d (x .shape) k b;
+          alike = dropped-alike b e;
+          page = x .page;
           words = λ i l. release-word d k i (λ q. omega arith) ∙ x .words i (omega arith);
           names = λ i l. release-name d k i (λ q. omega arith) ∙ x .names i (omega arith);
-          links = λ i l. getD-set-other (d .free) k i _ (pos 0) (λ q. omega arith) ∙ x .links i (omega arith);
         }
 
     dropped-more : k < buffers m → DroppedTo (suc k) (releaseIf (ofFile d f k) d k)
@@ -98,20 +83,16 @@ module _ (m : Memory) (f : FileName) where
         (λ e. let q : ofFile d f k ≡ false = same ∙ e in rw q (dropped-past e))
         (true-or-false (filed m f k))
 
-  module _ (long : length (m .free) ≡ buffers m) where
+  module _ (good : Good m) where
     dropped-to : (k : ℕ) → k ≤ buffers m → DroppedTo k (releaseUpTo f k m)
-    unfolding releaseUpTo topAfter
+    unfolding releaseUpTo droppedTo
     dropped-to zero l =
         record {
-          many = refl;
-          long = long;
-          hand = refl;
-          top = refl;
-          word = λ i h. absurd (omega arith);
-          link = λ i h. absurd (omega arith);
+          shape = good-shape m good;
+          alike = alike-same;
+          page = λ i. refl;
           words = λ i h. refl;
           names = λ i h. refl;
-          links = λ i h. refl;
         }
     dropped-to (suc k) l = dropped-more k (releaseUpTo f k m) (dropped-to k (omega arith)) l
 
@@ -124,7 +105,7 @@ module _ (m : Memory) (f : FileName) where
     unfolding dropAt noRow
     drop-leaves (found r) e =
         let x = dropped-to (buffers m) (omega arith) in
-        record { many = x .many; words = x .word; hand = x .hand; links = x .link; top = x .top }
+        record { many = x .shape .many; wide = x .shape .wide; alike = x .alike; idle = λ i l z. x .page i }
     drop-leaves missing e = never refl e
 
     pub drop-says : Says m (Drop f)

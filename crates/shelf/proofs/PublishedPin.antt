@@ -1,49 +1,75 @@
 -- A pin's probes, buffer and words are as published: held, from the free list, the victim of a sweep, or refused.
 use Prim.Native.Nat.{ℕ, _*_, _≤_, _<_}
 use mathlib.Core.Path.{_≡_, refl, sym, ap, _∙_, subst}
+use mathlib.Core.Bool.{Bool, true, false, cond}
 use mathlib.Core.Logic.{_≢_, ⊎-elim}
 use mathlib.Core.List.{List, [], _∷_}
 use native.Mathlib.Omega.{arith}
-use lib.IntN.{ℤ, pos}
-use lib.ListN.{length, getD, set, length-set}
-use lib.Seq.{getD-set-same, set-set}
+use lib.ListN.{length, getD, length-set}
+use lib.Seq.{getD-set-other}
 use Rattle.laws.specs.Sum.{ind}
-use Rattle.laws.specs.First.{Found, found}
-use Rattle.laws.proofs.Tests.{eq-or-ne}
+use Rattle.laws.specs.First.{Found, found, missing}
+use Rattle.laws.specs.Block.{block}
+use Rattle.laws.proofs.Tests.{eq-or-ne, never}
+use Rattle.laws.proofs.Block.{length-block, length-putBlock, block-put-other}
 use Rattle.buftag.specs.declared.link.Link.{Link}
 use Rattle.buftag.specs.declared.link.Link.the-variants.{To, End}
 use Rattle.buftag.specs.declared.lookup.Held.{Held}
 use Rattle.buftag.specs.declared.lookup.Held.the-variants.{At, Nowhere}
 use Rattle.buftag.specs.declared.name.PageName.{PageName}
 use Rattle.buftag.specs.declared.number.BufferNumber.{BufferNumber}
-use Rattle.buftag.specs.Link.{numberAt, linkOf}
-use Rattle.bufmodel.specs.Word.{dirty, loaded}
-use Rattle.bufmodel.specs.Rows.{placeOf}
-use Rattle.bufmodel.specs.Memory.{Memory, buffers, wordOf, withStates, withHand}
-use Rattle.bufmodel.specs.Books.{BooksSound}
+use Rattle.buftag.specs.Name.{bucketOf}
+use Rattle.buftag.specs.Link.{linkOf}
+use Rattle.buftag.proofs.NameLaws.{bucket-lt}
+use Rattle.bufmodel.specs.Word.{empty, dirty}
+use Rattle.bufmodel.specs.Rows.{storeBlocks, placeOf}
+use Rattle.bufmodel.specs.Memory.{Memory, buffers, size, wordOf, nameOf, pageOf, withStates, withHand}
+use Rattle.bufmodel.specs.Books.{emptyAt, BooksSound}
 use Rattle.bufmodel.specs.Sweep.{Swept, Sweeps, sweepAll}
-use Rattle.bufmodel.specs.Moves.{off, writeBack, release, loadAt, load}
+use Rattle.bufmodel.specs.Moves.{putAt, writeBack, release, loadAt, load}
 use Rattle.bufmodel.specs.Outcome.{refusalOf, checked, done, refused}
 use Rattle.bufmodel.specs.Pin.{heldIn, pinPlaces, pinHeld, pinFree, pinVictim, pinSwept, pinNew, pinTo, pin}
 use Rattle.bufmodel.specs.Step.{Pin, step}
+use Rattle.bufmodel.proofs.RowsLaws.{place-in}
 use Rattle.bufmodel.proofs.GoodLaws.{Good, checked-good}
 use Rattle.bufmodel.proofs.OutcomeLaws.{outcome-done, outcome-refused}
 use Rattle.bufmodel.proofs.HeldLaws.{pinned-full, held-at}
 use Rattle.bufmodel.proofs.FreeListLaws.{top-none, top-empty, top-full}
-use Rattle.bufmodel.proofs.LoadLaws.{load-is}
+use Rattle.bufmodel.proofs.LoadLaws.{load-is, load-buffers, load-full}
 use Rattle.bufmodel.proofs.ReleaseLaws.{release-top}
 use Rattle.bufmodel.proofs.SweepLaws.{SweptFrom, sweeps-from}
 use Rattle.bufmodel.proofs.SweepEnds.{sweepAll-relates, sweep-finds, sweep-stuck}
-use Rattle.shelf.specs.Shelf.{with}
-use Rattle.shelf.specs.Published.{justLoaded, unlisted, freeLink, Leaves, hit, free, early, taken, stuck, Sought}
+use Rattle.shelf.specs.Published.{marksOf, withWords, emptied, Alike, Leaves, loaded, hit, free, early, taken, stuck, Sought}
 use Rattle.shelf.proofs.MemoryPlaces.{pin-stuck, pin-place, pin-open}
-use Rattle.shelf.proofs.PublishedWords.{more-pins, loaded-is, few-used}
-use Rattle.shelf.proofs.PublishedLeaves.{ind-cond, set-with, stays-set}
+use Rattle.shelf.proofs.PublishedWords.{more-pins, few-used}
+use Rattle.shelf.proofs.PublishedMarks.{alike-same, alike-then, emptied-past, loaded-alike, Shape, good-shape}
+use Rattle.shelf.proofs.PublishedMarks.{release-shape, release-marks, load-wide, load-marks}
+use Rattle.shelf.proofs.PublishedLeaves.{ind-cond, stays-set}
 
--- the words of a list with a page just loaded
-just-loaded : (words : List ℕ) (v : ℕ) → v < length words → (i : ℕ)
-    → getD (set words v loaded) i 0 ≡ with v justLoaded (λ j. getD words j 0) i
-just-loaded words v l i = set-with words v loaded 0 l i ∙ ap (λ (w : ℕ). with v w (λ j. getD words j 0) i) loaded-is
+-- ---- a load
+-- the buffer is in use afterwards, and the other pages are as they were
+load-idle : (m : Memory) (n : PageName) (i g : ℕ) → i < buffers m → length (m .pool) ≡ buffers m * size m
+    → length (block (size m) g (m .store)) ≡ size m → (j : ℕ) → wordOf (loadAt m n i g) j ≡ 0
+    → pageOf (loadAt m n i g) j ≡ pageOf m j
+unfolding loadAt emptyAt empty
+load-idle m n i g l pool page j z =
+    block-put-other (size m) (buffers m) _ (m .pool) pool page i l j
+    (λ q. never (ap empty (ap (wordOf (loadAt m n i g)) (sym q) ∙ z)) (load-full m n i g l))
+
+-- a write-back leaves the store as long as it was
+module _ (m : Memory) (k : Good m) (i : ℕ) (l : i < buffers m) where
+  put-long : (f : Found) → placeOf (m .rows) (nameOf m i) ≡ f → length (putAt (size m) (pageOf m i) (m .store) f) ≡ length (m .store)
+  unfolding putAt
+  put-long (found g) e =
+      length-putBlock (size m) (storeBlocks (m .rows)) (pageOf m i) (m .store) (k .sizes .store)
+      (length-block (size m) (buffers m) i (m .pool) (k .sizes .pool) l) g
+      (place-in (m .rows) (k .sizes .rows) (nameOf m i) e)
+  put-long missing e = refl
+
+  put-if-long : (d : Bool)
+      → length (cond d (putAt (size m) (pageOf m i) (m .store) (placeOf (m .rows) (nameOf m i))) (m .store)) ≡ length (m .store)
+  put-if-long true = put-long (placeOf (m .rows) (nameOf m i)) refl
+  put-if-long false = refl
 
 -- the sweep of a sound memory is as published, and ends in time
 pub sweep-published : (m : Memory) → BooksSound m
@@ -80,7 +106,7 @@ module _ (m : Memory) (k : Good m) (n : PageName) where
       record {
         probes = 0;
         looked = hit {b = b} e refl refl
-            (stays-set m _ refl refl refl (held-at m n b e .0) (more-pins (wordOf m (b .0))) refl);
+            (stays-set m _ refl refl (held-at m n b e .0) (more-pins (wordOf m (b .0))) refl (λ j l z. refl));
         bound = omega arith;
         atSix = λ q. absurd (omega arith);
         answered = λ q. refl;
@@ -88,18 +114,25 @@ module _ (m : Memory) (k : Good m) (n : PageName) where
 
   -- ---- not held, and the page is at place g
   module _ (new : heldIn m n ≡ Nowhere) (g : ℕ) (place : placeOf (m .rows) n ≡ found g) where
+    -- the page's bucket and block
+    in-heads : bucketOf n (length (m .heads)) < length (m .heads)
+    in-heads = bucket-lt n (length (m .heads)) (omega (arith, k .sizes .least, k .sizes .wide))
+
+    in-store : g < storeBlocks (m .rows)
+    in-store = place-in (m .rows) (k .sizes .rows) n place
+
     -- from the free list
     free-leaves : (i : ℕ) → i < buffers m → (answer : List ℕ)
-        → Leaves m (done answer [] (loadAt m n i g)) (with i justLoaded (wordOf m)) (m .control .hand) (with i unlisted (freeLink m))
-        (freeLink m i)
-    unfolding loadAt
+        → Leaves m (done answer [] (loadAt m n i g)) (loaded m n i (marksOf m))
     free-leaves i l answer =
+        let s = good-shape m k in
         record {
-          many = length-set (m .states) i loaded;
-          words = λ j h. just-loaded (m .states) i l j;
-          hand = refl;
-          links = λ j h. set-with (m .free) i off (pos 0) (omega (arith, k .sizes .free)) j;
-          top = refl;
+          many = load-buffers m n i g;
+          wide = load-wide m s i l n g;
+          alike = load-marks m s i l n g in-heads;
+          idle = λ j h z.
+              load-idle m n i g l (k .sizes .pool)
+              (length-block (size m) (storeBlocks (m .rows)) g (m .store) (k .sizes .store) in-store) j z;
         }
 
     free-sought : (i : ℕ) → linkOf (m .control .top) ≡ To i → Sought m n (pinFree m n i)
@@ -126,44 +159,73 @@ module _ (m : Memory) (k : Good m) (n : PageName) where
       from = sweeps-from (k .books .hand) refl (sweeps .0)
 
       module _ (v : ℕ) (victim : s .victim ≡ found v) where
-        -- after the sweep and the write-back, and with the victim on top of the free list
+        -- after the sweep, after the write-back, and with the victim on top of the free list
+        abbrev swept : Memory
+        swept = withHand (s .hand) (withStates (s .words) m)
+
+        abbrev back : Memory
+        back = writeBack swept v
+
         abbrev released : Memory
-        released = release (writeBack (withHand (s .hand) (withStates (s .words) m)) v) v
+        released = release back v
 
         abbrev after : Memory
         after = loadAt released n v g
 
         after-is : load released n ≡ after
         unfolding release writeBack
-        after-is = load-is released n v g (release-top (writeBack (withHand (s .hand) (withStates (s .words) m)) v) v) place
-
-        -- the victim's word and link were set before
-        after-words : after .states ≡ set (s .words) v loaded
-        unfolding loadAt release writeBack
-        after-words = set-set (set (s .words) v _) v 0 loaded ∙ set-set (s .words) v _ loaded
-
-        after-free : after .free ≡ set (m .free) v off
-        unfolding loadAt release writeBack
-        after-free = set-set (m .free) v (m .control .top) off
+        after-is = load-is released n v g (release-top back v) place
 
         below : v < buffers m
         below = from .taken v victim .0
 
+        back-shape : Shape (buffers m) (length (m .heads)) back
+        unfolding writeBack
+        back-shape =
+            record {
+              many = length-set (s .words) v _ ∙ from .same-length;
+              wide = refl;
+              names = k .sizes .names;
+              free = k .sizes .free;
+              chain = k .sizes .chain;
+            }
+
+        released-shape : Shape (buffers m) (length (m .heads)) released
+        released-shape = release-shape back back-shape v below
+
+        -- the victim's word was set on the way
+        back-marks : Alike (buffers m) (length (m .heads)) (emptied v (marksOf back))
+            (emptied v (withWords (λ i. getD (s .words) i 0) (s .hand) (marksOf m)))
+        unfolding writeBack
+        back-marks = emptied-past v below (λ i. getD (s .words) i 0) (λ j ne. getD-set-other (s .words) v j _ 0 ne) alike-same
+
+        taken-alike : Alike (buffers m) (length (m .heads)) (marksOf after)
+            (loaded m n v (emptied v (withWords (λ i. getD (s .words) i 0) (s .hand) (marksOf m))))
+        taken-alike =
+            alike-then (load-marks released released-shape v below n g in-heads)
+            (loaded-alike (bucketOf n (length (m .heads))) in-heads n v below
+            (alike-then (release-marks back back-shape v below) back-marks))
+
+        -- the write-back changed the store, and left it as long as it was
+        page-long : length (block (size m) g (released .store)) ≡ size m
+        unfolding release writeBack
+        page-long =
+            length-block (size m) (storeBlocks (m .rows)) g (released .store)
+            (put-if-long m k v below (dirty (getD (s .words) v 0)) ∙ k .sizes .store) in-store
+
+        pool-long : length (released .pool) ≡ buffers released * size released
+        unfolding release writeBack
+        pool-long = rw (released-shape .many) (k .sizes .pool)
+
         taken-leaves : (answer : List ℕ)
-            → Leaves m (done answer [] after) (with v justLoaded (λ i. getD (s .words) i 0)) (s .hand) (with v unlisted (freeLink m))
-            (m .control .top)
-        unfolding loadAt release writeBack
+            → Leaves m (done answer [] after) (loaded m n v (emptied v (withWords (λ i. getD (s .words) i 0) (s .hand) (marksOf m))))
+        unfolding release writeBack
         taken-leaves answer =
             record {
-              many = ap length after-words ∙ length-set (s .words) v loaded ∙ from .same-length;
-              words = λ i h.
-                  ap (λ (xs : List ℕ). getD xs i 0) after-words
-                  ∙ just-loaded (s .words) v (omega (arith, below, from .same-length)) i;
-              hand = refl;
-              links = λ i h.
-                  ap (λ (xs : List ℤ). numberAt xs i) after-free
-                  ∙ set-with (m .free) v off (pos 0) (omega (arith, below, k .sizes .free)) i;
-              top = getD-set-same (m .free) v (m .control .top) (pos 0) (omega (arith, below, k .sizes .free));
+              many = load-buffers released n v g ∙ released-shape .many;
+              wide = load-wide released released-shape v below n g;
+              alike = taken-alike;
+              idle = λ i h z. load-idle released n v g (omega (arith, below, released-shape .many)) pool-long page-long i z;
             }
 
         taken-sought : Sought m n (pinVictim m n s (found v))
