@@ -1,71 +1,75 @@
--- The tie between the exports' contracts and the theorem: a call as the contracts of the exports state it is the call as the theorem's
--- lists make it.
+-- The tie between the exports' contracts and the theorem: set up and a call as the contracts of the exports state them are set up and the
+-- call of the theorem's pool.
 use Prim.Native.Nat.{ℕ}
 use mathlib.Core.Path.{_≡_, refl}
 use mathlib.Core.List.{List, []}
 use Rattle.buftag.specs.declared.name.FileName.{FileName}
 use Rattle.buftag.specs.declared.name.PageName.{PageName}
 use Rattle.bufmodel.specs.Pin.{pin}
-use Rattle.bufmodel.specs.Calls.{unpin, read, write, flush, checkpoint, peek, extend, dropFile, logInserted, logFlushed}
+use Rattle.bufmodel.specs.Calls.{setUp, unpin, read, write, flush, checkpoint, peek, extend, dropFile, logInserted, logFlushed}
 use Rattle.bufmodel.specs.Step.{Pin, Unpin, Read, Write, Flush, Checkpoint, Peek, Extend, Drop, LogInserted, LogFlushed, step}
 use Rattle.bufmodel.specs.Lent.{Lent, called}
-use Rattle.shelf.specs.Statement.{own}
+use Rattle.shelf.specs.Statement.{own, calling}
+
+pub set-up-made : (p at : ℕ) (l : Lent) (answer : List ℕ)
+    → called (λ m. setUp m p at) l [] answer ≡ calling step .setsUp p at l answer
+set-up-made p at l answer = refl
 
 pub pin-made : (n : PageName) (l : Lent) (answer : List ℕ)
-    → called (λ m. pin m n) l [] answer ≡ called (λ m. step m (Pin n)) l (own (Pin n)) answer
+    → called (λ m. pin m n) l [] answer ≡ calling step .calls (Pin n) l (own (Pin n)) answer
 unfolding step
 pin-made n l answer = refl
 
 pub unpin-made : (buffer : ℕ) (l : Lent) (answer : List ℕ)
-    → called (λ m. unpin m buffer) l [] answer ≡ called (λ m. step m (Unpin buffer)) l (own (Unpin buffer)) answer
+    → called (λ m. unpin m buffer) l [] answer ≡ calling step .calls (Unpin buffer) l (own (Unpin buffer)) answer
 unfolding step
 unpin-made buffer l answer = refl
 
 -- the bytes that a read fills are its own
 pub read-made : (buffer from : ℕ) (out : List ℕ) (l : Lent) (answer : List ℕ)
     → called (λ m. read m buffer from out) l out answer
-    ≡ called (λ m. step m (Read buffer from out)) l (own (Read buffer from out)) answer
+    ≡ calling step .calls (Read buffer from out) l (own (Read buffer from out)) answer
 unfolding step
 read-made buffer from out l answer = refl
 
 -- and those that a write is given
 pub write-made : (buffer from : ℕ) (bytes : List ℕ) (position : ℕ) (l : Lent) (answer : List ℕ)
     → called (λ m. write m buffer from bytes position) l bytes answer
-    ≡ called (λ m. step m (Write buffer from bytes position)) l (own (Write buffer from bytes position)) answer
+    ≡ calling step .calls (Write buffer from bytes position) l (own (Write buffer from bytes position)) answer
 unfolding step
 write-made buffer from bytes position l answer = refl
 
 pub flush-made : (buffer : ℕ) (l : Lent) (answer : List ℕ)
-    → called (λ m. flush m buffer) l [] answer ≡ called (λ m. step m (Flush buffer)) l (own (Flush buffer)) answer
+    → called (λ m. flush m buffer) l [] answer ≡ calling step .calls (Flush buffer) l (own (Flush buffer)) answer
 unfolding step
 flush-made buffer l answer = refl
 
 pub checkpoint-made : (l : Lent) (answer : List ℕ)
-    → called (λ m. checkpoint m) l [] answer ≡ called (λ m. step m Checkpoint) l (own Checkpoint) answer
+    → called (λ m. checkpoint m) l [] answer ≡ calling step .calls Checkpoint l (own Checkpoint) answer
 unfolding step
 checkpoint-made l answer = refl
 
 pub peek-made : (n : PageName) (l : Lent) (answer : List ℕ)
-    → called (λ m. peek m n) l [] answer ≡ called (λ m. step m (Peek n)) l (own (Peek n)) answer
+    → called (λ m. peek m n) l [] answer ≡ calling step .calls (Peek n) l (own (Peek n)) answer
 unfolding step
 peek-made n l answer = refl
 
 pub extend-made : (f : FileName) (l : Lent) (answer : List ℕ)
-    → called (λ m. extend m f) l [] answer ≡ called (λ m. step m (Extend f)) l (own (Extend f)) answer
+    → called (λ m. extend m f) l [] answer ≡ calling step .calls (Extend f) l (own (Extend f)) answer
 unfolding step
 extend-made f l answer = refl
 
 pub drop-made : (f : FileName) (l : Lent) (answer : List ℕ)
-    → called (λ m. dropFile m f) l [] answer ≡ called (λ m. step m (Drop f)) l (own (Drop f)) answer
+    → called (λ m. dropFile m f) l [] answer ≡ calling step .calls (Drop f) l (own (Drop f)) answer
 unfolding step
 drop-made f l answer = refl
 
 pub inserted-made : (position : ℕ) (l : Lent) (answer : List ℕ)
-    → called (λ m. logInserted m position) l [] answer ≡ called (λ m. step m (LogInserted position)) l (own (LogInserted position)) answer
+    → called (λ m. logInserted m position) l [] answer ≡ calling step .calls (LogInserted position) l (own (LogInserted position)) answer
 unfolding step
 inserted-made position l answer = refl
 
 pub flushed-made : (position : ℕ) (l : Lent) (answer : List ℕ)
-    → called (λ m. logFlushed m position) l [] answer ≡ called (λ m. step m (LogFlushed position)) l (own (LogFlushed position)) answer
+    → called (λ m. logFlushed m position) l [] answer ≡ calling step .calls (LogFlushed position) l (own (LogFlushed position)) answer
 unfolding step
 flushed-made position l answer = refl
