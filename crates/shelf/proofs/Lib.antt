@@ -63,6 +63,7 @@ pub mod Made
 -- one pool is left: lists by their places, books alike, two ends of one call, of set up and of a list
 pub mod OneLists
 pub mod OneMarks
+pub mod OneAnswer
 -- the statement as a test, and the wrong pools that it shuts out
 pub mod JudgeLaws
 pub mod ShutOut
