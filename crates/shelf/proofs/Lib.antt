@@ -64,6 +64,7 @@ pub mod Made
 pub mod OneLists
 pub mod OneMarks
 pub mod OneAnswer
+pub mod OneLent
 -- the statement as a test, and the wrong pools that it shuts out
 pub mod JudgeLaws
 pub mod ShutOut
