@@ -65,6 +65,7 @@ pub mod OneLists
 pub mod OneMarks
 pub mod OneAnswer
 pub mod OneLent
+pub mod OnePool
 -- the statement as a test, and the wrong pools that it shuts out
 pub mod JudgeLaws
 pub mod ShutOut
