@@ -62,6 +62,12 @@ pub mod Lift
 pub mod Demand
 -- the calls of the theorem are the exports' calls
 pub mod Made
+-- one pool is left: lists by their places, books alike, two ends of one call, of set up and of a list
+pub mod OneLists
+pub mod OneMarks
+pub mod OneAnswer
+pub mod OneLent
+pub mod OnePool
 -- the statement as a test, and the wrong pools that it shuts out
 pub mod JudgeLaws
 pub mod ShutOut
