@@ -11,7 +11,8 @@ use Rattle.shelf.specs.Ledger.{Ledger, firstLedger, ledgerAfter}
 use Rattle.shelf.specs.Shelf.{firstShelf}
 use Rattle.shelf.specs.Published.{Published}
 use Rattle.shelf.specs.Statement.{Agrees, Left, Fresh, freshMarks, SetsUp, Made, Pool, calling, outcomeOf, own, ClaimFor}
-use Rattle.shelf.specs.Statement.{Demand3, receipts, ifAccepted, OnePool}
+use Rattle.shelf.specs.Statement.{receipts, ifAccepted, OnePool}
+use Rattle.shelf.proofs.Demand.{demand-3}
 use Rattle.shelf.proofs.OneMarks.{Booked, same-books}
 use Rattle.shelf.proofs.OneAnswer.{both, same-bytes}
 use Rattle.shelf.proofs.OneLent.{same-lent, SameStore, store-accepted, Ends, same-end}
@@ -120,8 +121,8 @@ module _ (pool pool′ : Pool) (m : Lent) (p at : ℕ) (calls : List Made) where
       ap (λ t. r ∷ t) (same-rest s (subst (Starts pool′) (sym e) s′) (r .result) refl)
       ∙ ap (λ (q : Called). q ∷ ifAccepted (q .result) (receipts pool′ (q .lent) calls)) e
 
--- the right pool meets demand 3, so whichever meets it gives the same
-pub one-pool : Demand3 → OnePool
-one-pool right pool claim m p at answer calls fits hp hat long made =
+-- DEMAND 3 LEAVES ONE POOL: this one meets it, so whichever meets it gives the same
+pub one-pool : OnePool
+one-pool pool claim m p at answer calls fits hp hat long made =
     one-received pool (calling step) m p at calls (claim m p at answer calls fits hp hat long made)
-    (right m p at answer calls fits hp hat long made)
+    (demand-3 m p at answer calls fits hp hat long made)

@@ -1,25 +1,25 @@
 -- Set up is accepted exactly where lengths and rows keep the rules, and leaves the books of empty buffers.
 use Prim.Native.Nat.{ℕ, zero, suc, _+_, _<_}
 use mathlib.Core.Path.{_≡_, refl, sym, ap, _∙_, subst}
-use mathlib.Core.Logic.{_↔_, ⊎-elim, inr}
+use mathlib.Core.Logic.{⊎-elim, inr}
 use mathlib.Core.Bool.{Bool, true, false, not, cond}
 use mathlib.Core.List.{List, [], _∷_}
 use native.Mathlib.Omega.{arith}
 use lib.ListN.{length, length-replicate, getD-replicate}
 use lib.IntN.{pos}
 use lib.Dec.{eqb}
-use borrow.Author.Tests.{eq-eqb, ne-eqb, eqb-true, eqb-false, not-false}
-use Rattle.laws.proofs.Tests.{true-or-false, eq-or-ne, never}
+use borrow.Author.Tests.{eq-eqb, ne-eqb, eqb-true, eqb-false}
+use Rattle.laws.proofs.Tests.{eq-or-ne, never}
 use Rattle.buftag.specs.Link.{none, numberAt}
 use Rattle.bufmodel.specs.Memory.{Memory, buffers}
 use Rattle.bufmodel.specs.Sizes.{sizedFor, SizedFor}
-use Rattle.bufmodel.specs.Outcome.{Outcome, place, refusalOf, zeros, done, refused, outcome}
+use Rattle.bufmodel.specs.Outcome.{place, refusalOf, zeros, done, refused, outcome}
 use Rattle.bufmodel.specs.Calls.{freeLinks, fresh, setUp}
 use Rattle.bufmodel.specs.Lent.{Lent, Called, controlWords, answerWords, topWord, wordsOf, opened, closed, ended, called}
 use Rattle.bufmodel.proofs.SizesLaws.{sizes-say}
 use Rattle.bufmodel.proofs.LentLaws.{opened-closed}
-use Rattle.bufmodel.proofs.FreshLaws.{fresh-many, fresh-word, fresh-name, fresh-good}
-use Rattle.shelf.specs.Published.{Marks, marksOf, Alike, listEnd}
+use Rattle.bufmodel.proofs.FreshLaws.{fresh-word, fresh-name, fresh-good}
+use Rattle.shelf.specs.Published.{marksOf, Alike, listEnd}
 use Rattle.shelf.specs.Statement.{freshMarks, Fresh, SetsUp}
 
 -- ---- the free list
