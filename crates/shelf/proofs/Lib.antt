@@ -60,6 +60,8 @@ pub mod Lift
 pub mod Demand
 -- the calls of the theorem are the exports' calls
 pub mod Made
+-- the numbers of what the statement and the pool both use
+pub mod Numbers
 -- the statement as a test, and the wrong pools that it shuts out
 pub mod JudgeLaws
 pub mod ShutOut
