@@ -68,6 +68,8 @@ pub mod OneMarks
 pub mod OneAnswer
 pub mod OneLent
 pub mod OnePool
+-- the numbers of what the statement and the pool both use
+pub mod Numbers
 -- the statement as a test, and the wrong pools that it shuts out
 pub mod JudgeLaws
 pub mod ShutOut
