@@ -1,10 +1,10 @@
--- Demand 2: names, state words and log positions are packed as published; each pin's buffer, probe count and state words are those of the
--- published free list and clock sweep. And what every other call leaves of the books and answers. In document 01's own numbers.
-use Prim.Native.Nat.{ℕ, zero, suc, _+_, _-_, _*_, _/_, _%_, _^_, _≤_, _<_}
+-- Demand 2: each pin's buffer, probe count and state words are those of the published free list and clock sweep; and what every other call
+-- leaves of the books and answers. That names, state words and log positions are packed as published: `Numbers`.
+use Prim.Native.Nat.{ℕ, zero, suc, _+_, _-_, _*_, _^_, _≤_, _<_}
 use mathlib.Core.Path.{_≡_}
 use mathlib.Core.Logic.{_≢_}
 use mathlib.Core.Bool.{Bool, not, _&&_, cond}
-use mathlib.Core.List.{List, [], _∷_}
+use mathlib.Core.List.{[], _∷_}
 use lib.ListN.{length, getD}
 use lib.IntN.{ℤ, pos, negsuc}
 use lib.Dec.{eqb}
