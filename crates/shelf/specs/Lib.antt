@@ -2,6 +2,7 @@ pub mod Shelf
 pub mod Ledger
 pub mod Published
 pub mod Statement
+pub mod Guards
 pub mod Numbers
 pub mod Judge
 pub mod Trial
