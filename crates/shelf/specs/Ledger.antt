@@ -17,7 +17,7 @@ pub record Ledger : Type 0 where
   pub dirty : ℕ → Bool
   -- the page that a pin last got at a buffer number
   pub last : ℕ → Found
-  -- the largest position so far
+  -- the largest of the set-up's, log flushed calls' and written-back pages' positions so far
   pub flushed : ℕ
   -- the blocks put into the store so far
   pub put : ℕ → Bool

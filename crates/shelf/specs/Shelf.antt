@@ -1,6 +1,6 @@
 -- The plain shelf: document 01's term for what a pool of pages is, without buffers, books or a store to write back to.
--- A page is known by its place, the index of its block in the store. Its checks, their order and its written page are its own words: what
--- it shares with the pool is where rows, blocks and log positions lie.
+-- A page is known by its place, the index of its block in the store. The shelf's checks, their order and a written page are its own words;
+-- what it shares with the pool is which row and place a name has, and where rows, blocks and log positions lie.
 use Prim.Native.Nat.{ℕ, suc, _+_, _-_}
 use mathlib.Core.Bool.{Bool, true, false, not, _&&_, _||_, cond}
 use mathlib.Core.List.{List, [], _∷_, _++_}
@@ -98,7 +98,7 @@ module _ (s : Shelf) where
   filePinned (found r) = any (blocksAt (s .rows) r) (λ b. hasPins (startOf (s .rows) r + b))
   filePinned missing = false
 
-  -- a name's two places; those of a pin above the victim's; the victim's
+  -- a name's two places; those of a pin above the victim's
   unfoldable pub nameFirst : PageName → List Place → List Place
   nameFirst n later =
       let r = rowOf (s .rows) (n .file) in

@@ -122,7 +122,7 @@ pub record Agrees (m : Memory) (l : Ledger) (c : Call) (o : Outcome) (l′ : Led
   -- caller's bytes are touched by a read alone
   pub shows : o .refusal ≡ 0 → Shows (l .shelf) o c
   -- a refusal gives the number, other parts of the answer zero, and changes nothing in the caller's buffer; that it changes nothing in
-  -- the pool or the store: `Left.same`. A refused peek hands back an empty part: `part` has no other for it
+  -- the pool or the store: `Left.same`. A refused peek hands back an empty part by the definition of `part`
   pub blank : o .refusal ≢ 0 → o .answer ≡ zeros
   pub kept : o .refusal ≢ 0 → o .bytes ≡ own c
   -- and afterwards all rows and inserted
@@ -160,7 +160,8 @@ pub record Left (m : Lent) (r : Called) (l′ : Ledger) : Type 0 where
   -- none of the calls answers 1 or 2: sizes and rows keep the rules and the books are sound, whichever call comes next
   pub sizes : SizedFor (l′ .shelf .size) (opened (r .lent))
   pub books : BooksSound (opened (r .lent))
-  -- the control record as 64-bit words in the order P, hand, top of the free list, inserted, flushed
+  -- the control record as 64-bit words in the order P, hand, top of the free list, inserted, flushed; hand and top are as `opened` reads
+  -- them, and what they are is demand 2's
   pub control : let k = opened (r .lent) .control in
       r .lent .control ≡ l′ .shelf .size ∷ k .hand ∷ topWord (k .top) ∷ l′ .shelf .inserted ∷ l′ .flushed ∷ []
 
