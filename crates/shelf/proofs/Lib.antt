@@ -60,6 +60,9 @@ pub mod Start
 pub mod SetUpSays
 pub mod Lift
 pub mod Demand
+-- demand 1: the table's conditions are those of the places, and the theorem
+pub mod GuardsTable
+pub mod Guards
 -- the calls of the theorem are the exports' calls
 pub mod Made
 -- one pool is left: lists by their places, books alike, two ends of one call, of set up and of a list

@@ -15,7 +15,7 @@ use Rattle.bufmodel.specs.Step.{Call, Pin}
 use Rattle.shelf.specs.Shelf.{Shelf, firstOf, hasPins, pinnedPages, noBuffer, nameFirst, above, places, refuses}
 
 -- ---- the order of its checks is the pool's
-first-is : (ps : List Place) → firstOf ps ≡ refusalOf ps
+pub first-is : (ps : List Place) → firstOf ps ≡ refusalOf ps
 unfolding firstOf refusalOf
 first-is [] = refl
 first-is (p ∷ ps) = ap (λ (k : ℕ). cond (p .refuses) (p .number) k) (first-is ps)
