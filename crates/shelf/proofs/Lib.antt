@@ -1,4 +1,4 @@
--- The proofs of demands 2 and 3, each module after those that it uses.
+-- The proofs of the three demands, each module after those that it uses.
 -- demand 2: what calls' numbers say of the memory, its words, what each call leaves, and the theorem
 pub mod WithLaws
 pub mod CallKinds
