@@ -2,6 +2,11 @@ pub mod Shelf
 pub mod Ledger
 pub mod Published
 pub mod Statement
+pub mod Tests
 pub mod Judge
 pub mod Trial
+pub mod Changes
+pub mod WrongCalls
+pub mod WrongBooks
+pub mod WrongLent
 pub mod WrongPools
