@@ -61,5 +61,6 @@ pub mod Demand
 -- the calls of the theorem are the exports' calls
 pub mod Made
 -- the statement as a test, and the wrong pools that it shuts out
+pub mod TestLaws
 pub mod JudgeLaws
 pub mod ShutOut
