@@ -1,26 +1,24 @@
--- A pool that meets the claim for a list of calls is judged fine on it: each test passes where its clause holds.
-use Prim.Native.Nat.{ℕ, zero, suc, _+_, _*_, min, _≤_, _<_}
-use native.Mathlib.Nat.{min-le-right}
+-- A pool that meets the claims for a set up and a list of calls is judged fine on them: each test passes where its clause holds.
+use Prim.Native.Nat.{ℕ, zero, suc, _+_, _*_, _^_, _≤_, _<_}
 use native.Mathlib.Omega.{arith}
 use mathlib.Core.Path.{_≡_, refl, sym, ap, _∙_, subst}
-use mathlib.Core.Bool.{Bool, true, false, not, _&&_, _||_, cond, Bool·beq}
-use mathlib.Core.Logic.{_≢_, _↔_}
+use mathlib.Core.Bool.{Bool, true, false, not, _&&_, cond, Bool·beq}
+use mathlib.Core.Logic.{_↔_}
 use mathlib.Core.List.{List, [], _∷_}
 use lib.ListN.{length, getD, take, drop}
-use lib.Seq.{take-take}
-use lib.IntN.{ℤ, pos, negsuc}
 use lib.Dec.{eqb}
-use borrow.Author.Tests.{eq-eqb, ne-eqb, eqb-true, le-leb, lt-ltb, not-true}
+use borrow.Author.Tests.{eq-eqb, ne-eqb, eqb-true, eqb-false, le-leb, lt-ltb, not-true}
 use Rattle.laws.specs.First.{Found, found, missing}
 use Rattle.laws.specs.Block.{block}
 use Rattle.laws.proofs.Tests.{and-true, and-left, and-right, same-tests}
 use Rattle.laws.proofs.Every.{all-of}
+use Rattle.laws.proofs.Says.{says-eq, says-and, says-as, says-it}
 use Rattle.buftag.specs.declared.link.Link.{Link}
 use Rattle.buftag.specs.declared.lookup.Held.{Held}
 use Rattle.buftag.specs.declared.lookup.Held.the-variants.{At, Nowhere}
 use Rattle.buftag.specs.declared.name.PageName.{PageName}
 use Rattle.bufmodel.specs.Rows.{files, blocksAt, startOf, placeOf}
-use Rattle.bufmodel.specs.Memory.{Memory, buffers}
+use Rattle.bufmodel.specs.Memory.{Memory, buffers, wordOf}
 use Rattle.bufmodel.specs.Books.{isFound}
 use Rattle.bufmodel.specs.Sweep.{Swept}
 use Rattle.bufmodel.specs.Outcome.{Outcome, one, two}
@@ -28,26 +26,33 @@ use Rattle.bufmodel.specs.Pin.{heldIn}
 use Rattle.bufmodel.specs.Calls.{part}
 use Rattle.bufmodel.specs.Step.{Call, Pin, Unpin, Read, Write, Flush, Checkpoint, Peek, Extend, Drop, LogInserted, LogFlushed}
 use Rattle.bufmodel.specs.Lent.{Lent, Called, answerWords, opened}
+use Rattle.bufmodel.proofs.SizesLaws.{sizes-say}
+use Rattle.bufmodel.proofs.BooksLaws.{books-say}
 use Rattle.bufmodel.proofs.SweepLaws.{sweep-is}
 use Rattle.shelf.specs.Shelf.{Shelf, firstOf, hasPins, pinnedPages, above}
-use Rattle.shelf.specs.Ledger.{Ledger, isPlace, bufferIn, ledgerAfter, puts}
-use Rattle.shelf.specs.Published.{freeLink, Leaves, Probes, hit, free, early, taken, stuck, Peeks, Published}
-use Rattle.shelf.specs.Statement.{Answers, PinRule, Shows, Agrees, Left, Pool, Made, own, outcomeOf, ClaimFor}
+use Rattle.shelf.specs.Ledger.{Ledger, firstLedger, isPlace, bufferIn, ledgerAfter, puts}
+use Rattle.shelf.specs.Published.{Marks, Leaves, Probes, hit, free, early, taken, stuck, Peeks, Published}
+use Rattle.shelf.specs.Statement.{
+  Answers,
+  PinRule,
+  Shows,
+  Agrees,
+  Left,
+  Fresh,
+  SetsUp,
+  Pool,
+  Made,
+  FitsLent,
+  FitsMade,
+  own,
+  outcomeOf,
+  ClaimFor,
+  Demand3For,
+}
+use Rattle.shelf.specs.Tests.{Verdict, Fine, Test, sameList, sameLent, some}
 use Rattle.shelf.specs.Judge.{
-  Clause,
-  Verdict,
-  Fine,
-  Test,
-  test,
-  failing,
-  ifDone,
-  ifRefused,
-  atPlace,
-  sameList,
-  sameLink,
-  sameLinks,
-  sameLent,
-  start,
+  freshTest,
+  setUpTests,
   answersTest,
   pinRuleTest,
   showsTest,
@@ -57,94 +62,76 @@ use Rattle.shelf.specs.Judge.{
   settledTest,
   orderedTest,
   othersTest,
+  storedTest,
+  heldTest,
   agreesTests,
   leftTests,
-  leavesTests,
-  staysTests,
-  sweptTests,
-  newTests,
-  pinTests,
-  peeksTest,
-  acceptsTests,
-  publishedTests,
+  sweepOf,
+  sweptMarks,
+  newMarks,
+  pinMarks,
+  marksAfter,
+  sweptTest,
+  newTest,
+  pinTest,
+  peekTest,
+  saidTests,
+  clockTests,
+  nameTests,
+  whenDone,
+  judgeCalls,
+  ifAccepted,
   judge,
 }
+use Rattle.shelf.proofs.TestLaws.{
+  Passes,
+  all,
+  _&_,
+  none-fails,
+  if-done,
+  if-refused,
+  else-true,
+  then-true,
+  both,
+  at-place,
+  if-place,
+  same-list,
+  list-same,
+  lent-same,
+  starts-same,
+  start-same,
+  words-pass,
+  names-pass,
+  links-pass,
+  chains-pass,
+}
 
--- ---- a row of tests: each passes
-infixr 5 _&_
-data Passes : List Test → Type 0 where
-  all : Passes []
-  _&_ : {c : Clause} {t : Bool} {ts : List Test} → t ≡ true → Passes ts → Passes (test c t ∷ ts)
+-- ---- SetsUp
+fresh-pass : (m k : Lent) (p at : ℕ) → Fresh m k p at → freshTest m p k ≡ true
+unfolding freshTest
+fresh-pass m k p at h =
+    and-true
+    (and-true
+    (and-true
+    (and-true
+    (and-true (and-true (eq-eqb _ _ (h .many)) (eq-eqb _ _ (h .wide))) (sizes-say p (opened k) .shown (h .sizes))) (words-pass (h .alike)))
+    (names-pass (h .alike)))
+    (links-pass (h .alike)))
+    (chains-pass (h .alike))
 
-none-fails : {ts : List Test} (later : Verdict) → Passes ts → failing ts later ≡ later
-unfolding failing
-none-fails later all = refl
-none-fails later (h & hs) = rw h (none-fails later hs)
-
--- ---- connectives
-if-done : (r : ℕ) {t : Bool} → (r ≡ 0 → t ≡ true) → ifDone r t ≡ true
-if-done zero h = h refl
-if-done (suc k) h = refl
-
-if-refused : (r : ℕ) {t : Bool} → (r ≢ 0 → t ≡ true) → ifRefused r t ≡ true
-if-refused zero h = refl
-if-refused (suc k) h = h (omega arith)
-
-else-true : (a : Bool) {b : Bool} → (a ≡ false → b ≡ true) → (a || b) ≡ true
-else-true true h = refl
-else-true false h = h refl
-
-then-true : (a : Bool) {b : Bool} → (a ≡ true → b ≡ true) → (not a || b) ≡ true
-then-true true h = h refl
-then-true false h = refl
-
-beq-same : (a : Bool) → Bool·beq a a ≡ true
-beq-same true = refl
-beq-same false = refl
-
-at-place : {f : Found} {g : ℕ} (t : ℕ → Bool) → f ≡ found g → t g ≡ true → atPlace f t ≡ true
-at-place t e h = ap (λ (f : Found). atPlace f t) e ∙ h
-
--- ---- equal lists, links, lent memories
-list-same : (xs : List ℕ) → sameList xs xs ≡ true
-unfolding sameList
-list-same [] = refl
-list-same (x ∷ xs) = and-true (eq-eqb x x refl) (list-same xs)
-
-same-list : {xs ys : List ℕ} → xs ≡ ys → sameList xs ys ≡ true
-same-list {ys} e = ap (λ (zs : List ℕ). sameList zs ys) e ∙ list-same ys
-
-link-same : (z : ℤ) → sameLink z z ≡ true
-link-same (pos i) = eq-eqb i i refl
-link-same (negsuc i) = eq-eqb i i refl
-
-same-link : {x y : ℤ} → x ≡ y → sameLink x y ≡ true
-same-link {y} e = ap (λ (z : ℤ). sameLink z y) e ∙ link-same y
-
-links-same : (xs : List ℤ) → sameLinks xs xs ≡ true
-unfolding sameLinks
-links-same [] = refl
-links-same (x ∷ xs) = and-true (link-same x) (links-same xs)
-
-lent-same : (m : Lent) → sameLent m m ≡ true
-unfolding sameLent
-lent-same m =
-    rw (
-      list-same (m .control),
-      list-same (m .states),
-      list-same (m .names),
-      links-same (m .free),
-      links-same (m .heads),
-      links-same (m .chain),
-      list-same (m .rows),
-      list-same (m .pool),
-      list-same (m .store),
-    )
-
--- equal blocks begin alike
-start-is : (p g : ℕ) (xs : List ℕ) → start p g xs ≡ take (min 16 p) (block p g xs)
-unfolding start block
-start-is p g xs = sym (take-take (min 16 p) p (drop (g * p) xs) (min-le-right 16 p))
+set-up-pass : (m : Lent) (p at : ℕ) (r : Called) → SetsUp m p at r → Passes (setUpTests m p at r)
+unfolding setUpTests
+set-up-pass m p at r h =
+    both (says-eq _ _) (says-and (sizes-say p (opened m)) (says-eq _ _)) (h .accepted)
+    & if-done (r .result) (λ z. fresh-pass m (r .lent) p at (h .fresh z))
+    & if-done (r .result) (λ z. same-list (h .fresh z .control))
+    & if-done (r .result) (λ z.
+    and-true (and-true (same-list (ap (take some) (h .fresh z .pool))) (same-list (h .fresh z .rows)))
+    (same-list (ap (take some) (h .fresh z .store))))
+    & if-refused (r .result) (λ f.
+    and-true (eq-eqb _ _ (h .refused f .0)) (ap (λ (x : Lent). sameLent x m) (h .refused f .1) ∙ lent-same m))
+    & and-true (same-list (h .answer)) (same-list (h .bytes))
+    & all
 
 -- ---- Agrees
 answers-pass : (o : Outcome) (c : Call) → Answers o c → answersTest (o .answer) c ≡ true
@@ -173,15 +160,18 @@ module _ (s : Shelf) (o : Outcome) where
 
   shows-pass : (c : Call) → Shows s o c → showsTest s o c ≡ true
   unfolding showsTest
-  shows-pass (Pin n) h = at-place (pinRuleTest s o) (h .1) (rule-pass (h .0) (h .2))
+  shows-pass (Pin n) h = and-true (at-place (pinRuleTest s o) (h .1) (rule-pass (h .0) (h .2))) (same-list (h .3))
   shows-pass (Unpin b) h = same-list h
   shows-pass (Read b from out) h =
       at-place (λ g. sameList (o .bytes) (take (length out) (drop from (s .bytes g)))) (h .1) (same-list (h .2))
   shows-pass (Write b from bytes at) h = same-list h
   shows-pass (Flush b) h = same-list h
   shows-pass Checkpoint h = same-list h
-  shows-pass (Peek n) h = at-place (λ g. sameList (part o) (s .bytes g)) (h .1) (same-list (h .2))
-  shows-pass (Extend f) h = at-place (λ r. eqb (getD (o .answer) 0 0) (blocksAt (s .rows) r)) (h .1) (eq-eqb _ _ (h .2))
+  shows-pass (Peek n) h =
+      and-true (at-place (λ g. sameList (take some (part o)) (take some (s .bytes g))) (h .1) (same-list (ap (take some) (h .2))))
+      (same-list (h .3))
+  shows-pass (Extend f) h =
+      and-true (at-place (λ r. eqb (getD (o .answer) 0 0) (blocksAt (s .rows) r)) (h .1) (eq-eqb _ _ (h .2))) (same-list (h .3))
   shows-pass (Drop f) h = same-list h
   shows-pass (LogInserted p) h = same-list h
   shows-pass (LogFlushed p) h = same-list h
@@ -193,13 +183,7 @@ module _ (s : Shelf) (o : Outcome) where
   six-at : (f : Found) → ((g : ℕ) → f ≡ found g → SixAt g) → sixAt s o f ≡ true
   unfolding sixAt
   six-at (found g) h =
-      let full = eqb (pinnedPages s) (s .buffers) in
-      let new = not (hasPins s g) in
-      let there : eqb (o .refusal) 6 ≡ true → (full && new) ≡ true =
-      λ t. let w = h g refl .0 (eqb-true (o .refusal) 6 t) in and-true (eq-eqb _ _ (w .0)) (ap not (w .1)) in
-      let back : (full && new) ≡ true → eqb (o .refusal) 6 ≡ true =
-      λ t. eq-eqb (o .refusal) 6 (h g refl .1 (eqb-true _ _ (and-left full new t), not-true _ (and-right full new t))) in
-      ap (λ (b : Bool). Bool·beq b (full && new)) (same-tests _ _ there back) ∙ beq-same (full && new)
+      both (says-eq _ _) (says-and (says-eq _ _) (says-as (not-true _) (ap not) (says-it (not (hasPins s g))))) (h g refl)
   six-at missing h = refl
 
   six-pass : (c : Call) → ((n : PageName) → c ≡ Pin n → firstOf (above s n) ≡ 0 → (g : ℕ) → placeOf (s .rows) n ≡ found g → SixAt g)
@@ -223,8 +207,7 @@ module _ (s : Shelf) (o : Outcome) where
 
   all-settled : AllSettled → settledAll s o ≡ true
   unfolding settledAll
-  all-settled h =
-      all-of _ _ (λ r l. all-of _ _ (λ b k. same-list (start-is _ _ _ ∙ ap (take (min 16 (s .size))) (h r b l k))))
+  all-settled h = all-of _ _ (λ r l. all-of _ _ (λ b k. start-same _ _ _ _ (h r b l k)))
 
   settled-pass : (c : Call) → (c ≡ Checkpoint → AllSettled) → settledTest s o c ≡ true
   unfolding settledTest
@@ -247,9 +230,17 @@ module _ {m : Memory} {l : Ledger} {c : Call} {o : Outcome} {l′ : Ledger} (a :
 
   others-pass : othersTest m l c o l′ ≡ true
   unfolding othersTest
-  others-pass =
-      all-of _ _ (λ g k. else-true (puts l c (o .answer) (o .refusal) g)
-      (λ f. same-list (start-is _ _ _ ∙ ap (take (min 16 (l .shelf .size))) (a .others g k f) ∙ sym (start-is _ _ _))))
+  others-pass = all-of _ _ (λ g k. else-true (puts l c (o .answer) (o .refusal) g) (λ f. starts-same _ _ _ _ _ _ (a .others g k f)))
+
+  stored-pass : storedTest m l c o l′ ≡ true
+  unfolding storedTest
+  stored-pass = all-of _ _ (λ g k. then-true (puts l c (o .answer) (o .refusal) g) (λ t. start-same _ _ _ _ (a .stored g k t)))
+
+  held-pass : heldTest m l c o l′ ≡ true
+  unfolding heldTest
+  held-pass =
+      all-of _ _ (λ i k. else-true (eqb (wordOf (o .after) i) 0)
+      (λ f. if-place _ _ (λ g e. start-same _ _ _ _ (a .held i g k (eqb-false _ _ f) e))))
 
   agrees-pass : Passes (agreesTests m l c o l′)
   unfolding agreesTests
@@ -268,79 +259,135 @@ module _ {m : Memory} {l : Ledger} {c : Call} {o : Outcome} {l′ : Ledger} (a :
       & others-pass
       & eq-eqb _ _ (a .long)
       & if-done (o .refusal) (λ z. settled-pass (l .shelf) o c (λ e. a .settled e z))
+      & stored-pass
+      & held-pass
       & all
 
 -- ---- Left
 left-pass : (m : Lent) (r : Called) (l′ : Ledger) → Left m r l′ → Passes (leftTests m r l′)
 unfolding leftTests
 left-pass m r l′ h =
-    let top : getD (r .lent .control) 2 0 ≡ h .control .0 = ap (λ (ws : List ℕ). getD ws 2 0) (h .control .1) in
     if-refused (r .result) (λ f. ap (λ (x : Lent). sameLent x m) (h .same f) ∙ lent-same m)
-    & same-list
-    (h .control .1
-    ∙ ap (λ (t : ℕ). l′ .shelf .size ∷ opened (r .lent) .control .hand ∷ t ∷ l′ .shelf .inserted ∷ l′ .flushed ∷ []) (sym top))
+    & same-list (h .control)
+    & sizes-say (l′ .shelf .size) (opened (r .lent)) .shown (h .sizes)
+    & books-say (opened (r .lent)) .shown (h .books)
     & all
 
 -- ---- Published
 module _ (m : Memory) (o : Outcome) where
-  leaves-pass : {word : ℕ → ℕ} {at : ℕ} {link : ℕ → ℤ} {first : ℤ} → Leaves m o word at link first
-      → Passes (leavesTests m o word at link first)
-  unfolding leavesTests
-  leaves-pass h =
-      and-true (eq-eqb _ _ (h .many)) (all-of _ _ (λ i l. eq-eqb _ _ (h .words i l)))
-      & eq-eqb _ _ (h .hand)
-      & and-true (same-link (h .top)) (all-of _ _ (λ i l. same-link (h .links i l)))
-      & all
+  -- a pin's answer, and the marks that it leaves
+  record PinFine (n : PageName) (x : Held) : Type 0 where
+    said : pinTest m (o .answer) x ≡ true
+    leaves : Leaves m o (pinMarks m n x)
 
-  stays-pass : {word : ℕ → ℕ} → Leaves m o word (m .control .hand) (freeLink m) (m .control .top) → Passes (staysTests m o word)
-  unfolding staysTests
-  stays-pass h = leaves-pass h
+  pin-fine : (n : PageName) (k : ℕ) → Probes m n o k → k ≤ 6 * buffers m → o .refusal ≡ 0 → PinFine n (heldIn m n)
+  unfolding pinTest newTest sweptTest pinMarks newMarks sweptMarks
+  pin-fine n _ (hit {b} e z a h) l q = subst (PinFine n) (sym e) (record { said = same-list a; leaves = h })
+  pin-fine n _ (free {i} e f z a h) l q =
+      subst (PinFine n) (sym e)
+      (record {
+        said = ap (newTest m (o .answer)) f ∙ same-list a;
+        leaves = subst (λ (x : Link). Leaves m o (newMarks m n x)) (sym f) h;
+      })
+  pin-fine n _ (early a b) l q = absurd (a q)
+  pin-fine n _ (taken {s} {v} e f z w t a h) l q =
+      let is : sweepOf m ≡ s = sweep-is (6 * buffers m) w l in
+      subst (PinFine n) (sym e)
+      (record {
+        said =
+            ap (newTest m (o .answer)) f ∙ ap (λ (x : Swept). sweptTest m (o .answer) x (x .victim)) is
+            ∙ ap (sweptTest m (o .answer) s) t
+            ∙ same-list a;
+        leaves =
+            subst (λ (x : Link). Leaves m o (newMarks m n x)) (sym f)
+            (subst (λ (x : Swept). Leaves m o (sweptMarks m n x (x .victim))) (sym is)
+            (subst (λ (x : Found). Leaves m o (sweptMarks m n s x)) (sym t) h));
+      })
+  pin-fine n _ (stuck e f z w t) l q = absurd (omega arith)
 
-  pin-pass : (n : PageName) (k : ℕ) → Probes m n o k → k ≤ 6 * buffers m → o .refusal ≡ 0 → Passes (pinTests m o (heldIn m n))
-  unfolding pinTests newTests sweptTests
-  pin-pass n _ (hit {b} e z a h) l q = subst (λ (x : Held). Passes (pinTests m o x)) (sym e) (same-list a & stays-pass h)
-  pin-pass n _ (free {i} e f z a h) l q =
-      subst (λ (x : Held). Passes (pinTests m o x)) (sym e)
-      (subst (λ (x : Link). Passes (newTests m o x)) (sym f) (same-list a & leaves-pass h))
-  pin-pass n _ (early a b) l q = absurd (a q)
-  pin-pass n _ (taken {s} {v} e f z w t a h) l q =
-      subst (λ (x : Held). Passes (pinTests m o x)) (sym e)
-      (subst (λ (x : Link). Passes (newTests m o x)) (sym f)
-      (subst (λ (x : Swept). Passes (sweptTests m o x (x .victim))) (sym (sweep-is (6 * buffers m) w l))
-      (subst (λ (x : Found). Passes (sweptTests m o s x)) (sym t) (same-list a & leaves-pass h))))
-  pin-pass n _ (stuck e f z w t) l q = absurd (omega arith)
+  peek-pass : (n : PageName) (x : Held) → heldIn m n ≡ x → Peeks m n o → peekTest m (o .answer) n x ≡ true
+  unfolding peekTest
+  peek-pass n (At b) e h = same-list (h .inPool b e)
+  peek-pass n Nowhere e h = if-place _ _ (λ g q. same-list (h .inStore g e q))
 
-  peeks-pass : (n : PageName) (x : Held) → heldIn m n ≡ x → Peeks m n o → peeksTest m o x ≡ true
-  unfolding peeksTest
-  peeks-pass n (At b) e h = same-list (h .inPool b e)
-  peeks-pass n Nowhere e h = eq-eqb _ _ (h .inStore e)
+  module _ (z : o .refusal ≡ 0) where
+    pinned : (n : PageName) → Published m (Pin n) o → PinFine n (heldIn m n)
+    pinned n h = let s = h .sought n refl in pin-fine n (s .probes) (s .looked) (s .bound) z
 
-  accepts-pass : (c : Call) → o .refusal ≡ 0 → Published m c o → Passes (acceptsTests m o c)
-  unfolding acceptsTests
-  accepts-pass (Pin n) z h = let s = h .0 n refl in pin-pass n (s .probes) (s .looked) (s .bound) z
-  accepts-pass (Unpin b) z h = stays-pass (h .1 z)
-  accepts-pass (Read b from out) z h = stays-pass (h .1 z)
-  accepts-pass (Write b from bytes at) z h = stays-pass (h .1 z)
-  accepts-pass (Flush b) z h = same-list (h .1 z .1) & stays-pass (h .1 z .0)
-  accepts-pass Checkpoint z h = same-list (h .1 z .1) & stays-pass (h .1 z .0)
-  accepts-pass (Peek n) z h = peeks-pass n (heldIn m n) refl (h .1 z .1) & stays-pass (h .1 z .0)
-  accepts-pass (Extend f) z h = stays-pass (h .1 z)
-  accepts-pass (Drop f) z h = leaves-pass (h .1 z)
-  accepts-pass (LogInserted p) z h = stays-pass (h .1 z)
-  accepts-pass (LogFlushed p) z h = stays-pass (h .1 z)
+    said-pass : (c : Call) → Published m c o → Passes (saidTests m (o .answer) c)
+    unfolding saidTests
+    said-pass (Pin n) h = pinned n h .said & all
+    said-pass (Unpin b) h = all
+    said-pass (Read b from out) h = all
+    said-pass (Write b from bytes at) h = all
+    said-pass (Flush b) h = same-list (h .accepts z .1) & all
+    said-pass Checkpoint h = same-list (h .accepts z .1) & all
+    said-pass (Peek n) h = peek-pass n (heldIn m n) refl (h .accepts z .1) & all
+    said-pass (Extend f) h = all
+    said-pass (Drop f) h = all
+    said-pass (LogInserted p) h = all
+    said-pass (LogFlushed p) h = all
 
-  published-pass : (r : ℕ) (c : Call) → o .refusal ≡ r → Published m c o → Passes (publishedTests m o r c)
-  unfolding publishedTests
-  published-pass zero c e h = accepts-pass c e h
-  published-pass (suc k) c e h = all
+    leaves-after : (c : Call) → Published m c o → Leaves m o (marksAfter m c)
+    unfolding marksAfter
+    leaves-after (Pin n) h = pinned n h .leaves
+    leaves-after (Unpin b) h = h .accepts z
+    leaves-after (Read b from out) h = h .accepts z
+    leaves-after (Write b from bytes at) h = h .accepts z
+    leaves-after (Flush b) h = h .accepts z .0
+    leaves-after Checkpoint h = h .accepts z .0
+    leaves-after (Peek n) h = h .accepts z .0
+    leaves-after (Extend f) h = h .accepts z
+    leaves-after (Drop f) h = h .accepts z
+    leaves-after (LogInserted p) h = h .accepts z
+    leaves-after (LogFlushed p) h = h .accepts z
+
+  module _ {k : Marks} (h : Leaves m o k) where
+    clock-pass : Passes (clockTests m o k)
+    unfolding clockTests
+    clock-pass =
+        and-true (eq-eqb _ _ (h .many)) (words-pass (h .alike)) & eq-eqb _ _ (h .alike .hand) & links-pass (h .alike) & all
+
+    name-pass : Passes (nameTests m o k)
+    unfolding nameTests
+    name-pass =
+        names-pass (h .alike)
+        & and-true (eq-eqb _ _ (h .wide)) (chains-pass (h .alike))
+        & all-of _ _ (λ i l. then-true (eqb (wordOf (o .after) i) 0) (λ t. starts-same _ _ _ _ _ _ (h .idle i l (eqb-true _ _ t))))
+        & all
+
+when-done : (r : ℕ) {ts : List Test} → (r ≡ 0 → Passes ts) → Passes (whenDone r ts)
+when-done zero h = h refl
+when-done (suc k) h = all
 
 -- ---- a list of calls
-pub judge-fine : (pool : Pool) (m : Lent) (l : Ledger) (cs : List Made) → ClaimFor pool m l cs → judge pool m l cs ≡ Fine
-unfolding judge
-judge-fine pool m l [] h = refl
-judge-fine pool m l (c ∷ cs) h =
-    let r = pool (c .call) m (own (c .call)) (c .answer) in
+calls-fine : (pool : Pool) (m : Lent) (l : Ledger) (cs : List Made) → ClaimFor pool m l cs → judgeCalls pool m l cs ≡ Fine
+unfolding judgeCalls
+calls-fine pool m l [] h = refl
+calls-fine pool m l (c ∷ cs) h =
+    let r = pool .calls (c .call) m (own (c .call)) (c .answer) in
+    let o = outcomeOf r in
     let l′ = ledgerAfter l (c .call) (r .answer) (r .result) in
-    none-fails _ (agrees-pass (h .0)) ∙ none-fails _ (left-pass m r l′ (h .1))
-    ∙ none-fails _ (published-pass (opened m) (outcomeOf r) (r .result) (c .call) refl (h .2))
-    ∙ judge-fine pool (r .lent) l′ cs (h .3)
+    let left : r .result ≡ 0 → Leaves (opened m) o (marksAfter (opened m) (c .call)) =
+    λ z. leaves-after (opened m) o z (c .call) (h .2) in
+    none-fails _ (agrees-pass (h .0))
+    ∙ none-fails _ (when-done (r .result) (λ z. said-pass (opened m) o z (c .call) (h .2)))
+    ∙ none-fails _ (when-done (r .result) (λ z. clock-pass (opened m) o (left z)))
+    ∙ none-fails _ (left-pass m r l′ (h .1))
+    ∙ none-fails _ (when-done (r .result) (λ z. name-pass (opened m) o (left z)))
+    ∙ calls-fine pool (r .lent) l′ cs (h .3)
+
+-- ---- a set up, and a list of calls
+if-accepted : (r : ℕ) {v : Verdict} → (r ≡ 0 → v ≡ Fine) → ifAccepted r v ≡ Fine
+if-accepted zero h = h refl
+if-accepted (suc k) h = refl
+
+pub judge-fine : (pool : Pool) → Demand3For pool → (m : Lent) (p at : ℕ) (answer : List ℕ) (calls : List Made) → FitsLent m
+    → p < 2 ^ 64 → at < 2 ^ 64 → length answer ≡ answerWords → FitsMade calls
+    → judge pool m p at answer calls ≡ Fine
+unfolding judge
+judge-fine pool d m p at answer calls fits q w long made =
+    let r = pool .setsUp p at m answer in
+    let h = d m p at answer calls fits q w long made in
+    none-fails _ (set-up-pass m p at r (h .0))
+    ∙ if-accepted (r .result) (λ z. calls-fine pool (r .lent) (firstLedger (opened m) p at) calls (h .1 z))

@@ -74,5 +74,6 @@ pub mod OnePool
 -- the numbers of what the statement and the pool both use
 pub mod Numbers
 -- the statement as a test, and the wrong pools that it shuts out
+pub mod TestLaws
 pub mod JudgeLaws
 pub mod ShutOut

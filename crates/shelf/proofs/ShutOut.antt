@@ -9,23 +9,19 @@ use lib.ListN.{getD}
 use lib.IntN.{ℤ}
 use lib.Signed.{mag}
 use lib.Dec.{ltb}
-use borrow.Author.Tests.{ltb-true, eqb-true}
+use borrow.Author.Tests.{ltb-true}
 use Rattle.laws.proofs.Tests.{and-left, and-right}
 use Rattle.buftag.specs.declared.name.FileName.{FileName}
 use Rattle.buftag.specs.declared.name.PageName.{PageName}
 use Rattle.buftag.specs.Name.{FitsFile, Fits}
 use Rattle.bufmodel.specs.Outcome.{zeros}
 use Rattle.bufmodel.specs.Step.{Call, Pin, Unpin, Read, Write, Flush, Checkpoint, Peek, Extend, Drop, LogInserted, LogFlushed, step}
-use Rattle.bufmodel.specs.Lent.{Lent, opened}
-use Rattle.shelf.specs.Ledger.{firstLedger}
+use Rattle.bufmodel.specs.Lent.{Lent}
 use Rattle.shelf.specs.Statement.{Below, Signed, FitsLent, FitsCall, FitsMade, Pool, calling, Demand3For, Demand3}
-use Rattle.shelf.specs.Judge.{Clause, Verdict, Fine, Fails}
+use Rattle.shelf.specs.Tests.{Clause, Verdict, Fine, Fails}
 use Rattle.shelf.specs.Trial.{
-  size,
-  log,
-  bench,
+  Wrong,
   made,
-  setUpOn,
   verdict,
   every,
   allBelow,
@@ -37,7 +33,7 @@ use Rattle.shelf.specs.Trial.{
   fitsCalls,
   fits,
 }
-use Rattle.shelf.specs.WrongPools.{Wrong, wrongPools}
+use Rattle.shelf.specs.WrongPools.{wrongPools}
 use Rattle.shelf.proofs.JudgeLaws.{judge-fine}
 
 -- ---- what the statement assumes holds where its test passes
@@ -113,17 +109,17 @@ fits-calls (c ∷ cs) h =
     (fits-call c (and-left (fitsCall c) (fitsCalls cs) h), refl, fits-calls cs (and-right (fitsCall c) (fitsCalls cs) h))
 
 -- ---- a pool that meets the statement passes every trial, and one that fails does not meet it
-pub passes : (pool : Pool) → Demand3For pool → (n : ℕ) (calls : List Call) → fits n calls ≡ true → verdict pool n calls ≡ Fine
+pub passes : (pool : Pool) → Demand3For pool → (m : Lent) (p at : ℕ) (calls : List Call) → fits m p at calls ≡ true
+    → verdict pool m p at calls ≡ Fine
 unfolding verdict fits
-passes pool d n calls h =
+passes pool d m p at calls h =
     let test = each _ h in
-    judge-fine pool (setUpOn n .lent) (firstLedger (opened (bench n)) size log) (map made calls)
-    (d (bench n) size log zeros (map made calls) (fits-lent (bench n) (test 0)) (omega arith) (omega arith) refl
-    (fits-calls calls (test 2)) (eqb-true _ _ (test 1)))
+    judge-fine pool d m p at zeros (map made calls) (fits-lent m (test 0)) (ltb-true _ _ (test 1)) (ltb-true _ _ (test 2)) refl
+    (fits-calls calls (test 3))
 
-pub refuted : (pool : Pool) (n : ℕ) (calls : List Call) {c : Clause} → fits n calls ≡ true → verdict pool n calls ≡ Fails c
-    → Demand3For pool → ⊥
-refuted pool n calls h e d = let f = passes pool d n calls h in let z : _≡_ {A = ℕ} 0 1 = cc in omega arith
+pub refuted : (pool : Pool) (m : Lent) (p at : ℕ) (calls : List Call) {c : Clause} → fits m p at calls ≡ true
+    → verdict pool m p at calls ≡ Fails c → Demand3For pool → ⊥
+refuted pool m p at calls h e d = let f = passes pool d m p at calls h in let z : _≡_ {A = ℕ} 0 1 = cc in omega arith
 
 -- ---- all that the trials compute with, each definition after those that it uses
 computes : Unit {0}
@@ -185,29 +181,35 @@ unfolding Rattle.laws.specs.Every.all Rattle.laws.specs.Every.any Rattle.laws
     Rattle.shelf.specs.Ledger.highest Rattle.shelf.specs.Ledger.saidFlushed Rattle.shelf.specs.Ledger.flushedAfter
     Rattle.shelf.specs.Ledger.acceptedBy Rattle.shelf.specs.Ledger.ledgerAfter Rattle.shelf.specs.Ledger.puts
     Rattle.shelf.specs.Published.morePins Rattle.shelf.specs.Published.dirtied Rattle.shelf.specs.Published.cleaned
-    Rattle.shelf.specs.Published.filed Rattle.shelf.specs.Published.topAfter Rattle.shelf.specs.Judge.failing
-    Rattle.shelf.specs.Judge.sameList Rattle.shelf.specs.Judge.sameLinks Rattle.shelf.specs.Judge.sameLent
-    Rattle.shelf.specs.Judge.start Rattle.shelf.specs.Judge.answersTest Rattle.shelf.specs.Judge.pinRuleTest
-    Rattle.shelf.specs.Judge.showsTest Rattle.shelf.specs.Judge.sixAt Rattle.shelf.specs.Judge.sixTest
-    Rattle.shelf.specs.Judge.settledAll Rattle.shelf.specs.Judge.settledTest Rattle.shelf.specs.Judge.orderedTest
-    Rattle.shelf.specs.Judge.othersTest Rattle.shelf.specs.Judge.agreesTests Rattle.shelf.specs.Judge.leftTests
-    Rattle.shelf.specs.Judge.leavesTests Rattle.shelf.specs.Judge.staysTests Rattle.shelf.specs.Judge.sweptTests
-    Rattle.shelf.specs.Judge.newTests Rattle.shelf.specs.Judge.pinTests Rattle.shelf.specs.Judge.peeksTest
-    Rattle.shelf.specs.Judge.acceptsTests Rattle.shelf.specs.Judge.publishedTests Rattle.shelf.specs.Judge.judge
-    Rattle.shelf.specs.Trial.blocks Rattle.shelf.specs.Trial.bench Rattle.shelf.specs.Trial.verdict
-    Rattle.shelf.specs.Trial.every Rattle.shelf.specs.Trial.allBelow Rattle.shelf.specs.Trial.allSigned
-    Rattle.shelf.specs.Trial.fitsLent Rattle.shelf.specs.Trial.fitsFile Rattle.shelf.specs.Trial.fitsName
-    Rattle.shelf.specs.Trial.fitsCall Rattle.shelf.specs.Trial.fitsCalls Rattle.shelf.specs.Trial.fits
-    Rattle.shelf.specs.WrongPools.lowersFirst Rattle.shelf.specs.WrongPools.wrongPools
+    Rattle.shelf.specs.Published.emptied Rattle.shelf.specs.Published.loadedInto Rattle.shelf.specs.Published.filed
+    Rattle.shelf.specs.Published.droppedTo Rattle.shelf.specs.Tests.failing Rattle.shelf.specs.Tests.sameList
+    Rattle.shelf.specs.Tests.sameLinks Rattle.shelf.specs.Tests.sameLent Rattle.shelf.specs.Tests.start
+    Rattle.shelf.specs.Tests.wordsTest Rattle.shelf.specs.Tests.namesTest Rattle.shelf.specs.Tests.linksTest
+    Rattle.shelf.specs.Tests.chainsTest Rattle.shelf.specs.Judge.freshTest Rattle.shelf.specs.Judge.setUpTests
+    Rattle.shelf.specs.Judge.answersTest Rattle.shelf.specs.Judge.pinRuleTest Rattle.shelf.specs.Judge.showsTest
+    Rattle.shelf.specs.Judge.sixAt Rattle.shelf.specs.Judge.sixTest Rattle.shelf.specs.Judge.settledAll
+    Rattle.shelf.specs.Judge.settledTest Rattle.shelf.specs.Judge.orderedTest Rattle.shelf.specs.Judge.othersTest
+    Rattle.shelf.specs.Judge.storedTest Rattle.shelf.specs.Judge.heldTest Rattle.shelf.specs.Judge.agreesTests
+    Rattle.shelf.specs.Judge.leftTests Rattle.shelf.specs.Judge.sweptMarks Rattle.shelf.specs.Judge.newMarks
+    Rattle.shelf.specs.Judge.pinMarks Rattle.shelf.specs.Judge.marksAfter Rattle.shelf.specs.Judge.sweptTest
+    Rattle.shelf.specs.Judge.newTest Rattle.shelf.specs.Judge.pinTest Rattle.shelf.specs.Judge.peekTest
+    Rattle.shelf.specs.Judge.saidTests Rattle.shelf.specs.Judge.clockTests Rattle.shelf.specs.Judge.nameTests
+    Rattle.shelf.specs.Judge.judgeCalls Rattle.shelf.specs.Judge.judge Rattle.shelf.specs.Trial.blocks
+    Rattle.shelf.specs.Trial.bench Rattle.shelf.specs.Trial.verdict Rattle.shelf.specs.Trial.every
+    Rattle.shelf.specs.Trial.allBelow Rattle.shelf.specs.Trial.allSigned Rattle.shelf.specs.Trial.fitsLent
+    Rattle.shelf.specs.Trial.fitsFile Rattle.shelf.specs.Trial.fitsName Rattle.shelf.specs.Trial.fitsCall
+    Rattle.shelf.specs.Trial.fitsCalls Rattle.shelf.specs.Trial.fits Rattle.shelf.specs.WrongCalls.wrongCalls
+    Rattle.shelf.specs.WrongBooks.lowersFirst Rattle.shelf.specs.WrongBooks.wrongBooks
+    Rattle.shelf.specs.WrongLent.wrongLent Rattle.shelf.specs.WrongPools.wrongPools
 computes = tt
 
 -- ---- the wrong pools of the list
 -- a pool on the trial of an entry, and that this is a trial
 abbrev pub tried : Pool → Wrong → Verdict
-tried pool w = verdict pool (w .buffers) (w .calls)
+tried pool w = verdict pool (w .lent) (w .size) (w .log) (w .calls)
 
 abbrev isTrial : Wrong → Bool
-isTrial w = fits (w .buffers) (w .calls)
+isTrial w = fits (w .lent) (w .size) (w .log) (w .calls)
 
 all-trials : every (map isTrial wrongPools) ≡ true
 unfolding computes
@@ -227,8 +229,10 @@ all-shut : (ws : List Wrong) → every (map isTrial ws) ≡ true → map (λ w. 
 unfolding every
 all-shut [] h e = tt
 all-shut (w ∷ ws) h e =
-    let here : tried (w .pool) w ≡ Fails (w .refusedBy) = cc in
-    (refuted (w .pool) (w .buffers) (w .calls) (and-left (isTrial w) _ h) here, all-shut ws (and-right (isTrial w) _ h) (cc))
+    let here : tried (w .pool) w ≡ Fails (w .refusedBy) = cc in (
+      refuted (w .pool) (w .lent) (w .size) (w .log) (w .calls) (and-left (isTrial w) _ h) here,
+      all-shut ws (and-right (isTrial w) _ h) (cc),
+    )
 
 -- WRONG POOLS ARE SHUT OUT
 pub shut-out : AllShut wrongPools
@@ -243,7 +247,7 @@ all-fine : (pool : Pool) → Demand3For pool → (ws : List Wrong) → every (ma
 unfolding every
 all-fine pool d [] h = tt
 all-fine pool d (w ∷ ws) h =
-    (passes pool d (w .buffers) (w .calls) (and-left (isTrial w) _ h), all-fine pool d ws (and-right (isTrial w) _ h))
+    (passes pool d (w .lent) (w .size) (w .log) (w .calls) (and-left (isTrial w) _ h), all-fine pool d ws (and-right (isTrial w) _ h))
 
 pub right-passes : Demand3 → AllFine (calling step) wrongPools
 right-passes d = all-fine (calling step) d wrongPools all-trials

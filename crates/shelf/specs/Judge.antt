@@ -1,10 +1,9 @@
--- The statement of demand 3 as a test: of a pool and a list of calls, the first clause that fails. One test for each clause, which passes
--- where the clause holds.
-use Prim.Native.Nat.{ℕ, zero, suc, _+_, _-_, _*_, min}
+-- The statement of demand 3 as a test: of a pool, a set up and a list of calls, the first clause that fails. One test for each clause,
+-- which passes where the clause holds.
+use Prim.Native.Nat.{ℕ, zero, suc, _+_, _-_, _*_}
 use mathlib.Core.Bool.{Bool, true, false, not, _&&_, _||_, cond, Bool·beq}
 use mathlib.Core.List.{List, [], _∷_}
 use lib.ListN.{length, getD, take, drop}
-use lib.IntN.{ℤ, pos, negsuc}
 use lib.Dec.{eqb, leb, ltb}
 use Rattle.laws.specs.Every.{all}
 use Rattle.laws.specs.Sum.{count}
@@ -12,14 +11,16 @@ use Rattle.laws.specs.First.{Found, found, missing}
 use Rattle.laws.specs.Block.{block}
 use Rattle.buftag.specs.declared.link.Link.{Link}
 use Rattle.buftag.specs.declared.link.Link.the-variants.{To, End, Off, Bad}
-use Rattle.buftag.specs.declared.lookup.Held.{Held}
+use Rattle.buftag.specs.declared.lookup.Held.{Held as HeldAt}
 use Rattle.buftag.specs.declared.lookup.Held.the-variants.{At, Nowhere}
-use Rattle.buftag.specs.Link.{numberAt, linkOf}
+use Rattle.buftag.specs.declared.name.PageName.{PageName}
+use Rattle.buftag.specs.Link.{linkOf}
 use Rattle.bufmodel.specs.Word.{dirty}
 use Rattle.bufmodel.specs.Position.{position}
 use Rattle.bufmodel.specs.Rows.{files, blocksAt, rowOf, startOf, storeBlocks, placeOf}
-use Rattle.bufmodel.specs.Memory.{Memory, buffers, size, wordOf}
-use Rattle.bufmodel.specs.Books.{isFound}
+use Rattle.bufmodel.specs.Memory.{Memory, buffers, size, wordOf, nameOf}
+use Rattle.bufmodel.specs.Sizes.{sizedFor}
+use Rattle.bufmodel.specs.Books.{isFound, sound}
 use Rattle.bufmodel.specs.Sweep.{Swept, sweep}
 use Rattle.bufmodel.specs.Outcome.{Outcome, zeros, one, two}
 use Rattle.bufmodel.specs.Pin.{heldIn}
@@ -27,81 +28,87 @@ use Rattle.bufmodel.specs.Calls.{part}
 use Rattle.bufmodel.specs.Step.{Call, Pin, Unpin, Read, Write, Flush, Checkpoint, Peek, Extend, Drop, LogInserted, LogFlushed}
 use Rattle.bufmodel.specs.Lent.{Lent, Called, answerWords, opened}
 use Rattle.shelf.specs.Shelf.{Shelf, with, firstOf, hasPins, pinnedPages, above, refuses}
-use Rattle.shelf.specs.Ledger.{Ledger, isPlace, bufferIn, ledgerAfter, puts}
-use Rattle.shelf.specs.Published.{morePins, dirtied, cleaned, justLoaded, unlisted, freeLink, filed, topAfter}
-use Rattle.shelf.specs.Statement.{Pool, Made, own, outcomeOf}
+use Rattle.shelf.specs.Ledger.{Ledger, firstLedger, isPlace, bufferIn, ledgerAfter, puts}
+use Rattle.shelf.specs.Published.{Marks, marksOf, withWords, morePins, dirtied, cleaned, emptied, loaded, droppedTo}
+use Rattle.shelf.specs.Statement.{Pool, Made, own, outcomeOf, topWord, freshMarks}
+use Rattle.shelf.specs.Tests.{
+  Accepted,
+  Fresh,
+  Begun,
+  Untouched,
+  Refused,
+  Zeros,
+  Neither,
+  Six,
+  Number,
+  Answers,
+  Shows,
+  Blank,
+  Kept,
+  Rows,
+  Inserted,
+  Flushed,
+  Ordered,
+  Others,
+  Long,
+  Settled,
+  Stored,
+  Held,
+  Same,
+  Control,
+  Sizes,
+  Books,
+  Probes,
+  Counts,
+  Part,
+  Words,
+  Hand,
+  FreeList,
+  Names,
+  Chains,
+  Idle,
+  Verdict,
+  Fine,
+  Test,
+  test,
+  failing,
+  ifDone,
+  ifRefused,
+  atPlace,
+  ifPlace,
+  sameList,
+  sameLent,
+  some,
+  start,
+  wordsTest,
+  namesTest,
+  linksTest,
+  chainsTest,
+}
 
--- the clauses
-pub data Clause : Type 0 where
-  -- of `Agrees`
-  Neither Six Number Answers Shows Blank Kept Rows Inserted Flushed Ordered Others Long Settled : Clause
-  -- of `Left`
-  Same Control : Clause
-  -- of `Published`: a pin's answer; state words, hand, free list; the count written, the part that a peek hands back
-  Probes Words Hand FreeList Counts Part : Clause
+-- ---- SetsUp
+unfoldable pub freshTest : Lent → ℕ → Lent → Bool
+freshTest m p k =
+    let n = length (m .states) in
+    let b = length (m .heads) in
+    let now = marksOf (opened k) in
+    eqb (length (k .states)) n && eqb (length (k .heads)) b && sizedFor p (opened k) && wordsTest n b now (freshMarks n)
+    && namesTest n b now (freshMarks n)
+    && linksTest n b now (freshMarks n)
+    && chainsTest n b now (freshMarks n)
 
--- none fails, or the first that does
-pub data Verdict : Type 0 where
-  Fine : Verdict
-  Fails : Clause → Verdict
-
-pub record Test : Type 0 where
-  pub clause : Clause
-  pub passes : Bool
-
-abbrev pub test : Clause → Bool → Test
-test c t = record { clause = c; passes = t }
-
--- the first that fails, or what comes later
-unfoldable pub failing : List Test → Verdict → Verdict
-failing [] later = later
-failing (t ∷ ts) later = let on = failing ts later in cond (t .passes) on (Fails (t .clause))
-
--- ---- a test for an accepted call, for a refused one, for a place that has to be found
-abbrev pub ifDone : ℕ → Bool → Bool
-ifDone zero t = t
-ifDone (suc k) t = true
-
-abbrev pub ifRefused : ℕ → Bool → Bool
-ifRefused zero t = true
-ifRefused (suc k) t = t
-
-abbrev pub atPlace : Found → (ℕ → Bool) → Bool
-atPlace (found g) t = t g
-atPlace missing t = false
-
--- ---- equal lists, links, lent memories
-unfoldable pub sameList : List ℕ → List ℕ → Bool
-sameList [] [] = true
-sameList [] (y ∷ ys) = false
-sameList (x ∷ xs) [] = false
-sameList (x ∷ xs) (y ∷ ys) = eqb x y && sameList xs ys
-
-abbrev pub sameLink : ℤ → ℤ → Bool
-sameLink (pos i) (pos j) = eqb i j
-sameLink (pos i) (negsuc j) = false
-sameLink (negsuc i) (pos j) = false
-sameLink (negsuc i) (negsuc j) = eqb i j
-
-unfoldable pub sameLinks : List ℤ → List ℤ → Bool
-sameLinks [] [] = true
-sameLinks [] (y ∷ ys) = false
-sameLinks (x ∷ xs) [] = false
-sameLinks (x ∷ xs) (y ∷ ys) = sameLink x y && sameLinks xs ys
-
-unfoldable pub sameLent : Lent → Lent → Bool
-sameLent a b =
-    sameList (a .control) (b .control) && sameList (a .states) (b .states) && sameList (a .names) (b .names)
-    && sameLinks (a .free) (b .free)
-    && sameLinks (a .heads) (b .heads)
-    && sameLinks (a .chain) (b .chain)
-    && sameList (a .rows) (b .rows)
-    && sameList (a .pool) (b .pool)
-    && sameList (a .store) (b .store)
-
--- the first bytes of block g, its log position among them
-unfoldable pub start : ℕ → ℕ → List ℕ → List ℕ
-start p g xs = take (min 16 p) (drop (g * p) xs)
+unfoldable pub setUpTests : Lent → ℕ → ℕ → Called → List Test
+setUpTests m p at r =
+    test Accepted (Bool·beq (eqb (r .result) 0) (sizedFor p (opened m) && eqb (length (m .control)) 5))
+    ∷ test Fresh (ifDone (r .result) (freshTest m p (r .lent)))
+    ∷ test Begun (ifDone (r .result) (sameList (r .lent .control) (p ∷ 0 ∷ 0 ∷ at ∷ at ∷ [])))
+    ∷ test Untouched
+    (ifDone (r .result)
+    (sameList (take some (r .lent .pool)) (take some (m .pool)) && sameList (r .lent .rows) (m .rows)
+    && sameList (take some (r .lent .store)) (take some (m .store))))
+    ∷ test Refused (ifRefused (r .result) (eqb (r .result) 1 && sameLent (r .lent) m))
+    ∷ test Zeros (sameList (r .answer) zeros && sameList (r .bytes) [])
+    ∷ []
 
 -- ---- Agrees
 unfoldable pub answersTest : List ℕ → Call → Bool
@@ -124,14 +131,16 @@ module _ (s : Shelf) (o : Outcome) where
       ltb b (s .buffers) && cond (hasPins s g) (isPlace (s .holds b) g) (not (isFound (s .holds b)))
 
   unfoldable pub showsTest : Call → Bool
-  showsTest (Pin n) = atPlace (placeOf (s .rows) n) pinRuleTest
+  showsTest (Pin n) = atPlace (placeOf (s .rows) n) pinRuleTest && sameList (o .bytes) []
   showsTest (Unpin b) = sameList (o .bytes) []
   showsTest (Read b from out) = atPlace (s .holds b) (λ g. sameList (o .bytes) (take (length out) (drop from (s .bytes g))))
   showsTest (Write b from bytes at) = sameList (o .bytes) bytes
   showsTest (Flush b) = sameList (o .bytes) []
   showsTest Checkpoint = sameList (o .bytes) []
-  showsTest (Peek n) = atPlace (placeOf (s .rows) n) (λ g. sameList (part o) (s .bytes g))
-  showsTest (Extend f) = atPlace (rowOf (s .rows) f) (λ r. eqb (getD (o .answer) 0 0) (blocksAt (s .rows) r))
+  showsTest (Peek n) =
+      atPlace (placeOf (s .rows) n) (λ g. sameList (take some (part o)) (take some (s .bytes g))) && sameList (o .bytes) []
+  showsTest (Extend f) =
+      atPlace (rowOf (s .rows) f) (λ r. eqb (getD (o .answer) 0 0) (blocksAt (s .rows) r)) && sameList (o .bytes) []
   showsTest (Drop f) = sameList (o .bytes) []
   showsTest (LogInserted p) = sameList (o .bytes) []
   showsTest (LogFlushed p) = sameList (o .bytes) []
@@ -157,7 +166,7 @@ module _ (s : Shelf) (o : Outcome) where
   unfoldable pub settledAll : Bool
   settledAll =
       all (files (s .rows)) (λ r. all (blocksAt (s .rows) r) (λ b. let g = startOf (s .rows) r + b in
-      sameList (start (s .size) g (o .after .store)) (take (min 16 (s .size)) (s .bytes g))))
+      sameList (start (s .size) g (o .after .store)) (take some (s .bytes g))))
 
   unfoldable pub settledTest : Call → Bool
   settledTest (Pin n) = true
@@ -184,6 +193,19 @@ module _ (m : Memory) (l : Ledger) (c : Call) (o : Outcome) (l′ : Ledger) wher
       (λ g. puts l c (o .answer) (o .refusal) g
       || sameList (start (l .shelf .size) g (o .after .store)) (start (l .shelf .size) g (m .store)))
 
+  unfoldable pub storedTest : Bool
+  storedTest =
+      all (storeBlocks (l .shelf .rows))
+      (λ g. not (puts l c (o .answer) (o .refusal) g)
+      || sameList (start (l .shelf .size) g (o .after .store)) (take some (l′ .shelf .bytes g)))
+
+  unfoldable pub heldTest : Bool
+  heldTest =
+      all (buffers (o .after))
+      (λ i. eqb (wordOf (o .after) i) 0
+      || ifPlace (placeOf (o .after .rows) (nameOf (o .after) i))
+      (λ g. sameList (start (size (o .after)) i (o .after .pool)) (take some (l′ .shelf .bytes g))))
+
   -- what `Neither` and `Six` say follows from `Number`: they stand before it
   unfoldable pub agreesTests : List Test
   agreesTests =
@@ -201,85 +223,138 @@ module _ (m : Memory) (l : Ledger) (c : Call) (o : Outcome) (l′ : Ledger) wher
       ∷ test Others othersTest
       ∷ test Long (eqb (length (o .after .store)) (length (m .store)))
       ∷ test Settled (ifDone (o .refusal) (settledTest (l .shelf) o c))
+      ∷ test Stored storedTest
+      ∷ test Held heldTest
       ∷ []
 
 -- ---- Left
 unfoldable pub leftTests : Lent → Called → Ledger → List Test
 leftTests m r l′ =
+    let k = opened (r .lent) in
     test Same (ifRefused (r .result) (sameLent (r .lent) m))
     ∷ test Control
     (sameList (r .lent .control)
-    (l′ .shelf .size ∷ opened (r .lent) .control .hand ∷ getD (r .lent .control) 2 0 ∷ l′ .shelf .inserted ∷ l′ .flushed ∷ []))
+    (l′ .shelf .size ∷ k .control .hand ∷ topWord (k .control .top) ∷ l′ .shelf .inserted ∷ l′ .flushed ∷ []))
+    ∷ test Sizes (sizedFor (l′ .shelf .size) k)
+    ∷ test Books (sound k)
     ∷ []
 
 -- ---- Published
-module _ (m : Memory) (o : Outcome) where
-  unfoldable pub leavesTests : (ℕ → ℕ) → ℕ → (ℕ → ℤ) → ℤ → List Test
-  leavesTests word at link first =
-      test Words (eqb (buffers (o .after)) (buffers m) && all (buffers m) (λ i. eqb (wordOf (o .after) i) (word i)))
-      ∷ test Hand (eqb (o .after .control .hand) at)
-      ∷ test FreeList (sameLink (o .after .control .top) first && all (buffers m) (λ i. sameLink (numberAt (o .after .free) i) (link i)))
-      ∷ []
+module _ (m : Memory) where
+  abbrev pub sweepOf : Swept
+  sweepOf = sweep (6 * buffers m) (buffers m) 0 0 (m .control .hand) (m .states)
 
-  unfoldable pub staysTests : (ℕ → ℕ) → List Test
-  staysTests word = leavesTests word (m .control .hand) (freeLink m) (m .control .top)
+  -- the marks that a call leaves where it is accepted. A pin: the sweep's victim; the free list's top; the buffer that has the page
+  abbrev pub otherWords : (ℕ → ℕ) → Marks
+  otherWords word = withWords word (m .control .hand) (marksOf m)
 
-  -- a pin: the sweep's victim; the free list's top; the buffer that has the page
-  unfoldable pub sweptTests : Swept → Found → List Test
-  sweptTests s (found v) =
-      test Probes (sameList (o .answer) (v ∷ 0 ∷ cond (dirty (wordOf m v)) 1 0 ∷ s .probes ∷ []))
-      ∷ leavesTests (with v justLoaded (λ i. getD (s .words) i 0)) (s .hand) (with v unlisted (freeLink m)) (m .control .top)
-  sweptTests s missing = test Probes false ∷ []
+  unfoldable pub sweptMarks : PageName → Swept → Found → Marks
+  sweptMarks n s (found v) = loaded m n v (emptied v (withWords (λ i. getD (s .words) i 0) (s .hand) (marksOf m)))
+  sweptMarks n s missing = marksOf m
 
-  unfoldable pub newTests : Link → List Test
-  newTests (To i) =
-      test Probes (sameList (o .answer) (i ∷ 0 ∷ 0 ∷ 0 ∷ []))
-      ∷ leavesTests (with i justLoaded (wordOf m)) (m .control .hand) (with i unlisted (freeLink m)) (freeLink m i)
-  newTests End =
-      let s = sweep (6 * buffers m) (buffers m) 0 0 (m .control .hand) (m .states) in
-      sweptTests s (s .victim)
-  newTests Off = test Probes false ∷ []
-  newTests Bad = test Probes false ∷ []
+  unfoldable pub newMarks : PageName → Link → Marks
+  newMarks n (To i) = loaded m n i (marksOf m)
+  newMarks n End = sweptMarks n sweepOf (sweepOf .victim)
+  newMarks n Off = marksOf m
+  newMarks n Bad = marksOf m
 
-  unfoldable pub pinTests : Held → List Test
-  pinTests (At b) =
-      test Probes (sameList (o .answer) (b .0 ∷ 1 ∷ 0 ∷ 0 ∷ [])) ∷ staysTests (with (b .0) (morePins (wordOf m (b .0))) (wordOf m))
-  pinTests Nowhere = newTests (linkOf (m .control .top))
+  unfoldable pub pinMarks : PageName → HeldAt → Marks
+  pinMarks n (At b) = otherWords (with (b .0) (morePins (wordOf m (b .0))) (wordOf m))
+  pinMarks n Nowhere = newMarks n (linkOf (m .control .top))
 
-  unfoldable pub peeksTest : Held → Bool
-  peeksTest (At b) = sameList (o .answer) (two 1 (b .0 * size m))
-  peeksTest Nowhere = eqb (getD (o .answer) 0 0) 0
+  unfoldable pub marksAfter : Call → Marks
+  marksAfter (Pin n) = pinMarks n (heldIn m n)
+  marksAfter (Unpin b) = otherWords (with b (wordOf m b - 1) (wordOf m))
+  marksAfter (Read b from out) = otherWords (wordOf m)
+  marksAfter (Write b from bytes at) = otherWords (with b (dirtied (wordOf m b)) (wordOf m))
+  marksAfter (Flush b) = otherWords (with b (cleaned (wordOf m b)) (wordOf m))
+  marksAfter Checkpoint = otherWords (λ i. cleaned (wordOf m i))
+  marksAfter (Peek n) = otherWords (wordOf m)
+  marksAfter (Extend f) = otherWords (wordOf m)
+  marksAfter (Drop f) = droppedTo m f (buffers m)
+  marksAfter (LogInserted p) = otherWords (wordOf m)
+  marksAfter (LogFlushed p) = otherWords (wordOf m)
 
-  unfoldable pub acceptsTests : Call → List Test
-  acceptsTests (Pin n) = pinTests (heldIn m n)
-  acceptsTests (Unpin b) = staysTests (with b (wordOf m b - 1) (wordOf m))
-  acceptsTests (Read b from out) = staysTests (wordOf m)
-  acceptsTests (Write b from bytes at) = staysTests (with b (dirtied (wordOf m b)) (wordOf m))
-  acceptsTests (Flush b) =
-      test Counts (sameList (o .answer) (one (cond (dirty (wordOf m b)) 1 0)))
-      ∷ staysTests (with b (cleaned (wordOf m b)) (wordOf m))
-  acceptsTests Checkpoint =
-      test Counts (sameList (o .answer) (one (count (buffers m) (λ i. dirty (wordOf m i))))) ∷ staysTests (λ i. cleaned (wordOf m i))
-  acceptsTests (Peek n) = test Part (peeksTest (heldIn m n)) ∷ staysTests (wordOf m)
-  acceptsTests (Extend f) = staysTests (wordOf m)
-  acceptsTests (Drop f) =
-      leavesTests (λ i. cond (filed m f i) 0 (wordOf m i)) (m .control .hand)
-      (λ i. cond (filed m f i) (topAfter m f i) (freeLink m i))
-      (topAfter m f (buffers m))
-  acceptsTests (LogInserted p) = staysTests (wordOf m)
-  acceptsTests (LogFlushed p) = staysTests (wordOf m)
+  -- what it answers
+  module _ (a : List ℕ) where
+    unfoldable pub sweptTest : Swept → Found → Bool
+    sweptTest s (found v) = sameList a (v ∷ 0 ∷ cond (dirty (wordOf m v)) 1 0 ∷ s .probes ∷ [])
+    sweptTest s missing = false
 
-  unfoldable pub publishedTests : ℕ → Call → List Test
-  publishedTests zero c = acceptsTests c
-  publishedTests (suc k) c = []
+    unfoldable pub newTest : Link → Bool
+    newTest (To i) = sameList a (i ∷ 0 ∷ 0 ∷ 0 ∷ [])
+    newTest End = sweptTest sweepOf (sweepOf .victim)
+    newTest Off = false
+    newTest Bad = false
 
--- ---- a list of calls
-unfoldable pub judge : Pool → Lent → Ledger → List Made → Verdict
-judge pool m l [] = Fine
-judge pool m l (c ∷ cs) =
-    let r = pool (c .call) m (own (c .call)) (c .answer) in
+    unfoldable pub pinTest : HeldAt → Bool
+    pinTest (At b) = sameList a (b .0 ∷ 1 ∷ 0 ∷ 0 ∷ [])
+    pinTest Nowhere = newTest (linkOf (m .control .top))
+
+    unfoldable pub peekTest : PageName → HeldAt → Bool
+    peekTest n (At b) = sameList a (two 1 (b .0 * size m))
+    peekTest n Nowhere = ifPlace (placeOf (m .rows) n) (λ g. sameList a (two 0 (g * size m)))
+
+    unfoldable pub saidTests : Call → List Test
+    saidTests (Pin n) = test Probes (pinTest (heldIn m n)) ∷ []
+    saidTests (Unpin b) = []
+    saidTests (Read b from out) = []
+    saidTests (Write b from bytes at) = []
+    saidTests (Flush b) = test Counts (sameList a (one (cond (dirty (wordOf m b)) 1 0))) ∷ []
+    saidTests Checkpoint = test Counts (sameList a (one (count (buffers m) (λ i. dirty (wordOf m i))))) ∷ []
+    saidTests (Peek n) = test Part (peekTest n (heldIn m n)) ∷ []
+    saidTests (Extend f) = []
+    saidTests (Drop f) = []
+    saidTests (LogInserted p) = []
+    saidTests (LogFlushed p) = []
+
+  -- what it leaves: the clock and the free list; names, chains and pages of empty buffers
+  module _ (o : Outcome) (k : Marks) where
+    unfoldable pub clockTests : List Test
+    clockTests =
+        let now = marksOf (o .after) in
+        test Words (eqb (buffers (o .after)) (buffers m) && wordsTest (buffers m) (length (m .heads)) now k)
+        ∷ test Hand (eqb (now .hand) (k .hand))
+        ∷ test FreeList (linksTest (buffers m) (length (m .heads)) now k)
+        ∷ []
+
+    unfoldable pub nameTests : List Test
+    nameTests =
+        let now = marksOf (o .after) in
+        test Names (namesTest (buffers m) (length (m .heads)) now k)
+        ∷ test Chains (eqb (length (o .after .heads)) (length (m .heads)) && chainsTest (buffers m) (length (m .heads)) now k)
+        ∷ test Idle
+        (all (buffers m) (λ i. not (eqb (wordOf (o .after) i) 0)
+        || sameList (start (size (o .after)) i (o .after .pool)) (start (size m) i (m .pool))))
+        ∷ []
+
+-- tests of accepted calls alone
+abbrev pub whenDone : ℕ → List Test → List Test
+whenDone zero ts = ts
+whenDone (suc k) ts = []
+
+-- ---- the verdict
+-- on a list of calls. What `Books` says follows from all the others: it stands before names and chains
+unfoldable pub judgeCalls : Pool → Lent → Ledger → List Made → Verdict
+judgeCalls pool m l [] = Fine
+judgeCalls pool m l (c ∷ cs) =
+    let r = pool .calls (c .call) m (own (c .call)) (c .answer) in
     let o = outcomeOf r in
     let l′ = ledgerAfter l (c .call) (o .answer) (o .refusal) in
-    let on = judge pool (r .lent) l′ cs in
+    let k = marksAfter (opened m) (c .call) in
+    let on = judgeCalls pool (r .lent) l′ cs in
     failing (agreesTests (opened m) l (c .call) o l′)
-    (failing (leftTests m r l′) (failing (publishedTests (opened m) o (o .refusal) (c .call)) on))
+    (failing (whenDone (o .refusal) (saidTests (opened m) (o .answer) (c .call)))
+    (failing (whenDone (o .refusal) (clockTests (opened m) o k))
+    (failing (leftTests m r l′) (failing (whenDone (o .refusal) (nameTests (opened m) o k)) on))))
+
+-- on a set up and, where it is accepted, a list of calls
+abbrev pub ifAccepted : ℕ → Verdict → Verdict
+ifAccepted zero v = v
+ifAccepted (suc k) v = Fine
+
+unfoldable pub judge : Pool → Lent → ℕ → ℕ → List ℕ → List Made → Verdict
+judge pool m p at answer calls =
+    let r = pool .setsUp p at m answer in
+    let on = ifAccepted (r .result) (judgeCalls pool (r .lent) (firstLedger (opened m) p at) calls) in
+    failing (setUpTests m p at r) on

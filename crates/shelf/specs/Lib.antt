@@ -4,6 +4,11 @@ pub mod Published
 pub mod Statement
 pub mod Guards
 pub mod Numbers
+pub mod Tests
 pub mod Judge
 pub mod Trial
+pub mod Changes
+pub mod WrongCalls
+pub mod WrongBooks
+pub mod WrongLent
 pub mod WrongPools

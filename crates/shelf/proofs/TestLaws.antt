@@ -1,0 +1,162 @@
+-- Laws of the tests that the judge is made of: each passes where what it tests holds.
+use Prim.Native.Nat.{ℕ, zero, suc, _*_, min}
+use native.Mathlib.Omega.{arith}
+use mathlib.Core.Path.{_≡_, refl, sym, ap, _∙_}
+use mathlib.Core.Bool.{Bool, true, false, not, _||_, Bool·beq}
+use mathlib.Core.Logic.{_≢_, _↔_}
+use mathlib.Core.List.{List, [], _∷_}
+use lib.ListN.{take, drop}
+use lib.IntN.{ℤ, pos, negsuc}
+use borrow.Author.Tests.{eq-eqb}
+use Rattle.laws.specs.First.{Found, found, missing}
+use Rattle.laws.specs.Block.{block}
+use Rattle.laws.specs.Says.{Says}
+use Rattle.laws.proofs.Tests.{and-true, same-tests}
+use Rattle.laws.proofs.Every.{all-of}
+use Rattle.buftag.specs.declared.name.PageName.{PageName}
+use Rattle.buftag.specs.Name.{sameName}
+use Rattle.buftag.proofs.NameLaws.{says-same-name}
+use Rattle.bufmodel.specs.Lent.{Lent}
+use Rattle.shelf.specs.Published.{Marks, Alike}
+use Rattle.shelf.specs.Tests.{
+  Clause,
+  Verdict,
+  Test,
+  test,
+  failing,
+  ifDone,
+  ifRefused,
+  atPlace,
+  ifPlace,
+  sameList,
+  sameLink,
+  sameLinks,
+  sameLent,
+  some,
+  start,
+  wordsTest,
+  namesTest,
+  linksTest,
+  chainsTest,
+}
+
+-- ---- a row of tests: each passes
+infixr 5 _&_
+pub data Passes : List Test → Type 0 where
+  all : Passes []
+  _&_ : {c : Clause} {t : Bool} {ts : List Test} → t ≡ true → Passes ts → Passes (test c t ∷ ts)
+
+pub none-fails : {ts : List Test} (later : Verdict) → Passes ts → failing ts later ≡ later
+unfolding failing
+none-fails later all = refl
+none-fails later (h & hs) = rw h (none-fails later hs)
+
+-- ---- connectives
+pub if-done : (r : ℕ) {t : Bool} → (r ≡ 0 → t ≡ true) → ifDone r t ≡ true
+if-done zero h = h refl
+if-done (suc k) h = refl
+
+pub if-refused : (r : ℕ) {t : Bool} → (r ≢ 0 → t ≡ true) → ifRefused r t ≡ true
+if-refused zero h = refl
+if-refused (suc k) h = h (omega arith)
+
+pub else-true : (a : Bool) {b : Bool} → (a ≡ false → b ≡ true) → (a || b) ≡ true
+else-true true h = refl
+else-true false h = h refl
+
+pub then-true : (a : Bool) {b : Bool} → (a ≡ true → b ≡ true) → (not a || b) ≡ true
+then-true true h = h refl
+then-true false h = refl
+
+beq-same : (a : Bool) → Bool·beq a a ≡ true
+beq-same true = refl
+beq-same false = refl
+
+-- tests of statements that hold together
+pub both : {P Q : Type 0} {a b : Bool} → Says a P → Says b Q → (P ↔ Q) → Bool·beq a b ≡ true
+both {a} {b} s t h =
+    ap (λ (x : Bool). Bool·beq x b) (same-tests a b (λ p. t .shown (h .0 (s .holds p))) (λ q. s .shown (h .1 (t .holds q)))) ∙ beq-same b
+
+pub at-place : {f : Found} {g : ℕ} (t : ℕ → Bool) → f ≡ found g → t g ≡ true → atPlace f t ≡ true
+at-place t e h = ap (λ (f : Found). atPlace f t) e ∙ h
+
+pub if-place : (f : Found) (t : ℕ → Bool) → ((g : ℕ) → f ≡ found g → t g ≡ true) → ifPlace f t ≡ true
+if-place (found g) t h = h g refl
+if-place missing t h = refl
+
+-- ---- equal lists, links, lent memories
+pub list-same : (xs : List ℕ) → sameList xs xs ≡ true
+unfolding sameList
+list-same [] = refl
+list-same (x ∷ xs) = and-true (eq-eqb x x refl) (list-same xs)
+
+pub same-list : {xs ys : List ℕ} → xs ≡ ys → sameList xs ys ≡ true
+same-list {ys} e = ap (λ (zs : List ℕ). sameList zs ys) e ∙ list-same ys
+
+pub link-same : (z : ℤ) → sameLink z z ≡ true
+link-same (pos i) = eq-eqb i i refl
+link-same (negsuc i) = eq-eqb i i refl
+
+pub same-link : {x y : ℤ} → x ≡ y → sameLink x y ≡ true
+same-link {y} e = ap (λ (z : ℤ). sameLink z y) e ∙ link-same y
+
+pub links-same : (xs : List ℤ) → sameLinks xs xs ≡ true
+unfolding sameLinks
+links-same [] = refl
+links-same (x ∷ xs) = and-true (link-same x) (links-same xs)
+
+pub lent-same : (m : Lent) → sameLent m m ≡ true
+unfolding sameLent
+lent-same m =
+    rw (
+      list-same (m .control),
+      list-same (m .states),
+      list-same (m .names),
+      links-same (m .free),
+      links-same (m .heads),
+      links-same (m .chain),
+      list-same (m .rows),
+      list-same (m .pool),
+      list-same (m .store),
+    )
+
+pub same-name : {a b : PageName} → a ≡ b → sameName a b ≡ true
+same-name e = says-same-name _ _ .shown e
+
+-- equal blocks begin alike
+take-min : (k n : ℕ) (xs : List ℕ) → take (min k n) xs ≡ take k (take n xs)
+take-min zero n xs = let e : min 0 n ≡ 0 = omega arith in rw e
+take-min (suc k) zero xs = let e : min (suc k) 0 ≡ 0 = omega arith in rw e
+take-min (suc k) (suc n) [] = let e : min (suc k) (suc n) ≡ suc (min k n) = omega arith in rw e
+take-min (suc k) (suc n) (x ∷ xs) =
+    let e : min (suc k) (suc n) ≡ suc (min k n) = omega arith in
+    rw e (ap (λ (ys : List ℕ). x ∷ ys) (take-min k n xs))
+
+start-is : (p g : ℕ) (xs : List ℕ) → start p g xs ≡ take some (block p g xs)
+unfolding start block
+start-is p g xs = take-min some p (drop (g * p) xs)
+
+pub starts-same : (p g : ℕ) (xs : List ℕ) (q h : ℕ) (ys : List ℕ) → block p g xs ≡ block q h ys
+    → sameList (start p g xs) (start q h ys) ≡ true
+starts-same p g xs q h ys e = same-list (start-is p g xs ∙ ap (take some) e ∙ sym (start-is q h ys))
+
+pub start-same : (p g : ℕ) (xs ys : List ℕ) → block p g xs ≡ ys → sameList (start p g xs) (take some ys) ≡ true
+start-same p g xs ys e = same-list (start-is p g xs ∙ ap (take some) e)
+
+-- ---- Alike
+module _ {n b : ℕ} {k l : Marks} (a : Alike n b k l) where
+  pub words-pass : wordsTest n b k l ≡ true
+  unfolding wordsTest
+  words-pass = all-of _ _ (λ i l. eq-eqb _ _ (a .words i l))
+
+  pub names-pass : namesTest n b k l ≡ true
+  unfolding namesTest
+  names-pass = all-of _ _ (λ i l. same-name (a .names i l))
+
+  pub links-pass : linksTest n b k l ≡ true
+  unfolding linksTest
+  links-pass = and-true (same-link (a .top)) (all-of _ _ (λ i l. same-link (a .links i l)))
+
+  pub chains-pass : chainsTest n b k l ≡ true
+  unfolding chainsTest
+  chains-pass = and-true (all-of _ _ (λ i l. same-link (a .chains i l))) (all-of _ _ (λ j l. same-link (a .heads j l)))
