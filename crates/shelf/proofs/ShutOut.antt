@@ -122,7 +122,7 @@ pub refuted : (pool : Pool) (m : Lent) (p at : ℕ) (calls : List Call) {c : Cla
 refuted pool m p at calls h e d = let f = passes pool d m p at calls h in let z : _≡_ {A = ℕ} 0 1 = cc in omega arith
 
 -- ---- all that the trials compute with, each definition after those that it uses
-computes : Unit {0}
+unfoldable pub computes : Unit {0}
 unfolding Rattle.laws.specs.Every.all Rattle.laws.specs.Every.any Rattle.laws.specs.Sum.sum Rattle.laws.specs.Sum.count
     Rattle.laws.specs.Times.times Rattle.laws.specs.First.first Rattle.laws.specs.Block.block Rattle.laws.specs.Block.putBlock
     Rattle.bufhash.specs.Fnv.fnvStep Rattle.buftag.specs.Name.hashOf Rattle.buftag.specs.Name.bucketOf Rattle.buftag.specs.Link.ends
