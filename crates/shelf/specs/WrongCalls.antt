@@ -253,7 +253,7 @@ wrongCalls =
     (unpinned ++ (Drop sales ∷ [])) FreeList
     -- a drop keeps its buffers' words
     ∷ wrong (drops (λ m c o. leaving (withStates (m .states)) o)) 1 (pin sales 0 ∷ Unpin 0 ∷ Drop sales ∷ []) Words
-    -- a drop puts its hand back
+    -- a drop puts the hand back
     ∷ wrong (drops (λ m c o. leaving (withHand 0) o)) 2 (unpinned ++ (pin stock 0 ∷ Drop sales ∷ [])) Hand
     -- a drop empties the other file's buffers
     ∷ wrong (drops (λ m c o. leaving (λ k. release k 0) o)) 1 (pin sales 0 ∷ Unpin 0 ∷ Drop stock ∷ []) Words
