@@ -2,24 +2,34 @@
 use Prim.Native.Nat.{ℕ, zero, suc, _^_}
 use native.Mathlib.Nat.{le-of-suc-le-suc, not-suc-le-zero}
 use native.Mathlib.Omega.{arith}
-use mathlib.Core.Path.{_≡_, refl}
-use mathlib.Core.Bool.{Bool, true}
+use mathlib.Core.Path.{_≡_, refl, ap}
+use mathlib.Core.Bool.{Bool, true, cond}
 use mathlib.Core.List.{List, [], _∷_, map}
 use lib.ListN.{getD}
 use lib.IntN.{ℤ}
 use lib.Signed.{mag}
-use lib.Dec.{ltb}
-use borrow.Author.Tests.{ltb-true}
+use lib.Dec.{eqb, ltb}
+use borrow.Author.Tests.{ltb-true, ne-eqb}
 use Rattle.laws.proofs.Tests.{and-left, and-right}
 use Rattle.buftag.specs.declared.name.FileName.{FileName}
 use Rattle.buftag.specs.declared.name.PageName.{PageName}
 use Rattle.buftag.specs.Name.{FitsFile, Fits}
-use Rattle.bufmodel.specs.Outcome.{zeros}
+use Rattle.bufmodel.specs.Memory.{Memory, withHand}
+use Rattle.bufmodel.specs.Sizes.{sizedFor}
+use Rattle.bufmodel.specs.Books.{sound}
+use Rattle.bufmodel.specs.Outcome.{Outcome}
 use Rattle.bufmodel.specs.Step.{Call, Pin, Unpin, Read, Write, Flush, Checkpoint, Peek, Extend, Drop, LogInserted, LogFlushed, step}
-use Rattle.bufmodel.specs.Lent.{Lent}
+use Rattle.bufmodel.specs.Lent.{Lent, opened, ended, called}
+use Rattle.bufmodel.proofs.SizesLaws.{sizes-say}
+use Rattle.bufmodel.proofs.BooksLaws.{books-say}
+use Rattle.shelf.specs.Published.{Demand2For}
 use Rattle.shelf.specs.Statement.{Below, Signed, FitsLent, FitsCall, FitsMade, Pool, calling, Demand3For, Demand3}
 use Rattle.shelf.specs.Tests.{Clause, Verdict, Fine, Fails}
 use Rattle.shelf.specs.Trial.{
+  size,
+  log,
+  bench,
+  slice,
   Wrong,
   made,
   verdict,
@@ -33,6 +43,7 @@ use Rattle.shelf.specs.Trial.{
   fitsCalls,
   fits,
 }
+use Rattle.shelf.specs.Changes.{Change, ifRefused, stepping, calls, leaving}
 use Rattle.shelf.specs.WrongPools.{wrongPools}
 use Rattle.shelf.proofs.JudgeLaws.{judge-fine}
 
@@ -114,7 +125,7 @@ pub passes : (pool : Pool) → Demand3For pool → (m : Lent) (p at : ℕ) (call
 unfolding verdict fits
 passes pool d m p at calls h =
     let test = each _ h in
-    judge-fine pool d m p at zeros (map made calls) (fits-lent m (test 0)) (ltb-true _ _ (test 1)) (ltb-true _ _ (test 2)) refl
+    judge-fine pool d m p at slice (map made calls) (fits-lent m (test 0)) (ltb-true _ _ (test 1)) (ltb-true _ _ (test 2)) refl
     (fits-calls calls (test 3))
 
 pub refuted : (pool : Pool) (m : Lent) (p at : ℕ) (calls : List Call) {c : Clause} → fits m p at calls ≡ true
@@ -255,3 +266,58 @@ right-passes d = all-fine (calling step) d wrongPools all-trials
 pub right-computes : map (tried (calling step)) wrongPools ≡ map (λ w. Fine) wrongPools
 unfolding computes
 right-computes = refl
+
+-- ---- a function whose refusals move the hand: demand 2 shuts it out, and `calling` puts back what it moved, so that no call shows it
+abbrev moves : Change
+moves = ifRefused (λ m c o. leaving (withHand 1) o)
+
+-- the bench of two buffers, set up
+abbrev begun : Memory
+begun = opened (calling step .setsUp size log (bench 2) slice .lent)
+
+begun-words : allBelow (2 ^ 32) (begun .states) ≡ true
+unfolding computes
+begun-words = refl
+
+begun-sized : sizedFor (begun .control .size) begun ≡ true
+unfolding computes
+begun-sized = refl
+
+begun-sound : sound begun ≡ true
+unfolding computes
+begun-sound = refl
+
+begun-hand : begun .control .hand ≡ 0
+unfolding computes
+begun-hand = refl
+
+moved-refusal : stepping moves begun (Unpin 0) .refusal ≡ 8
+unfolding computes
+moved-refusal = refl
+
+moved-hand : stepping moves begun (Unpin 0) .after .control .hand ≡ 1
+unfolding computes
+moved-hand = refl
+
+pub moves-shut : Demand2For (stepping moves) → ⊥
+moves-shut d =
+    let h = d begun (Unpin 0) (below _ _ begun-words) (sizes-say _ begun .holds begun-sized) (books-say begun .holds begun-sound) in
+    let same = h .same (λ z. omega (arith, moved-refusal)) in
+    omega (arith, moved-hand, begun-hand, ap (λ (k : Memory). k .control .hand) same)
+
+ended-same : (m : Lent) (o other : Outcome) → other .refusal ≡ o .refusal → other .answer ≡ o .answer → other .bytes ≡ o .bytes
+    → let o′ = cond (eqb (o .refusal) 0) o other in ended m o′ (o′ .refusal) ≡ ended m o (o .refusal)
+unfolding ended
+ended-same m o other e a b = go (o .refusal) refl
+  where
+    go : (r : ℕ) → o .refusal ≡ r
+        → let o′ = cond (eqb (o .refusal) 0) o other in ended m o′ (o′ .refusal) ≡ ended m o (o .refusal)
+    go zero q = rw q
+    go (suc k) q = rw (ne-eqb (o .refusal) 0 (λ z. omega arith)) cc
+
+pub moves-unseen : (c : Call) (m : Lent) (own answer : List ℕ)
+    → calls moves .calls c m own answer ≡ calling step .calls c m own answer
+unfolding called
+moves-unseen c m own answer =
+    let o = step (opened m) c in
+    rw (ended-same m o (leaving (withHand 1) o) refl refl refl)

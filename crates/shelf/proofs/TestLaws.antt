@@ -2,7 +2,7 @@
 use Prim.Native.Nat.{ℕ, zero, suc, _*_, min}
 use native.Mathlib.Omega.{arith}
 use mathlib.Core.Path.{_≡_, refl, sym, ap, _∙_}
-use mathlib.Core.Bool.{Bool, true, false, not, _||_, Bool·beq}
+use mathlib.Core.Bool.{Bool, true, false, cond, Bool·beq}
 use mathlib.Core.Logic.{_≢_, _↔_}
 use mathlib.Core.List.{List, [], _∷_}
 use lib.ListN.{take, drop}
@@ -60,11 +60,11 @@ pub if-refused : (r : ℕ) {t : Bool} → (r ≢ 0 → t ≡ true) → ifRefused
 if-refused zero h = refl
 if-refused (suc k) h = h (omega arith)
 
-pub else-true : (a : Bool) {b : Bool} → (a ≡ false → b ≡ true) → (a || b) ≡ true
+pub else-true : (a : Bool) {b : Bool} → (a ≡ false → b ≡ true) → cond a true b ≡ true
 else-true true h = refl
 else-true false h = h refl
 
-pub then-true : (a : Bool) {b : Bool} → (a ≡ true → b ≡ true) → (not a || b) ≡ true
+pub then-true : (a : Bool) {b : Bool} → (a ≡ true → b ≡ true) → cond a b true ≡ true
 then-true true h = h refl
 then-true false h = refl
 

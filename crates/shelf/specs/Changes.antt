@@ -6,7 +6,7 @@ use lib.ListN.{getD, set}
 use lib.Dec.{eqb}
 use Rattle.buftag.specs.declared.name.PageName.{PageName}
 use Rattle.buftag.specs.Names.{noName}
-use Rattle.bufmodel.specs.Memory.{Memory, wordOf, withStates}
+use Rattle.bufmodel.specs.Memory.{Memory, wordOf, withStates, withStore}
 use Rattle.bufmodel.specs.Sweep.{Swept}
 use Rattle.bufmodel.specs.Outcome.{Outcome}
 use Rattle.bufmodel.specs.Pin.{pinSwept}
@@ -45,8 +45,11 @@ ifRefused other m c o = let o′ = other m c o in cond (eqb (o .refusal) 0) o o�
 abbrev pub ifAccepted : Change → Change
 ifAccepted other m c o = let o′ = other m c o in cond (eqb (o .refusal) 0) o′ o
 
+abbrev pub stepping : Change → Memory → Call → Outcome
+stepping other m c = other m (parts c) (step m c)
+
 abbrev pub calls : Change → Pool
-calls other = calling (λ m c. other m (parts c) (step m c))
+calls other = calling (stepping other)
 
 abbrev pub otherwise : (Parts → Bool) → Change → Pool
 otherwise some other = calls (λ m c o. let o′ = other m c o in cond (some c) o′ o)
@@ -96,6 +99,10 @@ filling bytes o = record { refusal = o .refusal; answer = o .answer; bytes = byt
 
 abbrev pub leaving : (Memory → Memory) → Outcome → Outcome
 leaving f o = record { refusal = o .refusal; answer = o .answer; bytes = o .bytes; after = f (o .after) }
+
+-- the store as it was
+abbrev pub unwritten : Memory → Outcome → Outcome
+unwritten m o = leaving (withStore (m .store)) o
 
 -- word i of an answer
 abbrev pub said : Outcome → ℕ → ℕ
@@ -154,6 +161,16 @@ refuses f =
           let r = calling step .calls c m own answer in
           let r′ = lending (closed (f (opened (r .lent)))) r in
           cond (eqb (r .result) 0) r r′;
+    }
+
+-- calls that leave other words in the answer slice, made of those in it and of what the right call ends with
+abbrev pub slices : (List ℕ → Called → List ℕ) → Pool
+slices f =
+    record {
+      setsUp = calling step .setsUp;
+      calls = λ c m own answer.
+          let r = calling step .calls c m own answer in
+          record { result = r .result; answer = f answer r; bytes = r .bytes; lent = r .lent };
     }
 
 -- ---- another set up: of block size, log position, the lent memory before and what the right one ends with

@@ -1,7 +1,7 @@
 -- The statement of demand 3 as a test: of a pool, a set up and a list of calls, the first clause that fails. One test for each clause,
 -- which passes where the clause holds.
 use Prim.Native.Nat.{ℕ, zero, suc, _+_, _-_, _*_}
-use mathlib.Core.Bool.{Bool, true, false, not, _&&_, _||_, cond, Bool·beq}
+use mathlib.Core.Bool.{Bool, true, false, not, _&&_, cond, Bool·beq}
 use mathlib.Core.List.{List, [], _∷_}
 use lib.ListN.{length, getD, take, drop}
 use lib.Dec.{eqb, leb, ltb}
@@ -99,6 +99,7 @@ freshTest m p k =
 
 unfoldable pub setUpTests : Lent → ℕ → ℕ → Called → List Test
 setUpTests m p at r =
+    let same = eqb (r .result) 1 && sameLent (r .lent) m in
     test Accepted (Bool·beq (eqb (r .result) 0) (sizedFor p (opened m) && eqb (length (m .control)) 5))
     ∷ test Fresh (ifDone (r .result) (freshTest m p (r .lent)))
     ∷ test Begun (ifDone (r .result) (sameList (r .lent .control) (p ∷ 0 ∷ 0 ∷ at ∷ at ∷ [])))
@@ -106,7 +107,7 @@ setUpTests m p at r =
     (ifDone (r .result)
     (sameList (take some (r .lent .pool)) (take some (m .pool)) && sameList (r .lent .rows) (m .rows)
     && sameList (take some (r .lent .store)) (take some (m .store))))
-    ∷ test Refused (ifRefused (r .result) (eqb (r .result) 1 && sameLent (r .lent) m))
+    ∷ test Refused (ifRefused (r .result) same)
     ∷ test Zeros (sameList (r .answer) zeros && sameList (r .bytes) [])
     ∷ []
 
@@ -151,7 +152,7 @@ module _ (s : Shelf) (o : Outcome) where
   sixAt missing = true
 
   unfoldable pub sixTest : Call → Bool
-  sixTest (Pin n) = not (eqb (firstOf (above s n)) 0) || sixAt (placeOf (s .rows) n)
+  sixTest (Pin n) = cond (eqb (firstOf (above s n)) 0) (sixAt (placeOf (s .rows) n)) true
   sixTest (Unpin b) = true
   sixTest (Read b from out) = true
   sixTest (Write b from bytes at) = true
@@ -185,26 +186,26 @@ module _ (m : Memory) (l : Ledger) (c : Call) (o : Outcome) (l′ : Ledger) wher
   unfoldable pub orderedTest : Bool
   orderedTest =
       all (storeBlocks (l .shelf .rows))
-      (λ g. not (l′ .put g) || leb (position (block (l .shelf .size) g (o .after .store))) (l′ .flushed))
+      (λ g. let low = leb (position (block (l .shelf .size) g (o .after .store))) (l′ .flushed) in cond (l′ .put g) low true)
 
   unfoldable pub othersTest : Bool
   othersTest =
       all (storeBlocks (l .shelf .rows))
-      (λ g. puts l c (o .answer) (o .refusal) g
-      || sameList (start (l .shelf .size) g (o .after .store)) (start (l .shelf .size) g (m .store)))
+      (λ g. let same = sameList (start (l .shelf .size) g (o .after .store)) (start (l .shelf .size) g (m .store)) in
+      cond (puts l c (o .answer) (o .refusal) g) true same)
 
   unfoldable pub storedTest : Bool
   storedTest =
       all (storeBlocks (l .shelf .rows))
-      (λ g. not (puts l c (o .answer) (o .refusal) g)
-      || sameList (start (l .shelf .size) g (o .after .store)) (take some (l′ .shelf .bytes g)))
+      (λ g. let same = sameList (start (l .shelf .size) g (o .after .store)) (take some (l′ .shelf .bytes g)) in
+      cond (puts l c (o .answer) (o .refusal) g) same true)
 
   unfoldable pub heldTest : Bool
   heldTest =
       all (buffers (o .after))
-      (λ i. eqb (wordOf (o .after) i) 0
-      || ifPlace (placeOf (o .after .rows) (nameOf (o .after) i))
-      (λ g. sameList (start (size (o .after)) i (o .after .pool)) (take some (l′ .shelf .bytes g))))
+      (λ i. let same = ifPlace (placeOf (o .after .rows) (nameOf (o .after) i))
+      (λ g. sameList (start (size (o .after)) i (o .after .pool)) (take some (l′ .shelf .bytes g))) in
+      cond (eqb (wordOf (o .after) i) 0) true same)
 
   -- what `Neither` and `Six` say follows from `Number`: they stand before it
   unfoldable pub agreesTests : List Test
@@ -231,7 +232,8 @@ module _ (m : Memory) (l : Ledger) (c : Call) (o : Outcome) (l′ : Ledger) wher
 unfoldable pub leftTests : Lent → Called → Ledger → List Test
 leftTests m r l′ =
     let k = opened (r .lent) in
-    test Same (ifRefused (r .result) (sameLent (r .lent) m))
+    let same = sameLent (r .lent) m in
+    test Same (ifRefused (r .result) same)
     ∷ test Control
     (sameList (r .lent .control)
     (l′ .shelf .size ∷ k .control .hand ∷ topWord (k .control .top) ∷ l′ .shelf .inserted ∷ l′ .flushed ∷ []))
@@ -324,8 +326,8 @@ module _ (m : Memory) where
         test Names (namesTest (buffers m) (length (m .heads)) now k)
         ∷ test Chains (eqb (length (o .after .heads)) (length (m .heads)) && chainsTest (buffers m) (length (m .heads)) now k)
         ∷ test Idle
-        (all (buffers m) (λ i. not (eqb (wordOf (o .after) i) 0)
-        || sameList (start (size (o .after)) i (o .after .pool)) (start (size m) i (m .pool))))
+        (all (buffers m) (λ i. let same = sameList (start (size (o .after)) i (o .after .pool)) (start (size m) i (m .pool)) in
+        cond (eqb (wordOf (o .after) i) 0) same true))
         ∷ []
 
 -- tests of accepted calls alone
@@ -334,7 +336,7 @@ whenDone zero ts = ts
 whenDone (suc k) ts = []
 
 -- ---- the verdict
--- on a list of calls. What `Books` says follows from all the others: it stands before names and chains
+-- on a list of calls. Names and chains say more than `Books`: it stands before them
 unfoldable pub judgeCalls : Pool → Lent → Ledger → List Made → Verdict
 judgeCalls pool m l [] = Fine
 judgeCalls pool m l (c ∷ cs) =

@@ -11,7 +11,6 @@ use Rattle.buftag.specs.declared.name.PageName.{PageName}
 use Rattle.buftag.specs.Name.{fileOf}
 use Rattle.buftag.specs.Names.{nameWords}
 use Rattle.bufmodel.specs.Position.{positionBytes}
-use Rattle.bufmodel.specs.Outcome.{zeros}
 use Rattle.bufmodel.specs.Step.{Call, Pin, Unpin, Read, Write, Flush, Checkpoint, Peek, Extend, Drop, LogInserted, LogFlushed}
 use Rattle.bufmodel.specs.Lent.{Lent}
 use Rattle.shelf.specs.Statement.{Pool, Made}
@@ -79,11 +78,15 @@ abbrev pub exchange : List Call
 exchange = pin sales 0 ∷ write 0 77 100 ∷ Unpin 0 ∷ pin stock 0 ∷ []
 
 -- ---- the verdict: with set up's block size and log position, the bench's or others
+-- an answer slice, as someone left it
+abbrev pub slice : List ℕ
+slice = replicate 4 9
+
 abbrev pub made : Call → Made
-made c = record { call = c; answer = zeros }
+made c = record { call = c; answer = slice }
 
 unfoldable pub verdict : Pool → Lent → ℕ → ℕ → List Call → Verdict
-verdict pool m p at calls = judge pool m p at zeros (map made calls)
+verdict pool m p at calls = judge pool m p at slice (map made calls)
 
 -- ---- all that the statement assumes, as a test: numbers fit their types
 unfoldable pub every : List Bool → Bool

@@ -27,11 +27,10 @@ use Rattle.bufmodel.specs.Memory.{
 }
 use Rattle.bufmodel.specs.Sweep.{Swept, swept, next, sweep, sweepAll}
 use Rattle.bufmodel.specs.Moves.{release}
-use Rattle.bufmodel.specs.Outcome.{Outcome}
 use Rattle.bufmodel.specs.Step.{Pin, Unpin, LogFlushed, step}
 use Rattle.shelf.specs.Tests.{Six, Answers, Stored, Held, Books, Probes, Words, Hand, Names, Chains}
 use Rattle.shelf.specs.Trial.{size, sales, stock, blockOf, pin, write, unpinned, exchange, Wrong, wrong}
-use Rattle.shelf.specs.Changes.{ifAccepted, pins, unpins, logFlushes, saying, leaving, said, pinsAgain, sweeps}
+use Rattle.shelf.specs.Changes.{ifAccepted, pins, unpins, logFlushes, saying, leaving, unwritten, said, pinsAgain, sweeps}
 
 -- both of two buffers are free; the free list 1, 0 of two buffers
 abbrev bothFree : Memory → Bool
@@ -39,10 +38,6 @@ bothFree m = eqb (sum 2 (wordOf m)) 0
 
 abbrev otherEnd : Memory → Memory
 otherEnd m = withTop (pos 1) (withFree (none ∷ pos 0 ∷ []) m)
-
--- the store as it was
-abbrev unwritten : Memory → Outcome → Outcome
-unwritten m o = leaving (withStore (m .store)) o
 
 -- document 004's sweep: each try lowers an unpinned buffer's usage first and tests it after
 unfoldable pub lowersFirst : ℕ → ℕ → List ℕ → ℕ → Swept

@@ -13,7 +13,6 @@ use Rattle.bufmodel.specs.Word.{dirty, pinned}
 use Rattle.bufmodel.specs.Position.{positionBytes}
 use Rattle.bufmodel.specs.Rows.{blocksAt, capacityAt}
 use Rattle.bufmodel.specs.Memory.{
-  Memory,
   buffers,
   wordOf,
   pageOf,
@@ -30,7 +29,7 @@ use Rattle.bufmodel.specs.Memory.{
   withFlushed,
 }
 use Rattle.bufmodel.specs.Moves.{writeBack, writeUpTo, release}
-use Rattle.bufmodel.specs.Outcome.{Outcome, zeros, two, done, refused}
+use Rattle.bufmodel.specs.Outcome.{zeros, two, done, refused}
 use Rattle.bufmodel.specs.Step.{Pin, Unpin, Read, Write, Flush, Checkpoint, Extend, Drop, LogInserted, LogFlushed, step}
 use Rattle.shelf.specs.Tests.{
   Neither,
@@ -76,12 +75,9 @@ use Rattle.shelf.specs.Changes.{
   saying,
   filling,
   leaving,
+  unwritten,
   said,
 }
-
--- the store as it was
-abbrev unwritten : Memory → Outcome → Outcome
-unwritten m o = leaving (withStore (m .store)) o
 
 unfoldable pub wrongCalls : List Wrong
 wrongCalls =
@@ -257,7 +253,7 @@ wrongCalls =
     (unpinned ++ (Drop sales ∷ [])) FreeList
     -- a drop keeps its buffers' words
     ∷ wrong (drops (λ m c o. leaving (withStates (m .states)) o)) 1 (pin sales 0 ∷ Unpin 0 ∷ Drop sales ∷ []) Words
-    -- a drop puts its hand back
+    -- a drop puts the hand back
     ∷ wrong (drops (λ m c o. leaving (withHand 0) o)) 2 (unpinned ++ (pin stock 0 ∷ Drop sales ∷ [])) Hand
     -- a drop empties the other file's buffers
     ∷ wrong (drops (λ m c o. leaving (λ k. release k 0) o)) 1 (pin sales 0 ∷ Unpin 0 ∷ Drop stock ∷ []) Words

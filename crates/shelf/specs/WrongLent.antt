@@ -22,8 +22,7 @@ use Rattle.bufmodel.specs.Memory.{
   withInserted,
   withFlushed,
 }
-use Rattle.bufmodel.specs.Outcome.{one}
-use Rattle.bufmodel.specs.Step.{Unpin, Checkpoint, LogInserted}
+use Rattle.bufmodel.specs.Step.{Unpin, Checkpoint, LogInserted, LogFlushed}
 use Rattle.bufmodel.specs.Lent.{Lent, opened, closed}
 use Rattle.shelf.specs.Tests.{
   Accepted,
@@ -32,6 +31,8 @@ use Rattle.shelf.specs.Tests.{
   Untouched,
   Refused,
   Zeros,
+  Answers,
+  Blank,
   Inserted,
   Others,
   Long,
@@ -44,7 +45,7 @@ use Rattle.shelf.specs.Tests.{
   Chains,
   Idle,
 }
-use Rattle.shelf.specs.Trial.{size, log, bench, sales, pin, Wrong, wrong, wrongSetUp}
+use Rattle.shelf.specs.Trial.{size, log, bench, sales, pin, slice, Wrong, wrong, wrongSetUp}
 use Rattle.shelf.specs.Changes.{
   ifAccepted,
   calls,
@@ -54,6 +55,7 @@ use Rattle.shelf.specs.Changes.{
   lends,
   leaves,
   refuses,
+  slices,
   ended,
   setsUp,
   setsUpTo,
@@ -105,6 +107,10 @@ wrongLent =
     ∷ wrong (lends (λ m. let w = m .control in withControlWords (set (set w 1 (getD w 2 0)) 2 (getD w 1 0)) m)) 2 (pin sales 0 ∷ []) Hand
     -- the empty free list's top is 32 one bits
     ∷ wrong (leaves (λ m. withControlWords (set (m .control) 2 (getD (m .control) 2 0 % 2 ^ 32)) m)) 1 (pin sales 0 ∷ []) FreeList
+    -- a refused call leaves the answer slice as it was
+    ∷ wrong (slices (λ a r. cond (eqb (r .result) 0) (r .answer) a)) 1 (Unpin 0 ∷ []) Blank
+    -- a call that answers only done leaves the answer slice as it was
+    ∷ wrong (slices (λ a r. cond (eqb (r .result) 0) a (r .answer))) 1 (LogFlushed 100 ∷ []) Answers
     -- ---- set up
     -- every set up is refused
     ∷ wrongSetUp (setsUp (λ p at m r. ended 1 m r)) (bench 1) size log Accepted
@@ -144,7 +150,7 @@ wrongLent =
     ∷ wrongSetUp (setsUp (λ p at m r. ended (2 * r .result) (r .lent) r)) (bench 0) size log Refused
     -- a refused set up writes the control record
     ∷ wrongSetUp (setsUp (λ p at m r. lending (withControlWords (p ∷ 0 ∷ 0 ∷ at ∷ at ∷ []) m) r)) (bench 0) size log Refused
-    -- an answer
-    ∷ wrongSetUp (setsUp (λ p at m r. record { result = r .result; answer = one 1; bytes = r .bytes; lent = r .lent })) (bench 1) size log
+    -- the answer slice is left as it was
+    ∷ wrongSetUp (setsUp (λ p at m r. record { result = r .result; answer = slice; bytes = r .bytes; lent = r .lent })) (bench 1) size log
     Zeros
     ∷ []
