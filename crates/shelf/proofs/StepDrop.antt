@@ -106,4 +106,5 @@ drop-step m v k f =
     let r = rowOf (m .rows) f in
     let number = drop-number m v k f r refl ∙ sym (refuses-is (shelfOf m v) (Drop f)) in
     call-step m v (Drop f) k (dropPlaces r (filePinned m f)) (dropAt m f r) refl number
-    (neither-place 3 _ _ (omega arith) (neither-place 14 _ [] (omega arith) neither-none)) (λ q. drop-done m v k f r refl (sym number ∙ q) q)
+    (neither-place 3 _ _ (omega arith) (neither-place 14 _ [] (omega arith) neither-none))
+    (λ q. drop-done m v k f r refl (sym number ∙ q) q)

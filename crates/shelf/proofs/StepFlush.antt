@@ -28,7 +28,8 @@ use Rattle.shelf.proofs.ShelfPlaces.{refuses-is}
 use Rattle.shelf.proofs.Refused.{neither-none, call-step}
 use Rattle.shelf.proofs.Accepted.{Accepted, accepted-ended}
 use Rattle.shelf.proofs.HighestLaws.{highest-none, highest-one}
-use Rattle.shelf.proofs.BackKept.{backOf, back-has, back-own, back-dirty, back-clean, place-below, back-long, back-other, viewBack, kept-backOf}
+use Rattle.shelf.proofs.BackKept.{backOf, back-has, back-own, back-dirty, back-clean}
+use Rattle.shelf.proofs.BackKept.{place-below, back-long, back-other, viewBack, kept-backOf}
 use Rattle.shelf.proofs.BufferPlaces.{number-same, number-neither, number-page}
 
 module _ (m : Memory) (v : View) (k : Kept m v) (i g : ℕ) (x : Has m i g) (held : v .holds i ≡ found g) where

@@ -56,7 +56,8 @@ module _ (m : Memory) (v : View) (k : Kept m v) (n : PageName) where
   peek-accepted : refuses (shelfOf m v) (Peek n) ≡ 0 → (g : ℕ) → placeOf (m .rows) n ≡ found g
       → Accepted m v (Peek n) (partOf m n (heldIn m n)) [] m
   peek-accepted e g q =
-      unchanged m v k (Peek n) _ [] (peek-ledger _) (not-checkpoint refl) e (two-words (heldIn m n)) (g, q, peek-part g q (heldIn m n) refl, refl)
+      unchanged m v k (Peek n) _ [] (peek-ledger _) (not-checkpoint refl) e (two-words (heldIn m n))
+      (g, q, peek-part g q (heldIn m n) refl, refl)
       (peek-none _)
 
   pub peek-step : Ended m v (Peek n) (step m (Peek n))
