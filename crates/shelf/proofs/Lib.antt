@@ -1,9 +1,15 @@
 -- The proofs of the three demands, each module after those that it uses.
--- demand 2: what calls' numbers say of the memory, its words, what each call leaves, and the theorem
+-- what calls' numbers say of the memory, and its words
 pub mod WithLaws
 pub mod CallKinds
+pub mod ShelfPlaces
 pub mod MemoryPlaces
 pub mod PublishedWords
+-- demand 1: the table's conditions are those of the places; set up; the theorem
+pub mod GuardsTable
+pub mod SetUpSays
+pub mod Guards
+-- demand 2: what each call leaves, and the theorem
 pub mod PublishedMarks
 pub mod PublishedLeaves
 pub mod PublishedCalls
@@ -16,7 +22,6 @@ pub mod Kept
 pub mod KeptLaws
 pub mod HighestLaws
 -- a refused call, an accepted one, and one that changes nothing
-pub mod ShelfPlaces
 pub mod Refused
 pub mod Accepted
 pub mod Unchanged
@@ -55,14 +60,10 @@ pub mod VictimBack
 pub mod ReleaseKept
 pub mod PinVictim
 pub mod StepPin
--- set up, calls over lent memory, and the theorem
+-- demand 3: an accepted set up, calls over lent memory, and the theorem
 pub mod Start
-pub mod SetUpSays
 pub mod Lift
 pub mod Demand
--- demand 1: the table's conditions are those of the places, and the theorem
-pub mod GuardsTable
-pub mod Guards
 -- the calls of the theorem are the exports' calls
 pub mod Made
 -- one pool is left: lists by their places, books alike, two ends of one call, of set up and of a list
