@@ -39,12 +39,6 @@ pub load-is : (m : Memory) (n : PageName) (i g : ℕ) → linkOf (m .control .to
 unfolding load loadTop
 load-is m n i g e f = rw (e, f)
 
--- it leaves the hand
-pub load-hand : (m : Memory) (n : PageName) (i g : ℕ) → linkOf (m .control .top) ≡ To i → placeOf (m .rows) n ≡ found g
-    → load m n .control .hand ≡ m .control .hand
-unfolding loadAt
-load-hand m n i g top place = ap (λ (o : Memory). o .control .hand) (load-is m n i g top place)
-
 module _ (m : Memory) (n : PageName) (i g : ℕ) where
   pub load-buffers : buffers (loadAt m n i g) ≡ buffers m
   unfolding loadAt
