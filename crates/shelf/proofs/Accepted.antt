@@ -5,16 +5,16 @@ use mathlib.Core.Bool.{true, false}
 use mathlib.Core.List.{List}
 use native.Mathlib.Omega.{arith}
 use lib.ListN.{length}
-use Rattle.laws.specs.First.{Found, found, missing}
 use Rattle.laws.specs.Block.{block}
 use Rattle.bufmodel.specs.Position.{position}
-use Rattle.bufmodel.specs.Rows.{files, blocksAt, rowOf, startOf, storeBlocks, placeOf}
+use Rattle.bufmodel.specs.Rows.{files, blocksAt, startOf, storeBlocks}
 use Rattle.bufmodel.specs.Memory.{Memory, buffers, size}
 use Rattle.bufmodel.specs.Outcome.{done}
-use Rattle.bufmodel.specs.Step.{Call, Pin, Unpin, Read, Write, Flush, Checkpoint, Peek, Extend, Drop, LogInserted, LogFlushed}
-use Rattle.shelf.specs.Shelf.{Shelf, refuses, pinnedAt, unpinnedAt, writtenAt, extendedAt, droppedAt, shelfAfter}
+use Rattle.bufmodel.specs.Step.{Call, Checkpoint}
+use Rattle.shelf.specs.Shelf.{Shelf, refuses}
 use Rattle.shelf.specs.Ledger.{Ledger, bufferIn, putBy, acceptedBy, ledgerAfter, puts}
 use Rattle.shelf.specs.Statement.{Answers, Shows}
+use Rattle.shelf.proofs.ShelfSizes.{sizes-after}
 use Rattle.shelf.proofs.Kept.{View, shelfOf, ledgerOf, viewOf, Kept, Ended}
 use Rattle.shelf.proofs.KeptLaws.{page-held}
 use Rattle.shelf.proofs.ShelfPlaces.{six-of}
@@ -46,41 +46,6 @@ pub record Accepted (m : Memory) (v : View) (c : Call) (answer bytes : List ℕ)
   pub settled : c ≡ Checkpoint → (r b : ℕ) → r < files (m .rows) → b < blocksAt (m .rows) r
       → block (size m) (startOf (m .rows) r + b) (m′ .store) ≡ v .bytes (startOf (m .rows) r + b)
 
--- no call changes N or P
-after-many : (s : Shelf) (c : Call) (b : ℕ) → (shelfAfter s c b .buffers ≡ s .buffers) × (shelfAfter s c b .size ≡ s .size)
-unfolding shelfAfter pinnedAt unpinnedAt writtenAt extendedAt droppedAt
-after-many s (Pin n) b = go (placeOf (s .rows) n)
-  where
-    go : (f : Found) → (pinnedAt s b f .buffers ≡ s .buffers) × (pinnedAt s b f .size ≡ s .size)
-    go (found g) = (refl, refl)
-    go missing = (refl, refl)
-after-many s (Unpin i) b = go (s .holds i)
-  where
-    go : (f : Found) → (unpinnedAt s i f .buffers ≡ s .buffers) × (unpinnedAt s i f .size ≡ s .size)
-    go (found g) = (refl, refl)
-    go missing = (refl, refl)
-after-many s (Read i from out) b = (refl, refl)
-after-many s (Write i from bytes at) b = go (s .holds i)
-  where
-    go : (f : Found) → (writtenAt s from bytes at f .buffers ≡ s .buffers) × (writtenAt s from bytes at f .size ≡ s .size)
-    go (found g) = (refl, refl)
-    go missing = (refl, refl)
-after-many s (Flush i) b = (refl, refl)
-after-many s Checkpoint b = (refl, refl)
-after-many s (Peek n) b = (refl, refl)
-after-many s (Extend f) b = go (rowOf (s .rows) f)
-  where
-    go : (r : Found) → (extendedAt s r .buffers ≡ s .buffers) × (extendedAt s r .size ≡ s .size)
-    go (found g) = (refl, refl)
-    go missing = (refl, refl)
-after-many s (Drop f) b = go (rowOf (s .rows) f)
-  where
-    go : (r : Found) → (droppedAt s r .buffers ≡ s .buffers) × (droppedAt s r .size ≡ s .size)
-    go (found g) = (refl, refl)
-    go missing = (refl, refl)
-after-many s (LogInserted p) b = (refl, refl)
-after-many s (LogFlushed p) b = (refl, refl)
-
 -- two ledgers with equal parts
 same-ledger : {b b′ p p′ i i′ f f′ : ℕ} {r r′ : List ℕ} (v : View) → b ≡ b′ → p ≡ p′ → i ≡ i′ → r ≡ r′ → f ≡ f′
     → _≡_ {A = Ledger}
@@ -104,7 +69,7 @@ module _ (m : Memory) (v : View) (c : Call) (answer bytes : List ℕ) (m′ : Me
   pub accepted-ended : Accepted m v c answer bytes m′ → Ended m v c (done answer bytes m′)
   unfolding ledgerAfter puts acceptedBy
   accepted-ended a =
-      let n = after-many (shelfOf m v) c (bufferIn answer) in
+      let n = sizes-after (shelfOf m v) c (bufferIn answer) in
       record {
         agrees =
             record {
@@ -128,5 +93,5 @@ module _ (m : Memory) (v : View) (c : Call) (answer bytes : List ℕ) (m′ : Me
               settled = λ q z. a .settled q;
             };
         kept = a .kept;
-        shared = same-ledger (viewOf (ledgerThen m v c answer)) (n .0 ∙ a .many) (n .1 ∙ a .wide) (a .inserted) (a .rows) (a .flushed);
+        shared = same-ledger (viewOf (ledgerThen m v c answer)) (n .buffers ∙ a .many) (n .size ∙ a .wide) (a .inserted) (a .rows) (a .flushed);
       }

@@ -30,13 +30,11 @@ use Rattle.bufmodel.specs.Calls.{unpin, read, write, flush, checkpoint, peek, e
 use Rattle.bufmodel.specs.Step.{Call, Pin, Unpin, Read, Write, Flush, Checkpoint, Peek, Extend, Drop, LogInserted, LogFlushed, step}
 use Rattle.bufmodel.proofs.OutcomeLaws.{refusal-same}
 use Rattle.bufmodel.proofs.GoodLaws.{Good, checked-good}
-use Rattle.bufmodel.proofs.SweepEnds.{sweep-finds}
 use Rattle.shelf.specs.Shelf.{firstOf, noFile}
 use Rattle.shelf.specs.Published.{filed}
 use Rattle.shelf.specs.Statement.{own}
 use Rattle.shelf.specs.Guards.{pinCount, blockPast, pinsFull, allPinned, rowFull, nameChecks, bufferChecks, table}
-use Rattle.shelf.proofs.MemoryPlaces.{pin-open}
-use Rattle.shelf.proofs.PublishedWords.{few-used}
+use Rattle.shelf.proofs.MemoryPlaces.{pin-victim}
 use Rattle.shelf.proofs.ShelfPlaces.{first-is}
 
 -- ---- every call is its places, and what it does where they pass
@@ -110,9 +108,7 @@ module _ (m : Memory) where
     unfolding pinTo pinHeld
     pin-accepted g z (At b) e = refl
     pin-accepted g z Nowhere e =
-        let u = pin-open m n z e in
-        let f = sweep-finds (m .states) (m .control .hand) (g .books .hand) (u .0) (u .1) (u .2) (few-used m (g .books)) in
-        new-accepted (f .1) (linkOf (m .control .top))
+        new-accepted (pin-victim m n z g e .1) (linkOf (m .control .top))
 
   accepted : Good m → (c : Call) → refusalOf (ownPlaces m c) ≡ 0 → does m c .refusal ≡ 0
   accepted g (Pin n) z = pin-accepted n g z (heldIn m n) refl

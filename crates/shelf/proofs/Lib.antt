@@ -3,8 +3,9 @@
 pub mod WithLaws
 pub mod CallKinds
 pub mod ShelfPlaces
-pub mod MemoryPlaces
+pub mod ShelfSizes
 pub mod PublishedWords
+pub mod MemoryPlaces
 -- demand 1: the table's conditions are those of the places; set up; the theorem
 pub mod GuardsTable
 pub mod SetUpSays

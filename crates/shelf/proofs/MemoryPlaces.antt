@@ -17,12 +17,16 @@ use Rattle.buftag.specs.declared.number.BufferNumber.{BufferNumber}
 use Rattle.bufmodel.specs.Word.{maxPins, pins, pinned}
 use Rattle.bufmodel.specs.Rows.{blocksAt, rowOf, placeOf}
 use Rattle.bufmodel.specs.Memory.{Memory, buffers, wordOf}
+use Rattle.bufmodel.specs.Sweep.{sweepAll}
 use Rattle.bufmodel.specs.Outcome.{Place, place, refusalOf}
 use Rattle.bufmodel.specs.Pin.{noRow, noBlock, countFull, noVictim, heldIn, namePlaces, pinPlaces}
 use Rattle.bufmodel.specs.Calls.{bufferPlaces}
 use Rattle.bufmodel.proofs.WordLaws.{pins-lt}
 use Rattle.bufmodel.proofs.RowsLaws.{place-found, place-is}
+use Rattle.bufmodel.proofs.GoodLaws.{Good}
+use Rattle.bufmodel.proofs.SweepEnds.{sweep-finds}
 use Rattle.bufmodel.proofs.OutcomeLaws.{refusal-past, refusal-at, refusal-passed}
+use Rattle.shelf.proofs.PublishedWords.{few-used}
 
 -- ---- a buffer's number: where no place refuses it is a pinned buffer's, and no later place refuses
 pub number-passed : (m : Memory) (i : ℕ) (ps : List Place) → refusalOf (bufferPlaces m i ps) ≡ 0
@@ -126,3 +130,10 @@ module _ (m : Memory) (n : PageName) (z : refusalOf (pinPlaces m n) ≡ 0) where
   pin-open e =
       let later = refusal-passed 5 _ _ (omega arith) (pin-last m n Nowhere e z (omega arith) (omega arith)) .1 in
       all-false-at (λ i. pinned (wordOf m i)) (buffers m) (refusal-passed 6 _ [] (omega arith) later .0)
+
+  -- so the sweep finds a victim
+  pub pin-victim : Good m → heldIn m n ≡ Nowhere → (v : ℕ) × (sweepAll (m .states) (m .control .hand) .victim ≡ found v)
+  pin-victim g e =
+      let u = pin-open e in
+      let f = sweep-finds (m .states) (m .control .hand) (g .books .hand) (u .0) (u .1) (u .2) (few-used m (g .books)) in
+      (f .0, f .1)

@@ -1,81 +1,33 @@
 -- Two ends of one accepted call, with the same ledger after it, leave the same lent memory.
 use Prim.Native.Nat.{ℕ, _*_, _<_}
 use native.Mathlib.Omega.{arith}
-use mathlib.Core.Path.{_≡_, refl, sym, ap, _∙_}
+use mathlib.Core.Path.{_≡_, sym, ap, _∙_}
 use mathlib.Core.Bool.{false}
 use mathlib.Core.Logic.{_≢_, ⊎-elim}
 use mathlib.Core.List.{List, _∷_}
 use lib.ListN.{length, getD}
 use lib.IntN.{ℤ}
 use borrow.Author.Tests.{ne-eqb}
-use Rattle.laws.specs.First.{Found, found, missing}
+use Rattle.laws.specs.First.{found}
 use Rattle.laws.specs.Block.{block}
 use Rattle.laws.proofs.Tests.{eq-or-ne, true-or-false}
 use Rattle.bufmodel.specs.Word.{empty}
-use Rattle.bufmodel.specs.Rows.{storeBlocks, placeOf, rowOf}
+use Rattle.bufmodel.specs.Rows.{storeBlocks, placeOf}
 use Rattle.bufmodel.specs.Memory.{Memory, buffers, size, wordOf, nameOf, pageOf}
 use Rattle.bufmodel.specs.Books.{emptyAt}
-use Rattle.bufmodel.specs.Step.{Call, Pin, Unpin, Read, Write, Flush, Checkpoint, Peek, Extend, Drop, LogInserted, LogFlushed}
+use Rattle.bufmodel.specs.Step.{Call}
 use Rattle.bufmodel.specs.Lent.{Lent, Called, controlOf, opened}
-use Rattle.bufmodel.proofs.RowsLaws.{store-set}
-use Rattle.shelf.specs.Shelf.{Shelf, pinnedAt, unpinnedAt, writtenAt, extendedAt, droppedAt, shelfAfter}
 use Rattle.shelf.specs.Ledger.{Ledger, bufferIn, acceptedBy, ledgerAfter, puts}
 use Rattle.shelf.specs.Published.{Marks, Leaves}
 use Rattle.shelf.specs.Statement.{Agrees, Left, outcomeOf}
+use Rattle.shelf.proofs.ShelfSizes.{SameSizes, sizes-after}
 use Rattle.shelf.proofs.OneLists.{ext-blocks}
 use Rattle.shelf.proofs.OneMarks.{Booked, SameBooks, same-books}
 
--- ---- no call changes the block size or the number of the store's blocks
-pub record SameStore (s t : Shelf) : Type 0 where
-  pub size : t .size ≡ s .size
-  pub blocks : storeBlocks (t .rows) ≡ storeBlocks (s .rows)
-
-same-store : {s : Shelf} → SameStore s s
-same-store = record { size = refl; blocks = refl }
-
-module _ (s : Shelf) where
-  store-pinned : (b : ℕ) (g : Found) → SameStore s (pinnedAt s b g)
-  unfolding pinnedAt
-  store-pinned b (found g) = record { size = refl; blocks = refl }
-  store-pinned b missing = same-store
-
-  store-unpinned : (b : ℕ) (g : Found) → SameStore s (unpinnedAt s b g)
-  unfolding unpinnedAt
-  store-unpinned b (found g) = record { size = refl; blocks = refl }
-  store-unpinned b missing = same-store
-
-  store-written : (from : ℕ) (bytes : List ℕ) (at : ℕ) (g : Found) → SameStore s (writtenAt s from bytes at g)
-  unfolding writtenAt
-  store-written from bytes at (found g) = record { size = refl; blocks = refl }
-  store-written from bytes at missing = same-store
-
-  store-extended : (r : Found) → SameStore s (extendedAt s r)
-  unfolding extendedAt
-  store-extended (found r) = record { size = refl; blocks = store-set (s .rows) r _ }
-  store-extended missing = same-store
-
-  store-dropped : (r : Found) → SameStore s (droppedAt s r)
-  unfolding droppedAt
-  store-dropped (found r) = record { size = refl; blocks = store-set (s .rows) r 0 }
-  store-dropped missing = same-store
-
-  store-after : (c : Call) (b : ℕ) → SameStore s (shelfAfter s c b)
-  unfolding shelfAfter
-  store-after (Pin n) b = store-pinned b (placeOf (s .rows) n)
-  store-after (Unpin i) b = store-unpinned i (s .holds i)
-  store-after (Read i from out) b = same-store
-  store-after (Write i from bytes at) b = store-written from bytes at (s .holds i)
-  store-after (Flush i) b = same-store
-  store-after Checkpoint b = same-store
-  store-after (Peek n) b = same-store
-  store-after (Extend f) b = store-extended (rowOf (s .rows) f)
-  store-after (Drop f) b = store-dropped (rowOf (s .rows) f)
-  store-after (LogInserted p) b = record { size = refl; blocks = refl }
-  store-after (LogFlushed p) b = same-store
-
-pub store-accepted : (l : Ledger) (c : Call) (answer : List ℕ) → SameStore (l .shelf) (ledgerAfter l c answer 0 .shelf)
+-- ---- an accepted call leaves the block size and the number of the store's blocks
+pub store-accepted : (l : Ledger) (c : Call) (answer : List ℕ) → SameSizes (l .shelf) (ledgerAfter l c answer 0 .shelf)
 unfolding ledgerAfter acceptedBy
-store-accepted l c answer = store-after (l .shelf) c (bufferIn answer)
+store-accepted l c answer = sizes-after (l .shelf) c (bufferIn answer)
 
 -- ---- equal parts make equal lent memories
 lent-parts : {c c′ s s′ n n′ p p′ r r′ t t′ : List ℕ} {f f′ h h′ k k′ : List ℤ} → c ≡ c′ → s ≡ s′ → n ≡ n′ → p ≡ p′ → f ≡ f′ → h ≡ h′
@@ -120,7 +72,7 @@ module _ {m : Lent} {l x : Ledger} {c : Call} {k : Marks} {r : Called} (a : Ends
   end-pool : length (opened (r .lent) .pool) ≡ buffers (opened m) * x .shelf .size
   end-pool = a .left .sizes .pool ∙ ap (λ (n : ℕ). n * x .shelf .size) (a .leaves .many)
 
-  end-store : SameStore (l .shelf) (x .shelf) → length (opened (r .lent) .store) ≡ storeBlocks (l .shelf .rows) * l .shelf .size
+  end-store : SameSizes (l .shelf) (x .shelf) → length (opened (r .lent) .store) ≡ storeBlocks (l .shelf .rows) * l .shelf .size
   end-store s = a .left .sizes .store ∙ rw (a .agrees .rows, s .blocks, s .size)
 
 module _ {m : Lent} {l x : Ledger} {c : Call} {k : Marks} {r r′ : Called} (a : Ends m l x c k r) (a′ : Ends m l x c k r′) where
@@ -165,7 +117,7 @@ module _ {m : Lent} {l x : Ledger} {c : Call} {k : Marks} {r r′ : Called} (a :
       both : puts l c (r .answer) (r .result) g ≡ puts l c (r′ .answer) (r′ .result) g
       both = rw (e, f)
 
-  pub same-end : SameStore (l .shelf) (x .shelf) → r .answer ≡ r′ .answer → r .result ≡ r′ .result → r .lent ≡ r′ .lent
+  pub same-end : SameSizes (l .shelf) (x .shelf) → r .answer ≡ r′ .answer → r .result ≡ r′ .result → r .lent ≡ r′ .lent
   same-end s e f =
       same-lent (r .lent) (r′ .lent)
       (a .left .control ∙ rw (books .hand, books .top) (sym (a′ .left .control)))

@@ -15,7 +15,8 @@ use Rattle.shelf.specs.Statement.{receipts, ifAccepted, OnePool}
 use Rattle.shelf.proofs.Demand.{demand-3}
 use Rattle.shelf.proofs.OneMarks.{Booked, same-books}
 use Rattle.shelf.proofs.OneAnswer.{both, same-bytes}
-use Rattle.shelf.proofs.OneLent.{same-lent, SameStore, store-accepted, Ends, same-end}
+use Rattle.shelf.proofs.ShelfSizes.{SameSizes}
+use Rattle.shelf.proofs.OneLent.{same-lent, store-accepted, Ends, same-end}
 
 called-parts : {a a′ : ℕ} {b b′ c c′ : List ℕ} {d d′ : Lent} → a ≡ a′ → b ≡ b′ → c ≡ c′ → d ≡ d′
     → _≡_ {A = Called} (record { result = a; answer = b; bytes = c; lent = d }) (record { result = a′; answer = b′; bytes = c′; lent = d′ })
@@ -75,7 +76,7 @@ module _ {m : Lent} {l : Ledger} {c : Call} {r r′ : Called} (rows : opened m .
       let e : ledgerAfter l c (r′ .answer) (r′ .result) ≡ x = rw (k .answer, same-result) in
       let end : Ends m l x c (k .marks) r = record { agrees = a .agrees; left = a .left; leaves = k .left } in
       let end′ = subst (λ y. Ends m l y c (k .marks) r′) e (record { agrees = a′ .agrees; left = a′ .left; leaves = k .right }) in
-      let s : SameStore (l .shelf) (x .shelf) = rw z (store-accepted l c (r .answer)) in
+      let s : SameSizes (l .shelf) (x .shelf) = rw z (store-accepted l c (r .answer)) in
       called-parts same-result (k .answer) (same-bytes rows z z′ c (a .agrees) (a′ .agrees)) (same-end end end′ s (k .answer) same-result)
 
   one-call : r ≡ r′

@@ -38,9 +38,9 @@ use Rattle.bufmodel.proofs.FreeListLaws.{top-none, top-empty, top-full}
 use Rattle.bufmodel.proofs.LoadLaws.{load-is, load-buffers, load-full}
 use Rattle.bufmodel.proofs.ReleaseLaws.{release-top}
 use Rattle.bufmodel.proofs.SweepLaws.{SweptFrom, sweeps-from}
-use Rattle.bufmodel.proofs.SweepEnds.{sweepAll-relates, sweep-finds, sweep-stuck}
+use Rattle.bufmodel.proofs.SweepEnds.{sweepAll-relates, sweep-stuck}
 use Rattle.shelf.specs.Published.{marksOf, withWords, emptied, Alike, Leaves, loaded, hit, free, early, taken, stuck, Sought}
-use Rattle.shelf.proofs.MemoryPlaces.{pin-stuck, pin-place, pin-open}
+use Rattle.shelf.proofs.MemoryPlaces.{pin-stuck, pin-place, pin-victim}
 use Rattle.shelf.proofs.PublishedWords.{more-pins, few-used}
 use Rattle.shelf.proofs.PublishedMarks.{alike-same, alike-then, emptied-past, loaded-alike, Shape, good-shape}
 use Rattle.shelf.proofs.PublishedMarks.{release-shape, release-marks, load-wide, load-marks}
@@ -252,9 +252,7 @@ module _ (m : Memory) (k : Good m) (n : PageName) where
       swept-sought : linkOf (m .control .top) ≡ End → Sought m n (pinSwept m n (sweepAll (m .states) (m .control .hand)))
       unfolding pinSwept
       swept-sought top =
-          let u = pin-open m n z new in
-          let f =
-          sweep-finds (m .states) (m .control .hand) (k .books .hand) (u .0) (u .1) (u .2) (few-used m (k .books)) in
+          let f = pin-victim m n z k new in
           subst (λ (x : Found). Sought m n (pinVictim m n (sweepAll (m .states) (m .control .hand)) x)) (sym (f .1))
           (taken-sought new (page .0) (page .1) top (f .0) (f .1))
 

@@ -16,14 +16,12 @@ use Rattle.bufmodel.specs.Memory.{Memory}
 use Rattle.bufmodel.specs.Outcome.{refusalOf}
 use Rattle.bufmodel.specs.Pin.{heldIn, pinPlaces, pinHeld, pinFree, pinVictim, pinSwept, pinNew, pinTo, pin}
 use Rattle.bufmodel.specs.Step.{Pin, step}
-use Rattle.bufmodel.proofs.SweepEnds.{sweep-finds}
 use Rattle.bufmodel.proofs.FreeListLaws.{top-none}
 use Rattle.shelf.specs.Shelf.{refuses}
-use Rattle.shelf.proofs.PublishedWords.{few-used}
 use Rattle.shelf.proofs.Kept.{View, shelfOf, Kept, Ended}
 use Rattle.shelf.proofs.Refused.{call-step}
 use Rattle.shelf.proofs.Accepted.{accepted-ended}
-use Rattle.shelf.proofs.MemoryPlaces.{pin-place, pin-open}
+use Rattle.shelf.proofs.MemoryPlaces.{pin-place, pin-victim}
 use Rattle.shelf.proofs.PinPlaces.{pin-number, pin-neither}
 use Rattle.shelf.proofs.PinHit.{hit-accepted}
 use Rattle.shelf.proofs.PinFree.{free-accepted}
@@ -58,10 +56,7 @@ module _ (m : Memory) (v : View) (k : Kept m v) (n : PageName) (z : refusalOf (p
 
       -- some buffer is unpinned, so there is one
       victim : (w : ℕ) × (sweepOf m .victim ≡ found w)
-      victim =
-          let u = pin-open m n z new in
-          let f = sweep-finds (m .states) (m .control .hand) (k .good .books .hand) (u .0) (u .1) (u .2) (few-used m (k .good .books)) in
-          (f .0, f .1)
+      victim = pin-victim m n z (k .good) new
 
       victim-ended : Ended m v (Pin n) (pinSwept m n (sweepOf m))
       unfolding pinSwept
