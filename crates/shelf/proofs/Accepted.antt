@@ -93,5 +93,6 @@ module _ (m : Memory) (v : View) (c : Call) (answer bytes : List ℕ) (m′ : Me
               settled = λ q z. a .settled q;
             };
         kept = a .kept;
-        shared = same-ledger (viewOf (ledgerThen m v c answer)) (n .buffers ∙ a .many) (n .size ∙ a .wide) (a .inserted) (a .rows) (a .flushed);
+        shared = same-ledger (viewOf (ledgerThen m v c answer))
+            (n .buffers ∙ a .many) (n .size ∙ a .wide) (a .inserted) (a .rows) (a .flushed);
       }
