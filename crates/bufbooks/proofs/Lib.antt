@@ -1,5 +1,6 @@
 pub mod SizesLaws
 pub mod GuessesLaws
+pub mod RowsLaws
 pub mod BuffersLaws
 pub mod BooksLaws
 pub mod LentLaws

@@ -42,7 +42,7 @@ pub fn books_ok(
     }
     let mut hashes = [0u32; 64];
     hash_rows(rows, &mut hashes);
-    let mut guesses = [0u32; 64];
+    let mut guesses = [0u8; 256];
     guess_rows(rows, &mut guesses);
     let counted = buffers_ok(
         control,

@@ -93,7 +93,7 @@ fn used_ok(control: Control, pool: &[u8], free: &[i32], w: u32, buffer: BufferNu
 }
 
 // The row of a file, by a guess that need not be right.
-fn row_near(rows: &[u32], guess: u32, file: FileName) -> Row
+fn row_near(rows: &[u32], guess: u8, file: FileName) -> Row
     requires { ⌜ soundRows (now rows) ≡ true ⌝ }
     ensures { λ r. ⌜ foundRow r ≡ rowOf (now (rows .entry)) file ⌝ }
 {
@@ -113,7 +113,7 @@ fn held_ok(
     chain: &[i32],
     rows: &[u32],
     hashes: &[u32; 64],
-    guesses: &[u32; 64],
+    guesses: &[u8; 256],
     buffer: BufferNumber,
 ) -> bool
     requires { ⌜ (0 < length (now heads)) × (length (now names) ≡ nameWords * length (now chain)) × (buffer .0 < length (now chain))
@@ -145,7 +145,7 @@ pub fn buffers_ok(
     chain: &[i32],
     rows: &[u32],
     hashes: &[u32; 64],
-    guesses: &[u32; 64],
+    guesses: &[u8; 256],
 ) -> Counted
     requires { ⌜ Fitting (memory control (now states) (now names) (now pool) (now free) (now heads) (now chain) (now rows) [])
         × Hashed (now rows) (now hashes) ⌝ }

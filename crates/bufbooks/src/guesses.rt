@@ -9,15 +9,17 @@ use bufmem::rows::ROW_WORDS;
 use bufmem::rows::file_at;
 use buftag::name::FileName;
 
-// Where the table has the guess for a file. The forks of 21 relations with neighbouring numbers have 63 slots of their own.
+// Where a table of 256 places has a file's. The product spreads files whose relations have neighbouring numbers, or numbers so far apart
+// as a power of two.
 pub fn slot_of(file: FileName) -> usize
     ensures { λ r. ⌜ r ≡ slotOf file ⌝ }
 {
-    ((file.relation % 64) as usize + 21 * file.fork as usize) % 64
+    let key = (file.relation as u64 * 4 + file.fork as u64) % 4294967296;
+    (key * 2654435761 % 4294967296 / 16777216) as usize
 }
 
 // Of the files that share a slot, the last one has it.
-pub fn guess_rows(rows: &[u32], guesses: &mut [u32; 64])
+pub fn guess_rows(rows: &[u32], guesses: &mut [u8; 256])
     requires { ⌜ files (now rows) ≤ maxFiles ⌝ }
     ensures { λ _. ⌜ now (guesses .exit) ≡ guessesOf (now (rows .entry)) (files (now (rows .entry))) (now (guesses .entry)) ⌝ }
 {
@@ -27,7 +29,7 @@ pub fn guess_rows(rows: &[u32], guesses: &mut [u32; 64])
     let mut row = 0;
     while row < n {
         let slot = slot_of(file_at(rows, row));
-        all[slot] = row as u32;
+        all[slot] = row as u8;
         row += 1;
     }
 }

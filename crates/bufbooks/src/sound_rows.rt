@@ -1,11 +1,13 @@
 // Whether the file rows are sound.
 
 ghost use mathlib.Core.Path.{_≡_};
+ghost use mathlib.Core.Bool.{true, false};
 ghost use Prim.Native.Nat.{_+_, _*_, _≤_};
 ghost use lib.ListN.{length};
 ghost use Rattle.laws.specs.Every.{all};
 ghost use Rattle.bufmodel.specs.Rows.{rowWords};
 ghost use Rattle.bufmodel.specs.Sizes.{newFile, soundRow, soundRows};
+use crate::guesses::slot_of;
 use bufmem::rows::ROW_WORDS;
 use bufmem::rows::blocks_at;
 use bufmem::rows::capacity_at;
@@ -34,9 +36,9 @@ fn is_new(rows: &[u32], row: usize) -> bool
     true
 }
 
-// Whether a row is sound: its fork, its blocks, and that no row before it has its file.
-fn row_ok(rows: &[u32], row: usize) -> bool
-    requires { ⌜ row * rowWords + rowWords ≤ length (now rows) ⌝ }
+// Whether a row is sound: its fork, its blocks, and that no row before it has its file. `seen`: one of them may have it.
+fn row_ok(rows: &[u32], row: usize, seen: bool) -> bool
+    requires { ⌜ (row * rowWords + rowWords ≤ length (now rows)) × (seen ≡ false → newFile (now rows) row ≡ true) ⌝ }
     ensures { λ r. ⌜ r ≡ soundRow (now (rows .entry)) row ⌝ }
 {
     if !is_fork(file_at(rows, row).fork) {
@@ -45,19 +47,25 @@ fn row_ok(rows: &[u32], row: usize) -> bool
     if blocks_at(rows, row) > capacity_at(rows, row) {
         return false;
     }
+    if !seen {
+        return true;
+    }
     is_new(rows, row)
 }
 
-// Whether each row is sound.
+// Whether each row is sound. Only a row whose slot one before it has can have its file too.
 fn each_ok(rows: &[u32], n: usize) -> bool
     requires { ⌜ n * rowWords ≤ length (now rows) ⌝ }
     ensures { λ r. ⌜ r ≡ all n (soundRow (now (rows .entry))) ⌝ }
 {
+    let mut marks = [0u8; 256];
     let mut row = 0;
     while row < n {
-        if !row_ok(rows, row) {
+        let slot = slot_of(file_at(rows, row));
+        if !row_ok(rows, row, marks[slot] != 0) {
             return false;
         }
+        marks[slot] = 1;
         row += 1;
     }
     true

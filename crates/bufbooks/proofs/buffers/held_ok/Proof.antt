@@ -28,9 +28,6 @@ stored-requires c κs = search needs
 slot-of-requires : tie.Need-slot-of-requires
 slot-of-requires c κs = search needs
 
-mul-row-near : tie.Need-mul-row-near
-mul-row-near c = search needs
-
 element-copy-out-row-near : tie.Need-element-copy-out-row-near
 element-copy-out-row-near c = search needs
 
@@ -153,7 +150,6 @@ held-ok-spec =
     (tie.spec
     stored-requires
     slot-of-requires
-    mul-row-near
     element-copy-out-row-near
     row-near-requires
     enum-known-row

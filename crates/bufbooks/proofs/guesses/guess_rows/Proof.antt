@@ -11,7 +11,7 @@ use Rattle.bufbooks.proofs.guesses.guess_rows.Statement.{statement}
 use Rattle.bufbooks.proofs.guesses.guess_rows.Tie as tie
 
 abbrev Inv-loop : tie.InvT-loop
-Inv-loop rows all₀ n row₀ all row = (row ≤ n) × (length all ≡ 64) × (all ≡ guessesOf rows row all₀)
+Inv-loop rows all₀ n row₀ all row = (row ≤ n) × (length all ≡ 256) × (all ≡ guessesOf rows row all₀)
 
 abbrev μ-loop : tie.MeasureT-loop
 μ-loop rows all₀ n row₀ all row = n - row
@@ -29,9 +29,6 @@ slot-of-requires c κs = search needs
 cast-all : tie.Need-cast-all Inv-loop μ-loop
 unfolding files
 cast-all c = search needs
-
-mul-all : tie.Need-mul-all Inv-loop μ-loop
-mul-all c = search needs
 
 slice-write-all : tie.Need-slice-write-all Inv-loop μ-loop
 slice-write-all c = search needs
@@ -72,7 +69,6 @@ guess-rows-spec =
     file-at-requires
     slot-of-requires
     cast-all
-    mul-all
     slice-write-all
     add-row
     loop-less
