@@ -1,11 +1,11 @@
--- Laws of the walks with a budget, step by step, and of the lists that they walk.
-use mathlib.Core.Path.{_≡_, refl, sym, subst}
+-- Laws of the walk with a budget, step by step, and of the list that it walks.
+use mathlib.Core.Path.{_≡_, refl}
 use mathlib.Core.Bool.{Bool, true, false, cond}
 use mathlib.Core.Logic.{_⊎_, ⊎-elim}
 use mathlib.Core.List.{List, [], _∷_}
 use Prim.Native.Nat.{ℕ, zero, suc, _+_, _-_, _≤_, _<_}
-use native.Mathlib.Numerals.{add-one, sub-one}
-use native.Mathlib.Nat.{suc-add, zero-add, eq-or-lt-of-le}
+use native.Mathlib.Numerals.{sub-one}
+use native.Mathlib.Nat.{suc-add, zero-add}
 use native.Mathlib.Omega.{arith}
 use types.Run.{OneOf}
 use denote.Enum.Declared.{tagOf}
@@ -13,13 +13,13 @@ use lib.Dec.{ltb}
 use lib.IntN.{ℤ}
 use lib.ListN.{length}
 use borrow.Author.Tests.{ltb-true, lt-ltb, le-ltb}
-use Rattle.laws.proofs.Tests.{at-end, never}
+use Rattle.laws.proofs.Tests.{never}
 use Rattle.buftag.specs.declared.link.Link.{Link}
 use Rattle.buftag.specs.declared.link.Link.the-variants.{To, End, Off, Bad}
 use Rattle.buftag.specs.declared.budget.Walked.{Walked}
 use Rattle.buftag.specs.declared.budget.Walked.the-variants.{Left, Wrong}
 use Rattle.buftag.specs.Link.{linkAt, isEnd, Links, done, step}
-use Rattle.buftag.specs.Budget.{spend, onward, spendAll}
+use Rattle.buftag.specs.Budget.{spend}
 use Rattle.buftag.proofs.link.Link.{the-type}
 use Rattle.buftag.proofs.TagLaws.{no-tag}
 use Rattle.buftag.proofs.LinkLaws.{isEnd-true}
@@ -28,19 +28,14 @@ use Rattle.buftag.proofs.LinkLaws.{isEnd-true}
 wrong-left : {A : Type 0} {m : ℕ} → Wrong ≡ Left m → A
 wrong-left e = absurd (let z : _≡_ {A = ℕ} 0 1 = cc in omega arith)
 
-pub Left-same : {k m : ℕ} → Left k ≡ Left m → k ≡ m
+Left-same : {k m : ℕ} → Left k ≡ Left m → k ≡ m
 Left-same e = cc
 
 cond-left : (t : Bool) (w : Walked) {m : ℕ} → cond t w Wrong ≡ Left m → (t ≡ true) × (w ≡ Left m)
 cond-left true w e = (refl, e)
 cond-left false w e = wrong-left e
 
--- two walks one after the other that did not go wrong
-pub onward-left : (w : Walked) (f : ℕ → Walked) {m : ℕ} → onward w f ≡ Left m → (a : ℕ) × (w ≡ Left a) × (f a ≡ Left m)
-onward-left (Left a) f e = (a, refl, e)
-onward-left Wrong f e = wrong-left e
-
--- ---- one list
+-- ---- the list
 module _ (ls : List ℤ) where
   -- at the end all that is left is left
   spend-end : (k : ℕ) → spend ls k End ≡ Left k
@@ -94,30 +89,3 @@ module _ (ls : List ℤ) where
   unfolding spend
   links-spend m done = rw zero-add (spend-end m)
   links-spend m (step {i = i} h r) = rw suc-add (rw (lt-ltb i (length ls) h) (links-spend m r))
-
--- ---- a turn of the loop over the heads
-module _ (heads ls : List ℤ) (t : ℕ) where
-  -- before the first list, nothing is spent
-  pub spendAll-none : spendAll heads ls 0 t ≡ Left t
-  unfolding spendAll
-  spendAll-none = refl
-
-  -- the next list's walk goes on with what is left
-  pub spendAll-more : (b m : ℕ) {r : Walked} → spendAll heads ls b t ≡ Left m → r ≡ spend ls m (linkAt heads b)
-      → spendAll heads ls (b + 1) t ≡ r
-  unfolding spendAll
-  spendAll-more b m h e = rw (add-one, h) (sym e)
-
-  -- once wrong, wrong in the end
-  pub spendAll-wrong : (b B : ℕ) → b ≤ B → spendAll heads ls b t ≡ Wrong → spendAll heads ls B t ≡ Wrong
-  unfolding spendAll
-  spendAll-wrong b zero l h = at-end (λ k. spendAll heads ls k t ≡ Wrong) 0 b l (omega arith) h
-  spendAll-wrong b (suc B) l h =
-      ⊎-elim
-      (λ e. subst (λ (k : ℕ). spendAll heads ls k t ≡ Wrong) e h)
-      (λ m. rw (spendAll-wrong b B (omega arith) h))
-      (eq-or-lt-of-le l)
-
-  -- after the last list
-  pub spendAll-done : (B b : ℕ) {w : Walked} → b ≤ B → B ≤ b → spendAll heads ls b t ≡ w → w ≡ spendAll heads ls B t
-  spendAll-done B b {w} l m h = sym (at-end (λ k. spendAll heads ls k t ≡ w) B b l m h)

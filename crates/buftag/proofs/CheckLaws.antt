@@ -3,20 +3,19 @@ use mathlib.Core.Path.{_≡_, refl, sym, _∙_, ap, subst}
 use mathlib.Core.Bool.{Bool, true, false, _&&_}
 use mathlib.Core.Logic.{⊎-elim}
 use mathlib.Core.List.{List}
-use Prim.Native.Nat.{ℕ, zero, suc, _+_, _≤_, _<_}
-use native.Mathlib.Numerals.{add-one}
-use native.Mathlib.Nat.{not-suc-le-zero, add-assoc, add-zero, zero-add}
+use Prim.Native.Nat.{ℕ, _+_, _≤_, _<_}
+use native.Mathlib.Nat.{not-suc-le-zero, add-zero}
 use native.Mathlib.Omega.{arith}
+use lib.Dec.{eqb}
 use lib.IntN.{ℤ}
 use lib.ListN.{length}
-use borrow.Author.Count.{below-more}
 use borrow.Author.Tests.{eqb-true, eq-eqb}
 use Rattle.laws.specs.Every.{all}
-use Rattle.laws.specs.Sum.{sum, ind, count}
+use Rattle.laws.specs.Sum.{ind, count}
 use Rattle.laws.specs.Times.{times}
 use Rattle.laws.proofs.Tests.{and-true, and-left, and-right, same-tests, lt-or-le, never, true-or-false}
 use Rattle.laws.proofs.Every.{all-at, all-of}
-use Rattle.laws.proofs.Sum.{ind-one, ind-none, sum-same, sum-tight, sum-tight-both, count-parts}
+use Rattle.laws.proofs.Sum.{ind-one, sum-same, sum-tight}
 use Rattle.laws.proofs.Times.{sum-times, present}
 use Rattle.buftag.specs.declared.number.BufferNumber.{BufferNumber}
 use Rattle.buftag.specs.declared.name.PageName.{PageName}
@@ -28,16 +27,18 @@ use Rattle.buftag.specs.declared.budget.Walked.{Walked}
 use Rattle.buftag.specs.declared.budget.Walked.the-variants.{Left, Wrong}
 use Rattle.buftag.specs.Name.{bucketOf}
 use Rattle.buftag.specs.Names.{nameAt}
-use Rattle.buftag.specs.Link.{linkAt, isEnd, Links, done, step, Holds, members, holdsTest}
+use Rattle.buftag.specs.Link.{linkAt, isEnd, Links, done, step, Holds, holdsTest}
 use Rattle.buftag.specs.Lookup.{used, walk}
-use Rattle.buftag.specs.Chain.{inBucket, ChainsSound, Distinct, chainsTest}
-use Rattle.buftag.specs.Budget.{spend, spendAll, spent}
-use Rattle.buftag.specs.Check.{isAt, isFirst, findsItself, stands}
+use Rattle.buftag.specs.Chain.{inBucket, bucketAt, ChainsSound, Distinct, chainsTest}
+use Rattle.buftag.specs.Budget.{spend, spent}
+use Rattle.buftag.specs.Check.{isAt, isFirst, findsItself, stands, leading}
 use Rattle.buftag.proofs.NameLaws.{bucket-lt}
-use Rattle.buftag.proofs.LinkLaws.{isEnd-true, links-in, links-out, links-once, links-fit, links-members, holds-says, holds-pass}
+use Rattle.buftag.proofs.LinkLaws.{isEnd-true, links-in, links-out, links-once, links-fit, holds-says, holds-pass}
 use Rattle.buftag.proofs.HoldsLaws.{used-in}
 use Rattle.buftag.proofs.WalkLaws.{walk-hit, walk-miss}
-use Rattle.buftag.proofs.BudgetLaws.{Left-same, onward-left, spend-links, links-spend}
+use Rattle.buftag.proofs.BudgetLaws.{spend-links, links-spend}
+use Rattle.buftag.proofs.MetLaws.{Met, walk-met}
+use Rattle.buftag.proofs.LeadLaws.{lead-holds, lead-count}
 use Rattle.buftag.proofs.TestLaws.{chains-say}
 
 -- ---- lists of places that pass a test
@@ -95,25 +96,6 @@ module _ (ls : List ℤ) (l : Link) (ok : ℕ → Bool) (off : (i : ℕ) → i <
       (λ h. holds-says ls l ok .shown (spent-holds (spent-is _ h)))
       (λ h. ap spent (holds-spent (holds-says ls l ok .holds h)))
 
--- ---- the walks of all chains
--- the places of bucket b's chain
-abbrev row : List ℤ → List ℤ → ℕ → List ℕ
-row heads chain b = members chain (length chain) (linkAt heads b)
-
--- where none goes wrong, every chain ends, and together they have as many places as were spent
-all-linked : (heads chain : List ℤ) (t b : ℕ) {m : ℕ} → spendAll heads chain b t ≡ Left m
-    → (sum b (λ i. length (row heads chain i)) + m ≡ t) × ((i : ℕ) → i < b → Links chain (linkAt heads i) (row heads chain i))
-unfolding spendAll sum
-all-linked heads chain t zero e = (omega (arith, Left-same e), λ i l. absurd (not-suc-le-zero l))
-all-linked heads chain t (suc b) e =
-    let w = onward-left (spendAll heads chain b t) _ e in
-    let r = all-linked heads chain t b (w .1) in
-    let s = spend-links chain (w .0) (linkAt heads b) (w .2) in
-    let q = links-members chain (length chain) (s .1) (links-fit (s .1)) in (
-      omega (arith, r .0, s .2, ap length q),
-      λ i l. below-more (λ k. Links chain (linkAt heads k) (row heads chain k)) b (r .1) (rw q (s .1)) i (rw add-one l),
-    )
-
 -- ---- a buffer that the look-up of its name finds
 isAt-true : (i : ℕ) (w : Held) → isAt i w ≡ true → (b : BufferNumber) × (w ≡ At b) × (b .0 ≡ i)
 isAt-true i (At b) h = (b, refl, eqb-true (b .0) i h)
@@ -123,34 +105,11 @@ isAt-same : (i j : ℕ) (w : Held) → isAt i w ≡ true → isAt j w ≡ true �
 isAt-same i j (At b) h g = sym (eqb-true (b .0) i h) ∙ eqb-true (b .0) j g
 isAt-same i j Nowhere h g = never h refl
 
--- it stands in the chain
-first-in : {chain : List ℤ} {l : Link} {xs : List ℕ} (names : List ℕ) (i : ℕ) → Links chain l xs → isFirst chain names l i ≡ true
-    → 0 < times i xs
-unfolding isFirst
-first-in {chain = chain} {xs = xs} names i r h =
-    let a = isAt-true i _ h in
-    subst (λ (k : ℕ). 0 < times k xs) (a .2) (walk-hit chain names (nameAt names i) (length chain) r (a .1) .0)
-
 -- ---- the check of all chains
 module _ (words names : List ℕ) (heads chain : List ℤ) (some : 0 < length heads) (len : length chain ≡ length words) where
-  -- bucket b's buffers, and how many they are
-  here : ℕ → ℕ → Bool
-  here b = inBucket words names (length heads) b
-
-  many : ℕ → ℕ
-  many b = count (length chain) (here b)
-
-  -- the budget is what the chains are to hold together
-  total : count (length words) (used words) ≡ sum (length heads) many
-  unfolding many here
-  total =
-      count-parts (used words) (λ i. bucketOf (nameAt names i) (length heads)) (length heads) (length words)
-      (λ i l u. bucket-lt (nameAt names i) (length heads) some)
-      ∙ ap (λ (n : ℕ). sum (length heads) (λ b. count n (inBucket words names (length heads) b))) (sym len)
-
-  -- how the check's walks end
-  outcome : Walked
-  outcome = spendAll heads chain (length heads) (count (length words) (used words))
+  -- a buffer's home is a bucket
+  homes : (i : ℕ) → used words i ≡ true → bucketAt names (length heads) i < length heads
+  homes i u = bucket-lt (nameAt names i) (length heads) some
 
   -- ---- a check that passes
   module _ (h : all (length chain) (stands words names heads chain) ≡ true) where
@@ -167,47 +126,22 @@ module _ (words names : List ℕ) (heads chain : List ℤ) (some : 0 < length he
         isAt-same i j (walk chain names (nameAt names i) (length chain) (linkAt heads (bucketOf (nameAt names i) B))) (finds i u)
         (subst (λ (n : PageName). isAt j (walk chain names n (length chain) (linkAt heads (bucketOf n B))) ≡ true) (sym e) (finds j v))
 
-    -- a bucket's buffers stand in its chain
-    here-row : (b k : ℕ) → Links chain (linkAt heads b) (row heads chain b) → ind (here b k) ≤ times k (row heads chain b)
-    unfolding here findsItself
-    here-row b k r =
-        ⊎-elim
-        (λ t.
-        omega (
-          arith,
-          ind-one t,
-          first-in names k r
-              (subst (λ (c : ℕ). isFirst chain names (linkAt heads c) k ≡ true) (eqb-true _ b (and-right (used words k) _ t))
-              (finds k (and-left (used words k) _ t))),
-        ))
-        (λ f. omega (arith, ind-none f))
-        (true-or-false (here b k))
+    -- a buffer in use is met on the walk that finds it
+    met : (i : ℕ) → used words i ≡ true
+        → (q : ℕ) × (q < length chain) × Met chain (linkAt heads (bucketAt names (length heads) i)) q i
+    unfolding findsItself isFirst
+    met i u =
+        let l = linkAt heads (bucketAt names (length heads) i) in
+        let a = isAt-true i _ (finds i u) in
+        let w = walk-met chain names (nameAt names i) (length chain) l (a .1) in
+        (w .0, w .1, subst (λ (k : ℕ). Met chain l (w .0) k) (a .2) (w .2))
 
-    -- the chains have as many places as there are such buffers, so no other
-    rows : outcome ≡ Left 0 → (b : ℕ) → b < length heads → Holds chain (linkAt heads b) (here b)
-    unfolding outcome many count
-    rows e b l =
-        let B = length heads in
-        let n = length chain in
-        let w = all-linked heads chain (count (length words) (used words)) B e in
-        let both : sum B (λ c. sum n (λ k. ind (here c k))) ≡ sum B (λ c. sum n (λ k. times k (row heads chain c))) =
-        sym total ∙ sym (w .0) ∙ add-zero _
-        ∙ sym (sum-same (λ c. sum n (λ k. times k (row heads chain c))) (λ c. length (row heads chain c)) B
-        (λ c m. sum-times n (row heads chain c) (links-out (w .1 c m)))) in
-        record {
-          list = row heads chain b;
-          linked = w .1 b l;
-          once = λ k m.
-              sym (sum-tight-both (λ c j. ind (here c j)) (λ c j. times j (row heads chain c)) B n
-              (λ c q j o. here-row c j (w .1 c q)) both b l k m);
-        }
-
-    check-test : outcome ≡ Left 0 → chainsTest words names heads chain ≡ true
-    unfolding here stands
+    check-test : leading heads + leading chain ≡ count (length words) (used words) → chainsTest words names heads chain ≡ true
+    unfolding stands
     check-test e =
         chains-say words names heads chain .shown (
           record {
-            each = rows e;
+            each = lead-holds words (bucketAt names (length heads)) heads chain len homes met e;
             idle = λ i l u. isEnd-true (linkAt chain i) (rw u at (all-at (stands words names heads chain) (length chain) h i l));
           },
           apart,
@@ -240,29 +174,16 @@ module _ (words names : List ℕ) (heads chain : List ℤ) (some : 0 < length he
     standing i l =
         ⊎-elim (λ u. rw u (found i u)) (λ u. rw u (ap isEnd (sound .idle i l u))) (true-or-false (used words i))
 
-    -- the chains spend what they hold
-    spends : (b : ℕ) → b ≤ length heads → (m : ℕ) → spendAll heads chain b (sum b many + m) ≡ Left m
-    unfolding spendAll sum many here
-    spends zero l m = rw zero-add refl
-    spends (suc b) l m =
-        let its = sound .each b l in
-        rw (add-assoc, spends b (omega arith) (many b + m)) (rw (← holds-long (here b) its) (links-spend chain m (its .linked)))
-
-    test-check : outcome ≡ Left 0
-    unfolding outcome
-    test-check = rw total (rw add-zero at (spends (length heads) (omega arith) 0))
-
   -- the code's check is the test of the definition
   pub check-is :
       (all (length chain) (stands words names heads chain)
-      && spent (spendAll heads chain (length heads) (count (length words) (used words))))
+      && eqb (leading heads + leading chain) (count (length words) (used words)))
       ≡ chainsTest words names heads chain
-  unfolding outcome
   check-is =
       let all-stand = all (length chain) (stands words names heads chain) in
       same-tests _ (chainsTest words names heads chain)
-      (λ h. check-test (and-left all-stand _ h) (spent-is _ (and-right all-stand _ h)))
+      (λ h. check-test (and-left all-stand _ h) (eqb-true _ _ (and-right all-stand _ h)))
       (λ h.
       let s = chains-say words names heads chain .holds h in
       and-true (all-of (stands words names heads chain) (length chain) (standing (s .0) (s .1)))
-      (ap spent (test-check (s .0) (s .1))))
+      (eq-eqb _ _ (lead-count words (bucketAt names (length heads)) heads chain len homes (s .0))))

@@ -13,5 +13,7 @@ pub mod LeaveSteps
 pub mod LeaveLaws
 pub mod TestLaws
 pub mod BudgetLaws
+pub mod MetLaws
+pub mod LeadLaws
 pub mod CheckLaws
 pub mod ExportLaws

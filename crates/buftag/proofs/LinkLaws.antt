@@ -147,7 +147,7 @@ module _ (ls : List ℤ) where
   links-ends (suc k) done h = refl
   links-ends (suc k) (step {i = i} p r) h = and-true (lt-ltb i (length ls) p) (links-ends k r (omega arith))
 
-  pub links-members : (k : ℕ) {l : Link} {xs : List ℕ} → Links ls l xs → length xs ≤ k → members ls k l ≡ xs
+  links-members : (k : ℕ) {l : Link} {xs : List ℕ} → Links ls l xs → length xs ≤ k → members ls k l ≡ xs
   unfolding members
   links-members zero done h = refl
   links-members zero (step p r) h = absurd (omega arith)

@@ -68,7 +68,7 @@ module _ (chain : List ℤ) (names : List ℕ) (n : PageName) where
   walk-found (suc k) i p h e = rw (lt-ltb i (length chain) h, e)
 
   -- and one that has not
-  walk-on : (k i : ℕ) → i < length chain → sameName (nameAt names i) n ≡ false
+  pub walk-on : (k i : ℕ) → i < length chain → sameName (nameAt names i) n ≡ false
       → walk chain names n (suc k) (To i) ≡ walk chain names n k (linkAt chain i)
   unfolding walk
   walk-on k i h e = rw (lt-ltb i (length chain) h, e)

@@ -1,4 +1,4 @@
--- Lists walked to their end with a budget: what is left of it.
+-- A list walked to its end with a budget: what is left of it.
 use mathlib.Core.Bool.{Bool, false, cond}
 use mathlib.Core.List.{List}
 use Prim.Native.Nat.{ℕ, zero, suc}
@@ -21,15 +21,6 @@ spend ls (suc k) (To i) = let on = spend ls k (linkAt ls i) in cond (ltb i (leng
 spend ls (suc k) End = Left (suc k)
 spend ls (suc k) Off = Wrong
 spend ls (suc k) Bad = Wrong
-
-abbrev pub onward : Walked → (ℕ → Walked) → Walked
-onward (Left m) f = f m
-onward Wrong f = Wrong
-
--- the lists that start at heads 0 to b − 1, one after the other
-unfoldable pub spendAll : List ℤ → List ℤ → ℕ → ℕ → Walked
-spendAll heads ls zero k = Left k
-spendAll heads ls (suc b) k = onward (spendAll heads ls b k) (λ m. spend ls m (linkAt heads b))
 
 -- nothing is left
 abbrev pub spent : Walked → Bool

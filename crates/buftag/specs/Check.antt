@@ -1,11 +1,12 @@
--- The check of all chains as the code makes it: each buffer in use is found under its name, an empty one leads nowhere, and the chains
--- together have as many places as there are buffers in use.
-use mathlib.Core.Bool.{Bool, false, cond}
+-- The check of all chains as the code makes it: each buffer in use is found under its name, an empty one leads nowhere, and as many links
+-- lead on, heads and chain links together, as there are buffers in use.
+use mathlib.Core.Bool.{Bool, false, not, cond}
 use mathlib.Core.List.{List}
 use Prim.Native.Nat.{ℕ}
 use lib.Dec.{eqb}
 use lib.IntN.{ℤ}
 use lib.ListN.{length}
+use Rattle.laws.specs.Sum.{count}
 use Rattle.buftag.specs.declared.link.Link.{Link}
 use Rattle.buftag.specs.declared.lookup.Held.{Held}
 use Rattle.buftag.specs.declared.lookup.Held.the-variants.{At, Nowhere}
@@ -29,3 +30,7 @@ findsItself names heads chain i = isFirst chain names (linkAt heads (bucketOf (n
 
 unfoldable pub stands : List ℕ → List ℕ → List ℤ → List ℤ → ℕ → Bool
 stands words names heads chain i = cond (used words i) (findsItself names heads chain i) (isEnd (linkAt chain i))
+
+-- how many links of a list lead on: all but −1
+unfoldable pub leading : List ℤ → ℕ
+leading ls = count (length ls) (λ i. not (isEnd (linkAt ls i)))

@@ -1,5 +1,5 @@
 // The check of a buffer's place in its chain. Where each buffer in use is the first there with its name, an empty one leads nowhere, and
-// the chains together have as many places as there are buffers in use, each is in its chain once, and no chain has another.
+// as many links lead on as there are buffers in use, each is in its chain once, and no chain has another.
 
 ghost use mathlib.Core.Path.{_≡_};
 ghost use Prim.Native.Nat.{_*_, _<_};

@@ -5,6 +5,7 @@ pub mod budget;
 pub mod chain;
 pub mod check;
 pub mod export;
+pub mod lead;
 pub mod link;
 pub mod lookup;
 pub mod name;

@@ -46,24 +46,6 @@ pub fn link_at(links: &[i32], i: usize) -> Link
     read_link(links[i])
 }
 
-// Whether a signed number ends a list: one comparison, for the many buckets that have no chain.
-fn is_none(x: i32) -> bool
-    ensures { λ r. ⌜ r ≡ isEnd (linkOf x) ⌝ }
-{
-    if x == NONE {
-        return true;
-    }
-    false
-}
-
-// Whether the link at a place ends its list.
-pub fn ends_at(links: &[i32], i: usize) -> bool
-    requires { ⌜ i < length (now links) ⌝ }
-    ensures { λ r. ⌜ r ≡ isEnd (linkAt (now (links .entry)) i) ⌝ }
-{
-    is_none(links[i])
-}
-
 pub fn is_end(l: Link) -> bool
     ensures { λ r. ⌜ r ≡ isEnd l ⌝ }
 {
