@@ -1,5 +1,6 @@
 pub mod SizesLaws
 pub mod GuessesLaws
+pub mod WordsLaws
 pub mod BuffersLaws
 pub mod BooksLaws
 pub mod LentLaws
