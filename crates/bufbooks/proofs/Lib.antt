@@ -1,6 +1,7 @@
 pub mod SizesLaws
 pub mod GuessesLaws
 pub mod RowsLaws
+pub mod WordsLaws
 pub mod BuffersLaws
 pub mod BooksLaws
 pub mod LentLaws

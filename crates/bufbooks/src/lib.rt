@@ -8,3 +8,4 @@ pub mod hashes;
 pub mod lent;
 pub mod sizes;
 pub mod sound_rows;
+pub mod words;

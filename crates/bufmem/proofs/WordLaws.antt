@@ -1,16 +1,23 @@
 -- The changes of a state word as sums and differences, as code computes them, and its test on the flags as one number.
 use Prim.Native.Nat.{ℕ, _+_, _-_, _*_, _%_, _^_, _≤_, _<_}
-use mathlib.Core.Path.{_≡_}
-use mathlib.Core.Bool.{true, false, _&&_, _||_}
+use mathlib.Core.Path.{_≡_, refl}
+use mathlib.Core.Bool.{Bool, true, false, not, _&&_, _||_}
 use mathlib.Core.Logic.{_≢_, ⊎-elim}
 use native.Mathlib.Omega.{arith}
 use lib.Dec.{eqb, leb}
 use borrow.Author.Tests.{eq-eqb, ne-eqb, le-leb, lt-leb}
+use Rattle.laws.proofs.Tests.{eq-or-ne}
 use Rattle.bufmodel.specs.Word.{maxUsage, pins, usage, flags, pack, cleanFlags, dirtyFlags, empty, soundWord, pinned}
 use Rattle.bufmodel.specs.Word.{pinMore, pinLess, useLess}
 use Rattle.bufmodel.proofs.WordLaws.{sound-flags, sound-held, pinned-pins}
 
 -- ---- the test of a word, on the flags as one number
+turned : (a b : Bool) → (a && b) ≡ (b && a && true)
+turned true true = refl
+turned true false = refl
+turned false true = refl
+turned false false = refl
+
 module _ (w : ℕ) (h : w < 2 ^ 32) where
   sound-tests : soundWord w ≡ (eqb w 0 || (leb (usage w) maxUsage && (eqb (flags w) cleanFlags || eqb (flags w) dirtyFlags)))
   unfolding soundWord empty
@@ -31,6 +38,15 @@ module _ (w : ℕ) (h : w < 2 ^ 32) where
 
   pub sound-other : w ≢ 0 → usage w ≤ maxUsage → flags w ≢ cleanFlags → soundWord w ≡ eqb (flags w) dirtyFlags
   sound-other full u f = rw (sound-few full u, ne-eqb (flags w) cleanFlags f)
+
+  -- the flags of a page and few uses: a word that is sound and not 0, since 0 has no flags
+  pub full-tests : ((eqb (flags w) cleanFlags || eqb (flags w) dirtyFlags) && leb (usage w) maxUsage) ≡ (soundWord w && not (empty w))
+  unfolding empty flags
+  full-tests =
+      ⊎-elim
+      (λ z. rw (sound-tests, eq-eqb w 0 z, ne-eqb (flags w) cleanFlags (λ e. omega arith), ne-eqb (flags w) dirtyFlags (λ e. omega arith)))
+      (λ n. rw (sound-tests, ne-eqb w 0 n) (turned (eqb (flags w) cleanFlags || eqb (flags w) dirtyFlags) (leb (usage w) maxUsage)))
+      (eq-or-ne w 0)
 
 -- ---- the changes
 -- one pin more, at the greatest usage and below it

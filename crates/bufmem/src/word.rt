@@ -1,7 +1,7 @@
 // State words: their fields, whether one is sound, and the changes of the word of a buffer in use.
 
 ghost use mathlib.Core.Path.{_≡_};
-ghost use mathlib.Core.Bool.{true, false};
+ghost use mathlib.Core.Bool.{true, false, not, _&&_};
 ghost use Prim.Native.Nat.{_^_, _<_};
 ghost use Rattle.bufmodel.specs.Word.{
   pins,
@@ -101,6 +101,14 @@ pub fn word_ok(w: u32) -> bool
         return true;
     }
     flags == DIRTY
+}
+
+// Whether a word is sound and that of a buffer in use. Without a branch, so that a loop over words becomes one over vectors.
+pub fn is_full(w: u32) -> bool
+    ensures { λ r. ⌜ r ≡ (soundWord w && not (empty w)) ⌝ }
+{
+    let flags = w / FLAG;
+    ((flags == CLEAN) | (flags == DIRTY)) & (w / USE % 16 <= MAX_USAGE)
 }
 
 // One pin more, and one use more unless it is the greatest.
