@@ -5,6 +5,7 @@ pub mod NamesLaws
 pub mod LinkLaws
 pub mod HoldsLaws
 pub mod WalkLaws
+pub mod FirstLaws
 pub mod LookupLaws
 pub mod ChainLaws
 pub mod UnchainLaws

@@ -1,5 +1,7 @@
 -- Laws of page names: the test of equality, the bytes back to the name, the hash continued from the file's.
 use mathlib.Core.Path.{_≡_, sym, _∙_, ap}
+use mathlib.Core.Bool.{false}
+use mathlib.Core.Logic.{_≢_, ⊎-elim}
 use mathlib.Core.List.{List, [], _∷_, _++_}
 use Prim.Native.Nat.{ℕ, suc, _+_, _*_, _/_, _%_, _^_, _≤_, _<_}
 use native.Mathlib.Nat.{mod-lt}
@@ -7,6 +9,7 @@ use native.Mathlib.Omega.{arith}
 use lib.ListN.{length, getD, drop, drop-of-length-le}
 use lib.Seq.{sets, drop-cons}
 use Rattle.laws.specs.Says.{Says}
+use Rattle.laws.proofs.Tests.{true-or-false}
 use Rattle.laws.proofs.Sets.{sets-append, sets-whole}
 use Rattle.laws.proofs.Says.{says-eq, says-and, says-as}
 use Rattle.buftag.specs.declared.name.FileName.{FileName}
@@ -41,6 +44,11 @@ pub says-same-name : (a b : PageName) → Says (sameName a b) (a ≡ b)
 says-same-name a b =
     says-as (λ s. with-block (s .0) (s .1)) (λ e. (ap (λ (n : PageName). n .file) e, ap (λ (n : PageName). n .block .0) e))
     (says-and (says-same-file (a .file) (b .file)) (says-eq _ _))
+
+-- names of different blocks are not one
+pub blocks-apart : (a b : PageName) → a .block .0 ≢ b .block .0 → sameName a b ≡ false
+blocks-apart a b ne =
+    ⊎-elim (λ t. absurd (ne (ap (λ (n : PageName). n .block .0) (says-same-name a b .holds t)))) (λ f. f) (true-or-false (sameName a b))
 
 -- ---- hash
 -- continued over the block's bytes from the hash of the file's

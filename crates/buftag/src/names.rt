@@ -13,6 +13,9 @@ use crate::number::BufferNumber;
 
 pub const NAME_WORDS: usize = 5;
 
+// The place of the block among a name's words.
+const BLOCK_WORD: usize = 4;
+
 // An empty buffer's name.
 pub fn no_name() -> PageName
     ensures { λ r. ⌜ r ≡ noName ⌝ }
@@ -51,6 +54,17 @@ pub fn holds(names: &[u32], buffer: BufferNumber, name: PageName) -> bool
     ensures { λ r. ⌜ r ≡ sameName (nameAt (now (names .entry)) (buffer .0)) name ⌝ }
 {
     same(stored(names, buffer), name)
+}
+
+// Whether two buffers have one name. Their blocks, which tell most apart, are looked at alone first.
+pub fn same_names(names: &[u32], a: BufferNumber, b: BufferNumber) -> bool
+    requires { ⌜ (nameWords * a .0 + nameWords ≤ length (now names)) × (nameWords * b .0 + nameWords ≤ length (now names)) ⌝ }
+    ensures { λ r. ⌜ r ≡ sameName (nameAt (now (names .entry)) (a .0)) (nameAt (now (names .entry)) (b .0)) ⌝ }
+{
+    if names[NAME_WORDS * a.0 + BLOCK_WORD] != names[NAME_WORDS * b.0 + BLOCK_WORD] {
+        return false;
+    }
+    same(stored(names, a), stored(names, b))
 }
 
 // Gives a buffer a name.

@@ -1,49 +1,32 @@
-use Rattle.buftag.specs.Check.{isAt, isFirst}
-use Rattle.buftag.specs.Lookup.{walk}
-use lib.ListN.{length}
+use Rattle.buftag.proofs.FirstLaws.{link-other, first-own}
+use Rattle.buftag.proofs.SignedLaws.{bits-back}
+use Rattle.buftag.specs.Check.{isFirst}
+use Rattle.buftag.specs.Link.{linkOf}
 use denote.Ref.{now}
-use mathlib.Core.Path.{_≡_, sym, _∙_, ap}
+use mathlib.Core.Path.{_∙_, ap}
 use borrow.Author.Needs.{needs}
 use Rattle.buftag.proofs.check.is_first.Statement.{statement}
 use Rattle.buftag.proofs.check.is_first.Tie as tie
 
-stored-requires : tie.Need-stored-requires
-stored-requires c κs = search needs
-
-find-from-requires : tie.Need-find-from-requires
-find-from-requires c κs = search needs
-
-enum-known-found : tie.Need-enum-known-found
-enum-known-found c = search needs
-
-enum-told : tie.Need-enum-told
-enum-told c = search needs
-
--- what the look-up from the chain's start on answered
-answer : (f : tie.After-find-from)
-    → let a = f .before .before .before .args in
-    isAt (a .buffer .0) (f .find-from .result) ≡ isFirst (now (a .chain)) (now (a .names)) (a .first) (a .buffer .0)
-unfolding isFirst
-answer f =
-    let a = f .before .before .before .args in
-    ap (isAt (a .buffer .0))
-    (f .find-from .ensures
-    ∙ ap (λ n. walk (now (a .chain)) (now (a .names)) n (length (now (a .chain))) (a .first)) (f .before .stored .ensures))
+cast-if1 : tie.Need-cast-if1
+cast-if1 c = search needs
 
 returns : tie.Need-returns
 returns c =
-    let f = c .before .before in
-    ap (isAt (f .before .before .before .args .buffer .0)) (sym (c .enum-told .given .1)) ∙ answer f
+    let s = c .before .before .before in
+    first-own _ _ (s .args .buffer .0) (s .args .first) (s .fits .first) (s .pre .1) (s .pre .2) (c .if1 .taken)
 
-same-buffer-requires : tie.Need-same-buffer-requires
-same-buffer-requires c κs = search needs
+is-later-requires : tie.Need-is-later-requires
+is-later-requires c κs =
+    let s = c .before .before .before in
+    (s .pre .0, s .pre .1, s .pre .2, rw (bits-back _ (s .fits .first)) (link-other (s .args .first) (s .args .buffer .0) (c .if1 .left)))
 
 returns-2 : tie.Need-returns-2
 returns-2 c =
-    let f = c .before .before .before .before in
-    c .same-buffer .ensures ∙ ap (isAt (f .before .before .before .args .buffer .0)) (sym (c .before .before .found .given .1)) ∙ answer f
+    let s = c .before .before .before .before in
+    let a = s .args in
+    c .is-later .ensures
+    ∙ ap (λ z. isFirst (now (a .chain)) (now (a .names)) (linkOf z) (a .buffer .0)) (bits-back _ (s .fits .first))
 
 pub is-first-spec : {M : Type 1} → statement M
-is-first-spec =
-    tie.close
-    (tie.spec stored-requires find-from-requires enum-known-found enum-told returns same-buffer-requires returns-2)
+is-first-spec = tie.close (tie.spec cast-if1 returns is-later-requires returns-2)
