@@ -5,38 +5,42 @@ ghost use Prim.Native.Nat.{_+_, _*_, _≤_};
 ghost use lib.ListN.{length, replicate};
 ghost use Rattle.laws.specs.Block.{block, putBlock};
 
-pub fn copy_bytes(to: &mut [u8], from: &[u8])
+// The greatest permitted page, in bytes.
+const MAX_PAGE: usize = 32768;
+
+fn copy_bytes(to: &mut [u8], from: &[u8])
     requires { ⌜ length (now to) ≡ length (now from) ⌝ }
     ensures { λ _. ⌜ now (to .exit) ≡ now (from .entry) ⌝ }
 {
     let mut i = 0;
-    while i < to.len() {
+    while i < from.len() {
         to[i] = from[i];
         i += 1;
     }
 }
 
-// The bytes of a page of the usual size. A local array overlaps neither slice, so the compiler makes one memmove of both copies; of
-// copy_bytes alone, whose slices it cannot tell apart, it makes a loop.
-fn copy_usual(to: &mut [u8], from: &[u8])
-    requires { ⌜ (length (now to) ≡ 8192) × (length (now from) ≡ 8192) ⌝ }
+// At most the greatest page. A local array overlaps neither slice, so the compiler makes one memmove of both copies; of copy_bytes
+// alone, whose slices it cannot tell apart, it makes a loop.
+fn copy_once(to: &mut [u8], from: &[u8])
+    requires { ⌜ (length (now to) ≡ length (now from)) × (length (now from) ≤ 32768) ⌝ }
     ensures { λ _. ⌜ now (to .exit) ≡ now (from .entry) ⌝ }
 {
-    let mut page = [0u8; 8192];
-    copy_bytes(&mut page[..], from);
-    copy_bytes(to, &page[..]);
+    let mut page = [0u8; MAX_PAGE];
+    let n = from.len();
+    copy_bytes(&mut page[..n], from);
+    copy_bytes(to, &page[..n]);
 }
 
-// The bytes of a page of any size.
+// A page or a part of one; the loop is for more bytes than a page has.
 pub fn copy_page(to: &mut [u8], from: &[u8])
     requires { ⌜ length (now to) ≡ length (now from) ⌝ }
     ensures { λ _. ⌜ now (to .exit) ≡ now (from .entry) ⌝ }
 {
-    if from.len() == 8192 {
-        copy_usual(to, from);
+    if from.len() > MAX_PAGE {
+        copy_bytes(to, from);
         return;
     }
-    copy_bytes(to, from);
+    copy_once(to, from);
 }
 
 fn clear_bytes(to: &mut [u8])

@@ -6,7 +6,6 @@ ghost use lib.ListN.{length, take, drop};
 ghost use Rattle.laws.specs.Block.{block, putBlock};
 ghost use Rattle.bufmodel.specs.Position.{position as pagePosition, written};
 use crate::block::copy_block;
-use crate::block::copy_bytes;
 use crate::block::copy_page;
 use crate::position::position_at;
 use crate::position::put_position;
@@ -35,7 +34,7 @@ pub fn read_page(pool: &[u8], size: usize, buffer: BufferNumber, from: usize, ou
 {
     let a = buffer.0 * size + from;
     let e = a + out.len();
-    copy_bytes(out, &pool[a..e]);
+    copy_page(out, &pool[a..e]);
 }
 
 // Bytes copied into a page and its log position set.
@@ -44,7 +43,7 @@ fn write_bytes(page: &mut [u8], from: usize, bytes: &[u8], position: u64)
     ensures { λ _. ⌜ now (page .exit) ≡ written position from (now (bytes .entry)) (now (page .entry)) ⌝ }
 {
     let e = from + bytes.len();
-    copy_bytes(&mut page[from..e], bytes);
+    copy_page(&mut page[from..e], bytes);
     put_position(page, 0, position);
 }
 

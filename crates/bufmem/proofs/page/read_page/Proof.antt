@@ -31,17 +31,17 @@ add-a c = search needs
 add-e : tie.Need-add-e
 add-e c = search needs
 
-sub-copy-bytes : tie.Need-sub-copy-bytes
-sub-copy-bytes c = search needs
+sub-copy-page : tie.Need-sub-copy-page
+sub-copy-page c = search needs
 
-part-copy-bytes-start : tie.Need-part-copy-bytes-start
-part-copy-bytes-start c = search needs
+part-copy-page-start : tie.Need-part-copy-page-start
+part-copy-page-start c = search needs
 
-part-copy-bytes-end : tie.Need-part-copy-bytes-end
-part-copy-bytes-end c = search needs
+part-copy-page-end : tie.Need-part-copy-page-end
+part-copy-page-end c = search needs
 
-copy-bytes-requires : tie.Need-copy-bytes-requires
-copy-bytes-requires c κs = search needs
+copy-page-requires : tie.Need-copy-page-requires
+copy-page-requires c κs = search needs
 
 same-length : tie.Need-same-length
 same-length c = search needs
@@ -51,7 +51,7 @@ returns c =
     let b = c .before .before in
     let s = b .before .before .before .before .before .before in
     let a = s .args in
-    b .copy-bytes .ensures
+    b .copy-page .ensures
     ∙ rw (add-sub-cancel-left (a .buffer .0 * a .size + a .from) (length (now (a .out))))
     (page-part (a .size) (a .buffer .0) (a .from) (length (now (a .out))) (now (a .pool)) (s .pre .0) (s .pre .1))
 
@@ -62,9 +62,9 @@ read-page-spec =
     mul-a
     add-a
     add-e
-    sub-copy-bytes
-    part-copy-bytes-start
-    part-copy-bytes-end
-    copy-bytes-requires
+    sub-copy-page
+    part-copy-page-start
+    part-copy-page-end
+    copy-page-requires
     same-length
     returns)
