@@ -1,6 +1,7 @@
 pub mod SignedLaws
 pub mod TagLaws
 pub mod NameLaws
+pub mod BucketLaws
 pub mod NamesLaws
 pub mod LinkLaws
 pub mod HoldsLaws

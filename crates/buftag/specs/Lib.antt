@@ -1,4 +1,5 @@
 pub mod Name
+pub mod Bucket
 pub mod Names
 pub mod Link
 pub mod Lookup
