@@ -2,17 +2,18 @@
 use mathlib.Core.Path.{_≡_, refl, ap, _∙_}
 use mathlib.Core.Bool.{Bool, true, false, not, cond, _&&_}
 use mathlib.Core.Logic.{⊎-elim}
-use Prim.Native.Nat.{ℕ, _-_, _≤_, _<_}
+use Prim.Native.Nat.{ℕ, _+_, _≤_, _<_}
 use native.Mathlib.Omega.{arith}
+use lib.Dec.{eqb}
 use lib.ListN.{length}
-use borrow.Author.Tests.{eqb-true, le-leb, le-ltb, lt-leb, lt-ltb}
+use borrow.Author.Tests.{eqb-true, eq-eqb, le-leb, le-ltb, lt-leb, lt-ltb}
 use Rattle.laws.specs.Every.{all}
 use Rattle.laws.specs.First.{found}
 use Rattle.laws.specs.Says.{Says}
 use Rattle.laws.specs.Sum.{count}
 use Rattle.laws.proofs.Every.{all-at, all-of}
 use Rattle.laws.proofs.Says.{says-it, says-le, says-lt, says-and, says-all, says-if}
-use Rattle.laws.proofs.Sum.{count-not}
+use Rattle.laws.proofs.Sum.{count-not, count-all}
 use Rattle.laws.proofs.Tests.{and-true, and-left, and-right, never, same-tests, true-or-false}
 use Rattle.buftag.specs.declared.link.Link.{Link}
 use Rattle.buftag.specs.declared.link.Link.the-variants.{End, Off}
@@ -20,8 +21,8 @@ use Rattle.buftag.specs.Names.{noName}
 use Rattle.buftag.specs.Link.{linkOf, linkAt, isEnd, Holds}
 use Rattle.buftag.specs.Lookup.{used}
 use Rattle.buftag.specs.Chain.{ChainsSound, Distinct}
-use Rattle.buftag.specs.Check.{findsItself, stands}
-use Rattle.buftag.specs.Budget.{spend, spendAll, spent}
+use Rattle.buftag.specs.Check.{findsItself, stands, leading}
+use Rattle.buftag.specs.Budget.{spend, spent}
 use Rattle.buftag.proofs.LinkLaws.{isEnd-true, holds-says}
 use Rattle.buftag.proofs.NameLaws.{says-same-name}
 use Rattle.buftag.proofs.TestLaws.{chains-say}
@@ -31,9 +32,10 @@ use Rattle.bufmodel.specs.Rows.{placeOf}
 use Rattle.bufmodel.specs.Memory.{Memory, buffers, wordOf, nameOf, pageOf}
 use Rattle.bufmodel.specs.Books.{emptyAt, sound, BooksSound}
 use Rattle.bufmodel.proofs.BooksLaws.{says-off, says-found, books-say}
-use Rattle.bufbooks.specs.Buffers.{emptyTest, usedTest, heldTest, bufferTest}
+use Rattle.bufbooks.specs.Words.{fine, fineAt, wordsOf}
+use Rattle.bufbooks.specs.Lists.{listsTest}
+use Rattle.bufbooks.specs.Buffers.{Fitting, lowTest, heldTest, bufferTest}
 use Rattle.bufbooks.specs.Books.{booksTest}
-use Rattle.bufbooks.specs.Buffers.{Fitting}
 use Rattle.buftag.proofs.CheckLaws.{list-is, check-is}
 
 -- ---- an empty word is sound, and not dirty
@@ -59,26 +61,30 @@ says-end : (l : Link) → Says (isEnd l) (l ≡ End)
 says-end l = record { holds = isEnd-true l; shown = λ e. rw e }
 
 module _ (m : Memory) where
-  -- of an empty buffer, and of one in use
-  abbrev Blank : ℕ → Type 0
-  Blank i = (nameOf m i ≡ noName) × (linkAt (m .chain) i ≡ End)
+  -- a buffer's word and links
+  abbrev Fine : ℕ → Type 0
+  Fine i =
+      (emptyAt m i ≡ true → linkAt (m .chain) i ≡ End)
+      × (emptyAt m i ≡ false → (soundWord (wordOf m i) ≡ true) × (linkAt (m .free) i ≡ Off))
 
-  abbrev Filled : ℕ → Type 0
-  Filled i =
-      (((soundWord (wordOf m i) ≡ true) × (linkAt (m .free) i ≡ Off))
-      × (dirty (wordOf m i) ≡ true → position (pageOf m i) ≤ m .control .inserted))
-      × (((g : ℕ) × (placeOf (m .rows) (nameOf m i) ≡ found g)) × (findsItself (m .names) (m .heads) (m .chain) i ≡ true))
+  fine-says : (i : ℕ) → Says (fineAt (m .states) (m .free) (m .chain) i) (Fine i)
+  unfolding fineAt fine emptyAt
+  fine-says i = says-either (emptyAt m i) (says-end (linkAt (m .chain) i)) (says-and (says-it _) (says-off (linkAt (m .free) i)))
 
-  abbrev Stored : ℕ → Type 0
-  Stored i = (emptyAt m i ≡ true → Blank i) × (emptyAt m i ≡ false → Filled i)
+  -- its page and name
+  abbrev Kept : ℕ → Type 0
+  Kept i =
+      (emptyAt m i ≡ true → nameOf m i ≡ noName)
+      × (emptyAt m i ≡ false
+      → (dirty (wordOf m i) ≡ true → position (pageOf m i) ≤ m .control .inserted)
+      × (((g : ℕ) × (placeOf (m .rows) (nameOf m i) ≡ found g)) × (findsItself (m .names) (m .heads) (m .chain) i ≡ true)))
 
-  buffer-says : (i : ℕ) → Says (bufferTest m i) (Stored i)
-  unfolding bufferTest emptyTest usedTest heldTest
+  buffer-says : (i : ℕ) → Says (bufferTest m i) (Kept i)
+  unfolding bufferTest lowTest heldTest
   buffer-says i =
       says-either (emptyAt m i)
-      (says-and (says-same-name (nameOf m i) noName) (says-end (linkAt (m .chain) i)))
-      (says-and
-      (says-and (says-and (says-it _) (says-off (linkAt (m .free) i))) (says-if (dirty (wordOf m i)) (says-le _ _)))
+      (says-same-name (nameOf m i) noName)
+      (says-and (says-if (dirty (wordOf m i)) (says-le _ _))
       (says-and (says-found (placeOf (m .rows) (nameOf m i))) (says-it _)))
 
   -- ---- the buffers in use are those that are not empty
@@ -101,17 +107,56 @@ module _ (m : Memory) where
   unfolding emptyAt
   full-at i d = ⊎-elim (λ e. never d (empty-clean (wordOf m i) e)) (λ e. e) (true-or-false (emptyAt m i))
 
-  -- as many are left for the free list as are empty
-  left-is : buffers m - count (buffers m) (used (m .states)) ≡ count (buffers m) (emptyAt m)
+  -- whether the free list has as many places as there are empty buffers, and as many links lead on as there are buffers in use
+  abbrev freed : Bool
+  freed = spent (spend (m .free) (count (buffers m) (emptyAt m)) (linkOf (m .control .top)))
+
+  abbrev led : Bool
+  led = eqb (leading (m .heads) + leading (m .chain)) (count (buffers m) (used (m .states)))
+
+  -- empty buffers and buffers in use are all there are
+  both : count (buffers m) (emptyAt m) + count (buffers m) (used (m .states)) ≡ buffers m
   unfolding emptyAt empty
-  left-is = omega (arith, count-not (emptyAt m) (buffers m))
+  both = count-not (emptyAt m) (buffers m)
 
-  -- whether the free list has so many places, and the chains as many as there are buffers in use
-  abbrev pub freed : Bool
-  freed = spent (spend (m .free) (buffers m - count (buffers m) (used (m .states))) (linkOf (m .control .top)))
+  Listed : Type 0
+  Listed = (((i : ℕ) → i < buffers m → Fine i) × (led ≡ true)) × (freed ≡ true)
 
-  abbrev pub walked : Bool
-  walked = spent (spendAll (m .heads) (m .chain) (length (m .heads)) (count (buffers m) (used (m .states))))
+  -- the lists as they are counted, with the words
+  counted : Bool
+  counted =
+      eqb (count (buffers m) (fineAt (m .states) (m .free) (m .chain))) (buffers m)
+      && eqb (leading (m .heads) + leading (m .chain) + count (buffers m) (emptyAt m))
+      (count (buffers m) (fineAt (m .states) (m .free) (m .chain)))
+      && freed
+
+  counted-is : listsTest (m .control .top) (m .states) (m .free) (m .heads) (m .chain) ≡ counted
+  unfolding listsTest wordsOf emptyAt counted
+  counted-is = refl
+
+  fine-all : Says (all (buffers m) (fineAt (m .states) (m .free) (m .chain))) ((i : ℕ) → i < buffers m → Fine i)
+  fine-all = says-all (buffers m) (fineAt (m .states) (m .free) (m .chain)) Fine (λ i l. fine-says i)
+
+  listed-says : Says counted Listed
+  unfolding counted Listed
+  listed-says =
+      let n = buffers m in
+      let p = fineAt (m .states) (m .free) (m .chain) in
+      let a = eqb (count n p) n in
+      let b = eqb (leading (m .heads) + leading (m .chain) + count n (emptyAt m)) (count n p) in
+      record {
+        holds = λ h.
+            let ab = and-left (a && b) freed h in
+            let e = eqb-true (count n p) n (and-left a b ab) in
+            let f = eqb-true _ (count n p) (and-right a b ab) in (
+              (fine-all .holds (count-all p n .0 e), eq-eqb _ (count n (used (m .states))) (omega (arith, e, f, both))),
+              and-right (a && b) freed h,
+            );
+        shown = λ t.
+            let e = count-all p n .1 (fine-all .shown (t .0 .0)) in
+            let f = eqb-true _ (count n (used (m .states))) (t .0 .1) in
+            and-true (and-true (eq-eqb (count n p) n e) (eq-eqb _ (count n p) (omega (arith, e, f, both)))) (t .1);
+      }
 
   -- a buffer is where a look-up or its link says
   abbrev standing : ℕ → Bool
@@ -122,12 +167,12 @@ module _ (m : Memory) where
   Unlisted = (i : ℕ) → i < buffers m → emptyAt m i ≡ false → linkAt (m .free) i ≡ Off
 
   module _ (fit : Fitting m) where
-    stands-at : (i : ℕ) → Stored i → standing i ≡ true
+    stands-at : (i : ℕ) → Fine i → Kept i → standing i ≡ true
     unfolding stands
-    stands-at i s =
+    stands-at i f k =
         ⊎-elim
-        (λ e. rw (used-false i e) (says-end (linkAt (m .chain) i) .shown (s .0 e .1)))
-        (λ e. rw (used-true i e) (s .1 e .1 .1))
+        (λ e. rw (used-false i e) (says-end (linkAt (m .chain) i) .shown (f .0 e)))
+        (λ e. rw (used-true i e) (k .1 e .1 .1))
         (true-or-false (emptyAt m i))
 
     stands-finds : (i : ℕ) → emptyAt m i ≡ false → standing i ≡ true → findsItself (m .names) (m .heads) (m .chain) i ≡ true
@@ -137,11 +182,11 @@ module _ (m : Memory) where
     -- the walk of the free list
     free-is : Unlisted → Says freed (Holds (m .free) (linkOf (m .control .top)) (emptyAt m))
     free-is off =
-        rw (left-is, ← fit .free, list-is (m .free) (linkOf (m .control .top)) (emptyAt m) (λ i l e. off i (rw (← fit .free) l) e))
+        rw (← fit .free, list-is (m .free) (linkOf (m .control .top)) (emptyAt m) (λ i l e. off i (rw (← fit .free) l) e))
         (holds-says (m .free) (linkOf (m .control .top)) (emptyAt m))
 
-    -- the places in the chains, and the walk of them
-    chains-are : Says (all (length (m .chain)) standing && walked)
+    -- the places in the chains, and the number of links
+    chains-are : Says (all (length (m .chain)) standing && led)
         (ChainsSound (m .states) (m .names) (m .heads) (m .chain) × Distinct (m .states) (m .names))
     chains-are =
         rw (check-is (m .states) (m .names) (m .heads) (m .chain) (fit .buckets) (fit .chain))
@@ -150,53 +195,54 @@ module _ (m : Memory) where
     -- ---- the two say the same of the books
     Tested : Type 0
     Tested =
-        ((((m .control .hand < buffers m) × (m .control .flushed ≤ m .control .inserted)) × ((i : ℕ) → i < buffers m → Stored i))
-        × (freed ≡ true))
-        × (walked ≡ true)
+        (((m .control .hand < buffers m) × (m .control .flushed ≤ m .control .inserted)) × Listed)
+        × ((i : ℕ) → i < buffers m → Kept i)
 
     tested-says : Says (booksTest m) Tested
     unfolding booksTest Tested
     tested-says =
-        says-and
+        rw counted-is
         (says-and
-        (says-and (says-and (says-lt _ _) (says-le _ _)) (says-all (buffers m) (bufferTest m) Stored (λ i l. buffer-says i)))
-        (says-it _))
-        (says-it _)
+        (says-and (says-and (says-lt _ _) (says-le _ _)) listed-says)
+        (says-all (buffers m) (bufferTest m) Kept (λ i l. buffer-says i)))
 
     tested-sound : Tested → BooksSound m
-    unfolding Tested
+    unfolding Tested Listed
     tested-sound t =
-        let each = t .0 .0 .1 in
-        let off : Unlisted = λ i l e. each i l .1 e .0 .0 .1 in
-        let stand = all-of standing (length (m .chain)) (λ i l. stands-at i (each i (omega (arith, fit .chain)))) in
-        let chained = chains-are .holds (and-true stand (t .1)) in
+        let lists = t .0 .1 in
+        let fine = lists .0 .0 in
+        let kept = t .1 in
+        let off : Unlisted = λ i l e. fine i l .1 e .1 in
+        let stand = all-of standing (length (m .chain)) (λ i l.
+        let k : i < buffers m = omega (arith, fit .chain) in stands-at i (fine i k) (kept i k)) in
+        let chained = chains-are .holds (and-true stand (lists .0 .1)) in
         record {
-          hand = t .0 .0 .0 .0;
-          log = t .0 .0 .0 .1;
-          words = λ i l. ⊎-elim (empty-word i) (λ e. each i l .1 e .0 .0 .0) (true-or-false (emptyAt m i));
-          blank = λ i l e. each i l .0 e .0;
-          free = free-is off .holds (t .0 .1);
+          hand = t .0 .0 .0;
+          log = t .0 .0 .1;
+          words = λ i l. ⊎-elim (empty-word i) (λ e. fine i l .1 e .0) (true-or-false (emptyAt m i));
+          blank = λ i l e. kept i l .0 e;
+          free = free-is off .holds (lists .1);
           off = off;
           distinct = chained .1;
-          page = λ i l e. each i l .1 e .1 .0;
+          page = λ i l e. kept i l .1 e .1 .0;
           chains = chained .0;
-          low = λ i l d. each i l .1 (full-at i d) .0 .1 d;
+          low = λ i l d. kept i l .1 (full-at i d) .0 d;
         }
 
-    sound-stored : BooksSound m → (i : ℕ) → i < buffers m → standing i ≡ true → Stored i
-    sound-stored k i l s = (
-      λ e. (k .blank i l e, k .chains .idle i (omega (arith, fit .chain)) (used-false i e)),
-      λ e. (((k .words i l, k .off i l e), k .low i l), (k .page i l e, stands-finds i e s)),
-    )
-
     sound-tested : BooksSound m → Tested
-    unfolding Tested
+    unfolding Tested Listed
     sound-tested k =
         let stand = all (length (m .chain)) standing in
         let chained = chains-are .shown (k .chains, k .distinct) in
-        let at = all-at standing (length (m .chain)) (and-left stand walked chained) in
-        let each : (i : ℕ) → i < buffers m → Stored i = λ i l. sound-stored k i l (at i (omega (arith, fit .chain))) in
-        ((((k .hand, k .log), each), free-is (k .off) .shown (k .free)), and-right stand walked chained)
+        let at = all-at standing (length (m .chain)) (and-left stand led chained) in
+        let fine : (i : ℕ) → i < buffers m → Fine i =
+        λ i l. (λ e. k .chains .idle i (omega (arith, fit .chain)) (used-false i e), λ e. (k .words i l, k .off i l e)) in
+        let kept : (i : ℕ) → i < buffers m → Kept i =
+        λ i l. (
+          λ e. k .blank i l e,
+          λ e. (k .low i l, (k .page i l e, stands-finds i e (at i (omega (arith, fit .chain))))),
+        ) in
+        (((k .hand, k .log), ((fine, and-right stand led chained), free-is (k .off) .shown (k .free))), kept)
 
     pub books-is : booksTest m ≡ sound m
     books-is =
@@ -217,17 +263,16 @@ module _ (m : Memory) (fit : Fitting m) where
         rw (← books-is m fit, lt-ltb (m .control .hand) (buffers m) hand, lt-leb (m .control .flushed) (m .control .inserted) h)
 
     module _ (log : m .control .flushed ≤ m .control .inserted) where
-      books-rest : (all (buffers m) (bufferTest m) && freed m && walked m) ≡ sound m
+      abbrev lists : Bool
+      lists = listsTest (m .control .top) (m .states) (m .free) (m .heads) (m .chain)
+
+      books-rest : (lists && all (buffers m) (bufferTest m)) ≡ sound m
       unfolding booksTest
       books-rest =
           rw (← books-is m fit, lt-ltb (m .control .hand) (buffers m) hand, le-leb (m .control .flushed) (m .control .inserted) log)
 
-      pub books-buffers : all (buffers m) (bufferTest m) ≡ false → false ≡ sound m
+      pub books-lists : lists ≡ false → false ≡ sound m
+      books-lists h = rw (← books-rest, h)
+
+      pub books-buffers : lists ≡ true → all (buffers m) (bufferTest m) ≡ sound m
       books-buffers h = rw (← books-rest, h)
-
-      module _ (each : all (buffers m) (bufferTest m) ≡ true) where
-        pub books-free : freed m ≡ false → false ≡ sound m
-        books-free h = rw (← books-rest, each, h)
-
-        pub books-chains : freed m ≡ true → walked m ≡ sound m
-        books-chains h = rw (← books-rest, each, h)

@@ -1,31 +1,26 @@
 -- What the code of the pass over the buffers shows, put together.
-use Prim.Native.Nat.{ℕ, _%_, _≤_, _<_}
+use Prim.Native.Nat.{ℕ, suc, _%_, _≤_, _<_}
+use native.Mathlib.Omega.{arith}
 use mathlib.Core.Path.{_≡_, ap, _∙_}
 use mathlib.Core.Bool.{Bool, true, false}
 use mathlib.Core.List.{List}
 use lib.IntN.{ℤ}
 use lib.ListN.{getD}
-use Rattle.laws.specs.Every.{all}
-use Rattle.laws.specs.Sum.{count}
 use Rattle.laws.specs.First.{found, missing}
-use Rattle.laws.proofs.Every.{all-fails, all-passes}
-use Rattle.laws.proofs.Sum.{count-done}
 use Rattle.buftag.specs.declared.name.PageName.{PageName}
 use Rattle.bufhash.specs.Bytes.{wordBytes}
 use Rattle.bufhash.specs.Fnv.{fnv, fnvStart}
-use Rattle.buftag.specs.Name.{fileBytes, bucketOf}
-use Rattle.buftag.specs.Names.{nameAt}
-use Rattle.buftag.specs.Lookup.{used}
+use Rattle.buftag.specs.Name.{fileBytes, bucketOf, sameName}
+use Rattle.buftag.specs.Names.{nameAt, noName}
 use Rattle.buftag.specs.Check.{findsItself}
 use Rattle.buftag.proofs.NameLaws.{hash-continued}
-use Rattle.bufmodel.specs.Rows.{blocksAt, rowOf, placeOf, placeIn}
-use Rattle.bufmodel.specs.Memory.{Memory, buffers, wordOf}
+use Rattle.bufmodel.specs.Rows.{files, blocksAt, storeBlocks, rowOf, placeOf, placeIn}
+use Rattle.bufmodel.specs.Memory.{Memory, wordOf}
+use Rattle.bufmodel.specs.Sizes.{maxBlocks, RowsSound}
 use Rattle.bufmodel.specs.Books.{emptyAt}
-use Rattle.bufmodel.proofs.RowsLaws.{row-found, place-is, place-behind}
-use Rattle.bufbooks.specs.declared.buffers.Counted.{Counted}
-use Rattle.bufbooks.specs.declared.buffers.Counted.the-variants.{Used, Wrong}
+use Rattle.bufmodel.proofs.RowsLaws.{start-more, start-grows, row-found, place-is, place-behind}
 use Rattle.bufbooks.specs.Hashes.{Hashed}
-use Rattle.bufbooks.specs.Buffers.{emptyTest, usedTest, heldTest, bufferTest, countedOf}
+use Rattle.bufbooks.specs.Buffers.{lowTest, heldTest, bufferTest}
 
 -- the bucket of a name, from the hash of its file's row
 pub bucket-continued : (rows hashes : List ℕ) → Hashed rows hashes → (n : PageName) {r : ℕ} → rowOf rows (n .file) ≡ found r
@@ -35,6 +30,11 @@ bucket-continued rows hashes k n {r} e {h} q buckets =
     let w = row-found rows (n .file) e in
     ap (λ (x : ℕ). x % buckets)
     (q ∙ ap (fnv (wordBytes (n .block .0))) (k r (w .0) ∙ ap (λ f. fnv (fileBytes f) fnvStart) (w .1)) ∙ hash-continued n)
+
+-- a file has at most as many blocks as the store
+pub blocks-low : (rows : List ℕ) → RowsSound rows → (r : ℕ) → r < files rows → blocksAt rows r ≤ maxBlocks
+unfolding storeBlocks
+blocks-low rows k r l = omega (arith, k .fill r l, k .room, start-more rows r, start-grows rows (suc r) (files rows) l)
 
 -- ---- the look-up of a buffer's name, by what the code looks at
 module _ (names : List ℕ) (heads chain : List ℤ) (rows : List ℕ) (i : ℕ) where
@@ -54,33 +54,16 @@ module _ (names : List ℕ) (heads chain : List ℤ) (rows : List ℕ) (i : ℕ)
 
 -- ---- the test of a buffer
 module _ (m : Memory) (i : ℕ) where
-  pub buffer-empty : emptyAt m i ≡ true → {t : Bool} → emptyTest (m .names) (m .chain) i ≡ t → bufferTest m i ≡ t
+  pub buffer-empty : emptyAt m i ≡ true → {t : Bool} → sameName (nameAt (m .names) i) noName ≡ t → bufferTest m i ≡ t
   unfolding bufferTest
   buffer-empty e f = rw (e, f)
 
   module _ (e : emptyAt m i ≡ false) where
-    pub buffer-unfit : usedTest (m .control) (m .pool) (m .free) (wordOf m i) i ≡ false → bufferTest m i ≡ false
+    pub buffer-late : lowTest (m .control) (m .pool) (wordOf m i) i ≡ false → bufferTest m i ≡ false
     unfolding bufferTest
-    buffer-unfit f = rw (e, f)
+    buffer-late f = rw (e, f)
 
-    pub buffer-held : usedTest (m .control) (m .pool) (m .free) (wordOf m i) i ≡ true → {t : Bool}
+    pub buffer-held : lowTest (m .control) (m .pool) (wordOf m i) i ≡ true → {t : Bool}
         → heldTest (m .names) (m .heads) (m .chain) (m .rows) i ≡ t → bufferTest m i ≡ t
     unfolding bufferTest
     buffer-held f h = rw (e, f, h)
-
--- ---- what the pass answers
-module _ (m : Memory) where
-  abbrev Answer : Counted → Type 0
-  Answer r = r ≡ countedOf (all (buffers m) (bufferTest m)) (count (buffers m) (used (m .states)))
-
-  pub pass-wrong : (i : ℕ) → i < buffers m → bufferTest m i ≡ false → Answer Wrong
-  unfolding countedOf
-  pass-wrong i l f =
-      ap (λ t. countedOf t (count (buffers m) (used (m .states)))) (all-fails (bufferTest m) (buffers m) i l f)
-
-  pub pass-done : (i n : ℕ) → i ≤ buffers m → buffers m ≤ i → all i (bufferTest m) ≡ true → n ≡ count i (used (m .states))
-      → Answer (Used n)
-  unfolding countedOf
-  pass-done i n l k h c =
-      ap Used (count-done (used (m .states)) (buffers m) i n l k c)
-      ∙ ap (λ t. countedOf t (count (buffers m) (used (m .states)))) (all-passes (bufferTest m) (buffers m) i l k h)

@@ -61,6 +61,8 @@ sized-fits m h =
     record {
       page = sized-page s .0;
       buckets = omega (arith, s .least, s .wide);
+      few = s .most;
+      narrow = s .heads;
       names = s .names;
       pool = s .pool;
       free = s .free;

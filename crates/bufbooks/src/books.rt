@@ -1,22 +1,17 @@
-// The books: the control record, every buffer, the free list, the chains, in one pass each.
+// The books: the control record, the words and the lists, every buffer's page and name.
 
 ghost use mathlib.Core.Path.{_≡_};
 ghost use mathlib.Core.List.{[]};
 ghost use Rattle.bufmodel.specs.Memory.{memory};
 ghost use Rattle.bufmodel.specs.Books.{sound};
 ghost use Rattle.bufbooks.specs.Buffers.{Fitting};
-use crate::buffers::Counted;
 use crate::buffers::buffers_ok;
 use crate::guesses::guess_rows;
 use crate::hashes::hash_rows;
+use crate::lists::lists_ok;
 use bufmodel::control::Control;
-use buftag::budget::is_spent;
-use buftag::budget::list_walk;
-use buftag::budget::lists_walk;
-use buftag::link::read_link;
 
-// Whether the books are sound. The lists need no look at what stands in them: buffers in use have free link -2 and are found in their
-// chains, so a free list or chains of the right number of places hold the right ones.
+// Whether the books are sound.
 pub fn books_ok(
     control: Control,
     states: &[u32],
@@ -40,11 +35,14 @@ pub fn books_ok(
     if control.flushed > control.inserted {
         return false;
     }
+    if !lists_ok(control, states, free, heads, chain) {
+        return false;
+    }
     let mut hashes = [0u32; 64];
     hash_rows(rows, &mut hashes);
     let mut guesses = [0u8; 256];
     guess_rows(rows, &mut guesses);
-    let counted = buffers_ok(
+    buffers_ok(
         control,
         states,
         names,
@@ -55,12 +53,5 @@ pub fn books_ok(
         rows,
         &hashes,
         &guesses,
-    );
-    let Counted::Used(used) = counted else {
-        return false;
-    };
-    if !is_spent(list_walk(free, read_link(control.top), states.len() - used)) {
-        return false;
-    }
-    is_spent(lists_walk(heads, chain, used))
+    )
 }

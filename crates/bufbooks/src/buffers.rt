@@ -1,4 +1,4 @@
-// The pass over the buffers: each one's word, links, name and log position.
+// The pass over the buffers: each one's log position, name and place in its chain.
 
 ghost use mathlib.Core.Path.{_≡_};
 ghost use mathlib.Core.Bool.{true};
@@ -6,18 +6,16 @@ ghost use mathlib.Core.List.{[]};
 ghost use Prim.Native.Nat.{_+_, _*_, _≤_, _<_};
 ghost use lib.ListN.{length};
 ghost use Rattle.laws.specs.Every.{all};
-ghost use Rattle.laws.specs.Sum.{count};
-ghost use Rattle.buftag.specs.Link.{linkAt};
+ghost use Rattle.buftag.specs.Bucket.{Masks};
 ghost use Rattle.buftag.specs.Names.{nameWords};
-ghost use Rattle.buftag.specs.Lookup.{used};
 ghost use Rattle.bufmodel.specs.Rows.{rowOf};
 ghost use Rattle.bufmodel.specs.Memory.{memory};
-ghost use Rattle.bufmodel.specs.Sizes.{soundRows};
-ghost use Rattle.bufmodel.specs.Books.{isOff};
+ghost use Rattle.bufmodel.specs.Sizes.{maxBuffers, maxBuckets, soundRows};
 ghost use Rattle.bufmem.specs.Rows.{foundRow};
 ghost use Rattle.bufbooks.specs.Hashes.{Hashed};
-ghost use Rattle.bufbooks.specs.Buffers.{Fitting, emptyTest, usedTest, heldTest, bufferTest, countedOf};
+ghost use Rattle.bufbooks.specs.Buffers.{Fitting, lowTest, heldTest, bufferTest};
 use crate::guesses::slot_of;
+use bufhash::fnv::mix_short;
 use bufmem::page::page_position;
 use bufmem::rows::ROW_WORDS;
 use bufmem::rows::Row;
@@ -26,66 +24,21 @@ use bufmem::rows::has_block;
 use bufmem::rows::is_file;
 use bufmem::word::is_dirty;
 use bufmem::word::is_empty;
-use bufmem::word::word_ok;
 use bufmodel::control::Control;
+use buftag::bucket::bucket_by;
+use buftag::bucket::mask_of;
 use buftag::check::is_first;
-use buftag::link::Link;
-use buftag::link::is_end;
-use buftag::link::link_at;
 use buftag::name::FileName;
-use buftag::name::hash_block;
 use buftag::names::holds;
 use buftag::names::no_name;
 use buftag::names::stored;
 use buftag::number::BufferNumber;
 
-// How many buffers are in use, if each buffer is sound.
-pub enum Counted {
-    Used(usize),
-    Wrong,
-}
-
-fn is_off(l: Link) -> bool
-    ensures { λ r. ⌜ r ≡ isOff l ⌝ }
+// Whether a buffer in use is clean, or its log position is at most inserted.
+fn is_low(control: Control, pool: &[u8], w: u32, buffer: BufferNumber) -> bool
+    requires { ⌜ (8 ≤ control .size) × (buffer .0 * control .size + control .size ≤ length (now pool)) ⌝ }
+    ensures { λ r. ⌜ r ≡ lowTest control (now (pool .entry)) w (buffer .0) ⌝ }
 {
-    match l {
-        Link::To(_) => false,
-        Link::End => false,
-        Link::Off => true,
-        Link::Bad => false,
-    }
-}
-
-fn link_of(links: &[i32], buffer: BufferNumber) -> Link
-    requires { ⌜ buffer .0 < length (now links) ⌝ }
-    ensures { λ r. ⌜ r ≡ linkAt (now (links .entry)) (buffer .0) ⌝ }
-{
-    link_at(links, buffer.0)
-}
-
-// Whether an empty buffer has a name of zeros and chain link -1.
-fn empty_ok(names: &[u32], chain: &[i32], buffer: BufferNumber) -> bool
-    requires { ⌜ (nameWords * buffer .0 + nameWords ≤ length (now names)) × (buffer .0 < length (now chain)) ⌝ }
-    ensures { λ r. ⌜ r ≡ emptyTest (now (names .entry)) (now (chain .entry)) (buffer .0) ⌝ }
-{
-    if !holds(names, buffer, no_name()) {
-        return false;
-    }
-    is_end(link_of(chain, buffer))
-}
-
-// Whether a buffer in use has a sound word, free link -2 and, if it is dirty, a log position of at most inserted.
-fn used_ok(control: Control, pool: &[u8], free: &[i32], w: u32, buffer: BufferNumber) -> bool
-    requires { ⌜ (8 ≤ control .size) × (buffer .0 * control .size + control .size ≤ length (now pool))
-        × (buffer .0 < length (now free)) ⌝ }
-    ensures { λ r. ⌜ r ≡ usedTest control (now (pool .entry)) (now (free .entry)) w (buffer .0) ⌝ }
-{
-    if !word_ok(w) {
-        return false;
-    }
-    if !is_off(link_of(free, buffer)) {
-        return false;
-    }
     if !is_dirty(w) {
         return true;
     }
@@ -114,9 +67,12 @@ fn held_ok(
     rows: &[u32],
     hashes: &[u32; 64],
     guesses: &[u8; 256],
+    mask: u32,
     buffer: BufferNumber,
 ) -> bool
-    requires { ⌜ (0 < length (now heads)) × (length (now names) ≡ nameWords * length (now chain)) × (buffer .0 < length (now chain))
+    requires { ⌜ (0 < length (now heads)) × (length (now heads) ≤ maxBuckets) × (length (now chain) ≤ maxBuffers)
+        × Masks (length (now heads)) mask
+        × (length (now names) ≡ nameWords * length (now chain)) × (buffer .0 < length (now chain))
         × (soundRows (now rows) ≡ true)
         × Hashed (now rows) (now hashes) ⌝ }
     ensures { λ r. ⌜ r ≡ heldTest (now (names .entry)) (now (heads .entry)) (now (chain .entry)) (now (rows .entry)) (buffer .0) ⌝ }
@@ -130,11 +86,11 @@ fn held_ok(
     if !has_block(rows, row, block) {
         return false;
     }
-    let b = hash_block(hashes[row], block) as usize % heads.len();
-    is_first(chain, names, link_at(heads, b), buffer)
+    let b = bucket_by(mix_short(hashes[row], block.0), heads.len() as u32, mask) as usize;
+    is_first(chain, names, heads[b], buffer)
 }
 
-// Looks at every buffer, and counts those in use.
+// Whether every buffer's page and name are sound.
 pub fn buffers_ok(
     control: Control,
     states: &[u32],
@@ -146,36 +102,42 @@ pub fn buffers_ok(
     rows: &[u32],
     hashes: &[u32; 64],
     guesses: &[u8; 256],
-) -> Counted
+) -> bool
     requires { ⌜ Fitting (memory control (now states) (now names) (now pool) (now free) (now heads) (now chain) (now rows) [])
         × Hashed (now rows) (now hashes) ⌝ }
     ensures { λ r.
         ⌜ r
-        ≡ countedOf
-        (all (length (now (states .entry)))
+        ≡ all (length (now (states .entry)))
         (bufferTest
         (memory control (now (states .entry)) (now (names .entry)) (now (pool .entry)) (now (free .entry)) (now (heads .entry))
-        (now (chain .entry)) (now (rows .entry)) [])))
-        (count (length (now (states .entry))) (used (now (states .entry)))) ⌝ }
+        (now (chain .entry)) (now (rows .entry)) [])) ⌝ }
 {
-    let mut used = 0;
+    let mask = mask_of(heads.len() as u32);
     let mut i = 0;
     while i < states.len() {
         let w = states[i];
         if is_empty(w) {
-            if !empty_ok(names, chain, BufferNumber(i)) {
-                return Counted::Wrong;
+            if !holds(names, BufferNumber(i), no_name()) {
+                return false;
             }
         } else {
-            if !used_ok(control, pool, free, w, BufferNumber(i)) {
-                return Counted::Wrong;
+            if !is_low(control, pool, w, BufferNumber(i)) {
+                return false;
             }
-            if !held_ok(names, heads, chain, rows, hashes, guesses, BufferNumber(i)) {
-                return Counted::Wrong;
+            if !held_ok(
+                names,
+                heads,
+                chain,
+                rows,
+                hashes,
+                guesses,
+                mask,
+                BufferNumber(i),
+            ) {
+                return false;
             }
-            used += 1;
         }
         i += 1;
     }
-    Counted::Used(used)
+    true
 }

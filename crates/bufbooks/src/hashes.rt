@@ -1,23 +1,45 @@
 // The hash of each row's file, once for a call: a page's name takes its block's four bytes more.
 
-ghost use Prim.Native.Nat.{_≤_};
-ghost use Rattle.bufmodel.specs.Rows.{files};
-ghost use Rattle.bufmodel.specs.Sizes.{maxFiles};
+ghost use mathlib.Core.Path.{_≡_};
+ghost use mathlib.Core.Bool.{true};
+ghost use mathlib.Core.List.{_++_};
+ghost use Rattle.bufhash.specs.Bytes.{wordBytes};
+ghost use Rattle.bufhash.specs.Fnv.{fnv, fnvStart};
+ghost use Rattle.bufmodel.specs.Sizes.{soundRows};
 ghost use Rattle.bufbooks.specs.Hashes.{Hashed};
+use bufhash::fnv::mix_small;
+use bufhash::fnv::mix_word;
 use bufmem::rows::ROW_WORDS;
 use bufmem::rows::file_at;
-use buftag::name::hash_file;
 
+// The hash of a file's first eight bytes.
+fn hash_database(tablespace: u32, database: u32) -> u32
+    ensures { λ r. ⌜ r ≡ fnv (wordBytes tablespace ++ wordBytes database) fnvStart ⌝ }
+{
+    let h = mix_word(2166136261, tablespace);
+    mix_word(h, database)
+}
+
+// Files of one database stand together, mostly: its eight bytes are hashed where it is another than the row before has.
 pub fn hash_rows(rows: &[u32], hashes: &mut [u32; 64])
-    requires { ⌜ files (now rows) ≤ maxFiles ⌝ }
+    requires { ⌜ soundRows (now rows) ≡ true ⌝ }
     ensures { λ _. ⌜ Hashed (now (rows .entry)) (now (hashes .exit)) ⌝ }
 {
     // as a slice, whose length a proof knows; that of an array behind a reference it does not
     let all = &mut hashes[..];
     let n = rows.len() / ROW_WORDS;
+    let mut tablespace = 0u32;
+    let mut database = 0u32;
+    let mut start = hash_database(0, 0);
     let mut row = 0;
     while row < n {
-        all[row] = hash_file(file_at(rows, row));
+        let file = file_at(rows, row);
+        if (file.tablespace != tablespace) | (file.database != database) {
+            tablespace = file.tablespace;
+            database = file.database;
+            start = hash_database(tablespace, database);
+        }
+        all[row] = mix_small(mix_word(start, file.relation), file.fork);
         row += 1;
     }
 }

@@ -6,6 +6,7 @@ pub mod export;
 pub mod guesses;
 pub mod hashes;
 pub mod lent;
+pub mod lists;
 pub mod sizes;
 pub mod sound_rows;
 pub mod words;

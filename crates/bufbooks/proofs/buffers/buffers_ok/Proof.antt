@@ -2,19 +2,17 @@ use borrow.Author.Needs.{needs}
 use borrow.Author.Tests.{not-true, not-false}
 use native.Mathlib.Omega.{arith}
 use Rattle.bufbooks.specs.Buffers.{bufferTest}
-use Rattle.bufbooks.proofs.BuffersLaws.{buffer-empty, buffer-unfit, buffer-held, pass-wrong, pass-done}
+use Rattle.bufbooks.proofs.BuffersLaws.{buffer-empty, buffer-late, buffer-held}
 use Rattle.bufmodel.specs.Books.{emptyAt}
 use Rattle.bufmodel.specs.Memory.{Memory, memory, buffers, size}
-use Rattle.bufmodel.specs.Word.{empty}
-use Rattle.buftag.specs.Lookup.{used}
+use Rattle.buftag.specs.Name.{sameName}
+use Rattle.buftag.specs.Names.{nameAt, noName}
 use Rattle.laws.proofs.Block.{block-in}
-use Rattle.laws.proofs.Every.{all-none, all-more}
-use Rattle.laws.proofs.Sum.{count-none, count-hit, count-miss, count-le}
+use Rattle.laws.proofs.Every.{all-none, all-more, all-fails, all-passes}
 use Rattle.laws.specs.Every.{all}
-use Rattle.laws.specs.Sum.{count}
 use Prim.Native.Nat.{ℕ, _-_, _≤_, _<_}
 use lib.ListN.{length}
-use mathlib.Core.Bool.{true, not}
+use mathlib.Core.Bool.{true}
 use mathlib.Core.List.{[]}
 use mathlib.Core.Logic.{⊎-elim}
 use mathlib.Core.Path.{_≡_, ap, sym, _∙_}
@@ -23,12 +21,11 @@ use Rattle.bufbooks.proofs.buffers.buffers_ok.Statement.{statement}
 use Rattle.bufbooks.proofs.buffers.buffers_ok.Tie as tie
 
 abbrev Inv-loop : tie.InvT-loop
-Inv-loop control states names pool free heads chain rows hashes guesses used₀ i₀ n i =
+Inv-loop control states names pool free heads chain rows hashes guesses mask i₀ i =
     (i ≤ length states) × (all i (bufferTest (memory control states names pool free heads chain rows [])) ≡ true)
-    × (n ≡ count i (used states))
 
 abbrev μ-loop : tie.MeasureT-loop
-μ-loop control states names pool free heads chain rows hashes guesses used₀ i₀ n i = length states - i
+μ-loop control states names pool free heads chain rows hashes guesses mask i₀ i = length states - i
 
 -- the memory lent, and the buffer looked at
 abbrev lent : tie.Start Inv-loop μ-loop → Memory
@@ -37,8 +34,11 @@ lent s =
     memory (a .control) (now (a .states)) (now (a .names)) (now (a .pool)) (now (a .free)) (now (a .heads)) (now (a .chain))
     (now (a .rows)) []
 
+abbrev masked : tie.After-is-empty Inv-loop μ-loop → tie.After-mask-of Inv-loop μ-loop
+masked c = c .before .before .before .before
+
 abbrev entry : tie.After-is-empty Inv-loop μ-loop → tie.Start Inv-loop μ-loop
-entry c = c .before .before .before .before .before .before .before .before
+entry c = masked c .before .before .before .before .before
 
 abbrev place : tie.After-is-empty Inv-loop μ-loop → ℕ
 place c = c .before .before .before .loop .i
@@ -51,12 +51,14 @@ blank : (c : tie.After-is-empty Inv-loop μ-loop) → emptyAt (lent (entry c)) (
 unfolding emptyAt
 blank c = sym (c .is-empty .ensures)
 
-counted : (c : tie.After-is-empty Inv-loop μ-loop) → used (lent (entry c) .states) (place c) ≡ not (c .is-empty .result)
-unfolding empty
-counted c = ap not (sym (c .is-empty .ensures))
+cast-mask-of : tie.Need-cast-mask-of Inv-loop μ-loop
+cast-mask-of c = record { fits = omega (arith, c .before .before .before .before .pre .0 .narrow) }
+
+mask-of-requires : tie.Need-mask-of-requires Inv-loop μ-loop
+mask-of-requires c κs = search needs
 
 loop-holds : tie.Need-loop-holds Inv-loop μ-loop
-loop-holds c = (search needs, all-none _, sym (count-none _))
+loop-holds c = (search needs, all-none _)
 
 mul-w : tie.Need-mul-w Inv-loop μ-loop
 mul-w c = search needs
@@ -67,41 +69,51 @@ shared-slice-read-w c = search needs
 is-empty-requires : tie.Need-is-empty-requires Inv-loop μ-loop
 is-empty-requires c κs = search needs
 
-empty-ok-requires : tie.Need-empty-ok-requires Inv-loop μ-loop
-empty-ok-requires c κs =
-    let d = c .before in
-    let fit = entry d .pre .0 in
-    (omega (arith, inside d, fit .names), omega (arith, inside d, fit .chain))
+no-name-requires : tie.Need-no-name-requires Inv-loop μ-loop
+no-name-requires c κs = search needs
+
+holds-requires : tie.Need-holds-requires Inv-loop μ-loop
+holds-requires c κs = let d = c .before .before in omega (arith, inside d, entry d .pre .0 .names)
 
 returns : tie.Need-returns Inv-loop μ-loop
 returns c =
-    let d = c .before .before .before in
+    let h = c .before in
+    let d = h .before .before .before in
     let m = lent (entry d) in
     let i = place d in
-    pass-wrong m i (inside d)
-    (buffer-empty m i (blank d ∙ c .before .before .if1 .taken) (sym (c .before .empty-ok .ensures) ∙ not-true _ (c .if2 .taken)))
+    let named = sym (h .holds .ensures ∙ ap (sameName (nameAt (m .names) i)) (h .before .no-name .ensures)) in
+    all-fails (bufferTest m) (buffers m) i (inside d)
+    (buffer-empty m i (blank d ∙ h .before .before .if1 .taken) (named ∙ not-true _ (c .if2 .taken)))
 
-used-ok-requires : tie.Need-used-ok-requires Inv-loop μ-loop
-used-ok-requires c κs =
+is-low-requires : tie.Need-is-low-requires Inv-loop μ-loop
+is-low-requires c κs =
     let d = c .before in
     let m = lent (entry d) in
     let fit = entry d .pre .0 in
-    (fit .page, block-in (size m) (buffers m) (place d) (m .pool) (fit .pool) (inside d), omega (arith, inside d, fit .free))
+    (fit .page, block-in (size m) (buffers m) (place d) (m .pool) (fit .pool) (inside d))
 
 returns-2 : tie.Need-returns-2 Inv-loop μ-loop
 returns-2 c =
     let d = c .before .before .before in
     let m = lent (entry d) in
     let i = place d in
-    pass-wrong m i (inside d)
-    (buffer-unfit m i (blank d ∙ c .before .before .if1 .left) (sym (c .before .used-ok .ensures) ∙ not-true _ (c .if3 .taken)))
+    all-fails (bufferTest m) (buffers m) i (inside d)
+    (buffer-late m i (blank d ∙ c .before .before .if1 .left) (sym (c .before .is-low .ensures) ∙ not-true _ (c .if3 .taken)))
 
 held-ok-requires : tie.Need-held-ok-requires Inv-loop μ-loop
 held-ok-requires c κs =
     let d = c .before .before .before in
     let s = entry d in
-    let fit = s .pre .0 in
-    (fit .buckets, omega (arith, fit .names, fit .chain), omega (arith, inside d, fit .chain), fit .rows, s .pre .1)
+    let fit = s .pre .0 in (
+      fit .buckets,
+      fit .narrow,
+      omega (arith, fit .few, fit .chain),
+      masked d .mask-of .ensures,
+      omega (arith, fit .names, fit .chain),
+      omega (arith, inside d, fit .chain),
+      fit .rows,
+      s .pre .1,
+    )
 
 returns-3 : tie.Need-returns-3 Inv-loop μ-loop
 returns-3 c =
@@ -110,14 +122,9 @@ returns-3 c =
     let d = u .before .before in
     let m = lent (entry d) in
     let i = place d in
-    pass-wrong m i (inside d)
-    (buffer-held m i (blank d ∙ u .before .if1 .left) (sym (u .used-ok .ensures) ∙ not-false _ (h .before .if3 .left))
+    all-fails (bufferTest m) (buffers m) i (inside d)
+    (buffer-held m i (blank d ∙ u .before .if1 .left) (sym (u .is-low .ensures) ∙ not-false _ (h .before .if3 .left))
     (sym (h .held-ok .ensures) ∙ not-true _ (c .if4 .taken)))
-
-add-used : tie.Need-add-used Inv-loop μ-loop
-add-used c =
-    let d = c .before .before .before .before .before in
-    omega (arith, inside d, d .before .before .before .loop .inv .2, count-le (used (lent (entry d) .states)) (place d))
 
 add-i : tie.Need-add-i Inv-loop μ-loop
 add-i c = search needs
@@ -132,26 +139,24 @@ loop-again c =
     let i = place d in
     let inv = d .before .before .before .loop .inv in
     ⊎-elim
-    (λ w. (
+    (λ w.
+    let named = sym (w .2 .ensures ∙ ap (sameName (nameAt (m .names) i)) (w .1 .ensures)) in (
       omega (arith, inside d),
-      all-more (bufferTest m) i (inv .1)
-          (buffer-empty m i (blank d ∙ w .0 .taken) (sym (w .1 .ensures) ∙ not-false _ (w .2 .left))),
-      w .3 ∙ inv .2 ∙ sym (count-miss (used (m .states)) i (counted d ∙ ap not (w .0 .taken))),
+      all-more (bufferTest m) i (inv .1) (buffer-empty m i (blank d ∙ w .0 .taken) (named ∙ not-false _ (w .3 .left))),
     ))
     (λ w. (
       omega (arith, inside d),
       all-more (bufferTest m) i (inv .1)
           (buffer-held m i (blank d ∙ w .0 .left) (sym (w .1 .ensures) ∙ not-false _ (w .2 .left))
           (sym (w .3 .ensures) ∙ not-false _ (w .4 .left))),
-      omega (arith, w .5, inv .2, count-hit (used (m .states)) i (counted d ∙ ap not (w .0 .left))),
     ))
     (c .if1 .came)
 
 returns-4 : tie.Need-returns-4 Inv-loop μ-loop
 returns-4 c =
     let l = c .before .loop in
-    let m = lent (c .before .before .before .before .before .before) in
-    pass-done m (l .i) (l .used) (l .inv .0) (c .loop-test .left) (l .inv .1) (l .inv .2)
+    let m = lent (c .before .before .before .before .before .before .before) in
+    all-passes (bufferTest m) (buffers m) (l .i) (l .inv .0) (c .loop-test .left) (l .inv .1)
 
 pub buffers-ok-spec : {M : Type 1} → statement M
 buffers-ok-spec =
@@ -159,17 +164,19 @@ buffers-ok-spec =
     (tie.spec
     Inv-loop
     μ-loop
+    cast-mask-of
+    mask-of-requires
     loop-holds
     mul-w
     shared-slice-read-w
     is-empty-requires
-    empty-ok-requires
+    no-name-requires
+    holds-requires
     returns
-    used-ok-requires
+    is-low-requires
     returns-2
     held-ok-requires
     returns-3
-    add-used
     add-i
     loop-less
     loop-again

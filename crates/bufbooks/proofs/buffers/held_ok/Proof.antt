@@ -3,15 +3,17 @@ use borrow.Author.Tests.{ltb-true, ltb-false, not-true, not-false}
 use native.Mathlib.Nat.{mod-lt}
 use native.Mathlib.Omega.{arith}
 use Rattle.bufmem.specs.Rows.{foundRow}
-use Rattle.bufbooks.proofs.BuffersLaws.{bucket-continued, held-nowhere, held-behind, held-page}
+use Rattle.bufbooks.proofs.BuffersLaws.{bucket-continued, blocks-low, held-nowhere, held-behind, held-page}
 use Rattle.bufmodel.proofs.RowsLaws.{row-found}
 use Rattle.bufmodel.proofs.SizesLaws.{rows-say}
 use Rattle.bufmodel.specs.Rows.{files, blocksAt, rowOf}
 use Rattle.bufmodel.specs.Sizes.{maxFiles}
 use Rattle.bufhash.specs.Bytes.{wordBytes}
+use Rattle.buftag.specs.declared.name.PageName.{PageName}
 use Rattle.buftag.specs.Check.{isFirst, findsItself}
 use Rattle.bufhash.specs.Fnv.{fnv}
-use Rattle.buftag.specs.Link.{linkAt}
+use Rattle.buftag.specs.Link.{linkOf, linkAt}
+use Rattle.buftag.proofs.SignedLaws.{element-back}
 use Rattle.buftag.specs.Names.{nameAt}
 use Rattle.laws.specs.First.{Found, found}
 use Prim.Native.Nat.{ℕ, _<_}
@@ -75,7 +77,7 @@ within : (c : tie.After-row) → found-row c < files (now (entry (looked c) .arg
 within c = row-found (now (entry (looked c) .args .rows)) _ (here c) .0
 
 few : (c : tie.After-row) → found-row c < maxFiles
-few c = let s = entry (looked c) in omega (arith, within c, rows-say (now (s .args .rows)) .holds (s .pre .3) .few)
+few c = let s = entry (looked c) in omega (arith, within c, rows-say (now (s .args .rows)) .holds (s .pre .6) .few)
 
 has-block-requires : tie.Need-has-block-requires
 unfolding files
@@ -101,29 +103,54 @@ returns-2 c =
 below : (c : tie.Else1) → let r = c .before .before .before in block-of (entry (looked r)) < blocks-of r
 below c = ltb-true _ _ (has (c .before) ∙ not-false _ (c .if1 .left))
 
-mul-hash-block : tie.Need-mul-hash-block
-mul-hash-block c = omega (arith, few (c .before .before .before))
+mul-mix-short : tie.Need-mul-mix-short
+mul-mix-short c = omega (arith, few (c .before .before .before))
 
-element-copy-out-hash-block : tie.Need-element-copy-out-hash-block
-element-copy-out-hash-block c = few (c .before .before .before)
+element-copy-out-mix-short : tie.Need-element-copy-out-mix-short
+element-copy-out-mix-short c = few (c .before .before .before)
 
-hash-block-requires : tie.Need-hash-block-requires
-hash-block-requires c κs = search needs
+mix-short-requires : tie.Need-mix-short-requires
+mix-short-requires c κs =
+    let e = c .before in
+    let r = e .before .before .before in
+    let s = entry (looked r) in
+    omega (
+      arith,
+      ap (λ (n : PageName). n .block .0) (named (looked r) .stored .ensures),
+      below e,
+      blocks-low (now (s .args .rows)) (rows-say (now (s .args .rows)) .holds (s .pre .6)) (found-row r) (within r),
+    )
+
+abbrev start : tie.Else1 → tie.Start
+start c = entry (looked (c .before .before .before))
+
+cast-bucket-by : tie.Need-cast-bucket-by
+cast-bucket-by c = record { fits = omega (arith, start (c .before .before) .pre .1) }
+
+bucket-by-requires : tie.Need-bucket-by-requires
+bucket-by-requires c κs = let s = start (c .before .before) in (s .pre .0, s .pre .3)
 
 cast-b : tie.Need-cast-b
 cast-b c = search needs
 
-rem-b : tie.Need-rem-b
-rem-b c = search needs
+-- the bucket is one of those that there are
+inside : (c : tie.After-bucket-by) → c .bucket-by .result < length (now (start (c .before .before .before) .args .heads))
+inside c = rw (c .bucket-by .ensures) (mod-lt _ (start (c .before .before .before) .pre .0))
 
-link-at-requires : tie.Need-link-at-requires
-link-at-requires c κs = let s = entry (c .before .before .before .before .before .before .before) in mod-lt _ (s .pre .0)
+mul-is-first : tie.Need-mul-is-first
+mul-is-first c =
+    let s = start (c .before .before .before) in
+    record { fits = omega (arith, inside c, s .pre .1) }
+
+shared-slice-copy-out-is-first : tie.Need-shared-slice-copy-out-is-first
+shared-slice-copy-out-is-first c = inside c
 
 is-first-requires : tie.Need-is-first-requires
-is-first-requires c κs = search needs
+is-first-requires c κs =
+    let s = start (c .before .before .before .before) in (s .pre .4, s .pre .5, omega (arith, s .pre .2, s .pre .5))
 
 abbrev its : tie.After-is-first → tie.After-row
-its c = c .before .before .before .before .before .before .before
+its c = c .before .before .before .before .before .before .before .before
 
 -- the chain walked is that of the name's bucket
 finds : (c : tie.After-is-first)
@@ -131,18 +158,20 @@ finds : (c : tie.After-is-first)
     findsItself (now (a .names)) (now (a .heads)) (now (a .chain)) (a .buffer .0) ≡ c .is-first .result
 unfolding findsItself
 finds c =
+    let b = c .before .before in
     let r = its c in
     let s = entry (looked r) in
     let a = s .args in
     let n = nameAt (now (a .names)) (a .buffer .0) in
     let start = getD (now (a .hashes)) (found-row r) 0 in
-    let hash = c .before .before .hash-block .ensures ∙ ap (λ m. fnv (wordBytes (m .block .0)) start) (named (looked r) .stored .ensures) in
-    let bucket = bucket-continued (now (a .rows)) (now (a .hashes)) (s .pre .4) n (here r) hash (length (now (a .heads))) in
-    let first = c .before .link-at .ensures ∙ ap (linkAt (now (a .heads))) bucket in
+    let hash = b .before .mix-short .ensures ∙ ap (λ m. fnv (wordBytes (m .block .0)) start) (named (looked r) .stored .ensures) in
+    let bucket = bucket-continued (now (a .rows)) (now (a .hashes)) (s .pre .7) n (here r) hash (length (now (a .heads))) in
+    let back = element-back (now (a .heads)) (b .bucket-by .result) (c .before .is-first-arg .given) in
+    let first = ap linkOf back ∙ ap (linkAt (now (a .heads))) (b .bucket-by .ensures ∙ bucket) in
     sym (c .is-first .ensures ∙ ap (λ l. isFirst (now (a .chain)) (now (a .names)) l (a .buffer .0)) first)
 
 returns-3 : tie.Need-returns-3
-returns-3 c = held-page _ _ _ _ _ (here (its c)) (below (c .before .before .before .before)) (finds c)
+returns-3 c = held-page _ _ _ _ _ (here (its c)) (below (c .before .before .before .before .before)) (finds c)
 
 pub held-ok-spec : {M : Type 1} → statement M
 held-ok-spec =
@@ -157,11 +186,13 @@ held-ok-spec =
     returns
     has-block-requires
     returns-2
-    mul-hash-block
-    element-copy-out-hash-block
-    hash-block-requires
+    mul-mix-short
+    element-copy-out-mix-short
+    mix-short-requires
+    cast-bucket-by
+    bucket-by-requires
     cast-b
-    rem-b
-    link-at-requires
+    mul-is-first
+    shared-slice-copy-out-is-first
     is-first-requires
     returns-3)
