@@ -1,11 +1,11 @@
 -- The changes of a state word as sums and differences, as code computes them, and its test on the flags as one number.
-use Prim.Native.Nat.{ℕ, _+_, _-_, _*_, _%_, _^_, _≤_, _<_}
+use Prim.Native.Nat.{ℕ, _+_, _-_, _*_, _%_, _^_, _<_}
 use mathlib.Core.Path.{_≡_, refl}
 use mathlib.Core.Bool.{Bool, true, false, not, _&&_, _||_}
 use mathlib.Core.Logic.{_≢_, ⊎-elim}
 use native.Mathlib.Omega.{arith}
 use lib.Dec.{eqb, leb}
-use borrow.Author.Tests.{eq-eqb, ne-eqb, le-leb, lt-leb}
+use borrow.Author.Tests.{eq-eqb, ne-eqb}
 use Rattle.laws.proofs.Tests.{eq-or-ne}
 use Rattle.bufmodel.specs.Word.{maxUsage, pins, usage, flags, pack, cleanFlags, dirtyFlags, empty, soundWord, pinned}
 use Rattle.bufmodel.specs.Word.{pinMore, pinLess, useLess}
@@ -22,22 +22,6 @@ module _ (w : ℕ) (h : w < 2 ^ 32) where
   sound-tests : soundWord w ≡ (eqb w 0 || (leb (usage w) maxUsage && (eqb (flags w) cleanFlags || eqb (flags w) dirtyFlags)))
   unfolding soundWord empty
   sound-tests = rw (sound-flags w h)
-
-  pub sound-empty : w ≡ 0 → soundWord w ≡ true
-  sound-empty z = rw (sound-tests, eq-eqb w 0 z)
-
-  pub sound-above : w ≢ 0 → maxUsage < usage w → soundWord w ≡ false
-  sound-above full u = rw (sound-tests, ne-eqb w 0 full, lt-leb (usage w) maxUsage u)
-
-  -- in use, with few uses: the flags decide
-  sound-few : w ≢ 0 → usage w ≤ maxUsage → soundWord w ≡ (eqb (flags w) cleanFlags || eqb (flags w) dirtyFlags)
-  sound-few full u = rw (sound-tests, ne-eqb w 0 full, le-leb (usage w) maxUsage u)
-
-  pub sound-clean : w ≢ 0 → usage w ≤ maxUsage → flags w ≡ cleanFlags → soundWord w ≡ true
-  sound-clean full u f = rw (sound-few full u, eq-eqb (flags w) cleanFlags f)
-
-  pub sound-other : w ≢ 0 → usage w ≤ maxUsage → flags w ≢ cleanFlags → soundWord w ≡ eqb (flags w) dirtyFlags
-  sound-other full u f = rw (sound-few full u, ne-eqb (flags w) cleanFlags f)
 
   -- the flags of a page and few uses: a word that is sound and not 0, since 0 has no flags
   pub full-tests : ((eqb (flags w) cleanFlags || eqb (flags w) dirtyFlags) && leb (usage w) maxUsage) ≡ (soundWord w && not (empty w))

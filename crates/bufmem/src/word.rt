@@ -86,23 +86,6 @@ pub fn is_empty(w: u32) -> bool
     w == 0
 }
 
-// Whether a word is sound between calls.
-pub fn word_ok(w: u32) -> bool
-    ensures { λ r. ⌜ r ≡ soundWord w ⌝ }
-{
-    if w == 0 {
-        return true;
-    }
-    if w / USE % 16 > MAX_USAGE {
-        return false;
-    }
-    let flags = w / FLAG;
-    if flags == CLEAN {
-        return true;
-    }
-    flags == DIRTY
-}
-
 // Whether a word is sound and that of a buffer in use. Without a branch, so that a loop over words becomes one over vectors.
 pub fn is_full(w: u32) -> bool
     ensures { λ r. ⌜ r ≡ (soundWord w && not (empty w)) ⌝ }

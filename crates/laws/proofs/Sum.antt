@@ -59,14 +59,6 @@ module _ (f g : ℕ → ℕ) where
       (sum-tight n (λ j m. h j (omega arith)) (omega (arith, sum-below n (λ j m. h j (omega arith)), h n (omega arith))))
       (omega (arith, sum-below n (λ j m. h j (omega arith)), h n (omega arith))) i (rw add-one l)
 
--- the pigeonhole over two indices
-pub sum-tight-both : (f g : ℕ → ℕ → ℕ) (m n : ℕ) → ((b : ℕ) → b < m → (k : ℕ) → k < n → f b k ≤ g b k)
-    → sum m (λ b. sum n (f b)) ≡ sum m (λ b. sum n (g b))
-    → (b : ℕ) → b < m → (k : ℕ) → k < n → f b k ≡ g b k
-sum-tight-both f g m n h e b l =
-    sum-tight (f b) (g b) n (h b l)
-    (sum-tight (λ c. sum n (f c)) (λ c. sum n (g c)) m (λ c j. sum-below (f c) (g c) n (h c j)) e b l)
-
 pub ind-one : {b : Bool} → b ≡ true → ind b ≡ 1
 ind-one e = rw e
 

@@ -6,7 +6,7 @@ use Rattle.bufbooks.proofs.BuffersLaws.{buffer-empty, buffer-late, buff
 use Rattle.bufmodel.specs.Books.{emptyAt}
 use Rattle.bufmodel.specs.Memory.{Memory, memory, buffers, size}
 use Rattle.buftag.specs.Name.{sameName}
-use Rattle.buftag.specs.Names.{nameAt, noName}
+use Rattle.buftag.specs.Names.{nameAt}
 use Rattle.laws.proofs.Block.{block-in}
 use Rattle.laws.proofs.Every.{all-none, all-more, all-fails, all-passes}
 use Rattle.laws.specs.Every.{all}

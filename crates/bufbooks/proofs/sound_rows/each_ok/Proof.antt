@@ -1,6 +1,5 @@
 use borrow.Author.Needs.{needs}
 use borrow.Author.Tests.{not-true, not-false, eqb-true}
-use borrow.Author.Count.{below-more}
 use Rattle.bufmodel.specs.Rows.{fileAt}
 use Rattle.bufmodel.specs.Sizes.{soundRow}
 use Rattle.laws.proofs.Every.{all-none, all-more, all-fails, all-passes}
