@@ -1,6 +1,5 @@
 #include "shapes.h"
 #include <stdio.h>
-#include <stdlib.h>
 #include <string.h>
 
 enum { FIRST_RELATION = 16384 };
@@ -85,5 +84,4 @@ void shape_new(struct memory *m, const struct bench_shape *s)
 void shape_print(const struct bench_shape *s)
 {
     printf("N = %4zu, B = %4zu, F = %2zu, P = %5zu", s->is.buffers, s->is.buckets, s->is.files, s->is.page);
-    if (s->words != NULL) printf(", %s", s->words);
 }

@@ -19,7 +19,7 @@ extern const size_t other_shape_count;
 /* New memory with a sound pool of a shape. */
 void shape_new(struct memory *m, const struct bench_shape *s);
 
-/* N, B, F and P, and what is special, without a line's end. */
+/* N, B, F and P, without a line's end. */
 void shape_print(const struct bench_shape *s);
 
 #endif

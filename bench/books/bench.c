@@ -5,7 +5,7 @@
 #include "timing.h"
 
 /* a shape that is not usual takes fewer rounds */
-enum { ROUNDS = 401, OTHER_ROUNDS = 151, WORK = 200000, OTHER_WORK = 100000, CROWDED_WORK = 10000 };
+enum { ROUNDS = 401, OTHER_ROUNDS = 201, WORK = 200000, OTHER_WORK = 100000, CROWDED_WORK = 10000 };
 static const double MOST = 1.00;
 
 check_fn plain_check;
@@ -36,7 +36,7 @@ static int bench(const struct bench_shape *s, size_t rounds, size_t calls)
         ratio[k] = proved[k] / plain[k];
     }
     shape_print(s);
-    printf(": %6.0f ns, plain C %6.0f ns, ", median(proved, rounds), median(plain, rounds));
+    printf(", %-25s %6.0f ns, plain C %6.0f ns, ", s->words, median(proved, rounds), median(plain, rounds));
     int above = print_ratio(median(ratio, rounds), MOST);
     printf("\n");
     fflush(stdout);
@@ -45,8 +45,7 @@ static int bench(const struct bench_shape *s, size_t rounds, size_t calls)
 
 int main(void)
 {
-    static const char *words[] = {"100% in use, from file to file", "70% in use, from file to file", "100% in use, runs of blocks",
-                                  "70% in use, runs of blocks"};
+    static const char *words[] = {"full, from file to file", "70%, from file to file", "full, runs of blocks", "70%, runs of blocks"};
     struct shape till = {.buffers = 128, .buckets = 256, .files = 4, .page = 8192, .capacity = 1024, .dirty = 25, .relations = 1};
     struct shape great = {.buffers = 1024, .buckets = 4096, .files = 64, .page = 8192, .capacity = 1024, .dirty = 25, .relations = 1};
     int above = 0;

@@ -5,7 +5,7 @@
 #include "timing.h"
 
 /* short and many rounds: most are over before another program takes the processor; fewer where a shape is not usual */
-enum { ROUNDS = 801, OTHER_ROUNDS = 151, SHARES = 101, WORK = 8000 };
+enum { ROUNDS = 801, OTHER_ROUNDS = 301, SHARES = 101, WORK = 8000 };
 
 /* Which cases are timed: all on the usual shapes, two with other block sizes, those that move no page on the other shapes. */
 enum set { USUAL, SIZES, STILL_ONLY };
@@ -91,7 +91,7 @@ static int bench_all(const struct bench_shape *shape, enum set set)
     static struct pool pool;
     int above = 0;
     shape_print(shape);
-    printf("\n");
+    printf("%s%s\n", shape->words == NULL ? "" : ", ", shape->words == NULL ? "" : shape->words);
     pool_new(&pool, shape, set != STILL_ONLY);
     for (size_t k = 0; k < bench_case_count; k++) {
         const struct bench_case *c = bench_cases + k;
