@@ -1,7 +1,8 @@
-/* What the benchmarks share: a clock in nanoseconds, and the median of times. */
+/* What the benchmarks share: a clock in nanoseconds, the median of times, and ratios with their bounds. */
 #ifndef TIMING_H
 #define TIMING_H
 
+#include <stdio.h>
 #include <stdlib.h>
 #include <time.h>
 
@@ -22,6 +23,13 @@ static inline double median(double *times, size_t many)
 {
     qsort(times, many, sizeof *times, rising);
     return times[many / 2];
+}
+
+/* Prints a ratio, what it may be at most, and a mark if it is more; whether it is. */
+static inline int print_ratio(double ratio, double most)
+{
+    printf("ratio %.3f, at most %.2f%s", ratio, most, ratio > most ? " ABOVE" : "");
+    return ratio > most;
 }
 
 #endif

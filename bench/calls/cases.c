@@ -4,9 +4,12 @@
 #include <stdlib.h>
 #include <string.h>
 
-enum { SPAN = 64, RUN = 16 };
+enum { STEP = 64, RUN = 16 };
 
 #define ANSWER(pool) (pool)->answer, BUFPOOL_ANSWER_WORDS
+
+/* what reads fill and writes take */
+static uint8_t bytes[WHOLE];
 
 static size_t buffers(const struct pool *pool)
 {
@@ -18,56 +21,59 @@ static uint64_t inserted(const struct pool *pool)
     return pool->lent.control[BUFPOOL_INSERTED];
 }
 
-/* the kth page in runs of 16 blocks of a file; the pool is set back to the first of them */
-static void name_page(const struct pool *pool, size_t k, uint32_t *name)
+/* the kth of the buffers in use */
+static size_t held_buffer(const struct pool *pool, size_t k)
 {
-    memcpy(name, pool->kept.rows + BUFPOOL_ROW_WORDS * (k / RUN % pool->files), FILE_WORDS * sizeof *name);
-    name[BUFPOOL_BLOCK] = (uint32_t)(k / RUN / pool->files * RUN + k % RUN);
+    return pool->held[k % pool->held_count];
+}
+
+static const uint32_t *held_name(const struct pool *pool, size_t k)
+{
+    return pool->lent.names + BUFPOOL_NAME_WORDS * held_buffer(pool, k);
 }
 
 /* a page that is not held, another each time in one batch and in the next */
-static void name_other(const struct pool *pool, size_t k, uint32_t *name)
+static const uint32_t *other_name(const struct pool *pool, size_t k)
 {
     size_t n = buffers(pool);
-    name_page(pool, n + (pool->turn * (n / 4) + k) % (3 * n), name);
+    return pool->others + BUFPOOL_NAME_WORDS * ((pool->turn * (n / 4) + k) % (3 * n));
 }
 
 /* the kth of the dirty buffers behind the quarter at the hand */
 static size_t dirty_buffer(const struct pool *pool, size_t k)
 {
-    size_t n = buffers(pool);
-    return (pool->lent.control[BUFPOOL_HAND] + n / 4 + k % (n / 4)) % n;
+    size_t quarter = pool->held_count / 4;
+    return held_buffer(pool, pool->hand + quarter + k % quarter);
 }
 
 static uint32_t pin_held(const struct side *side, struct pool *pool, size_t k)
 {
-    const uint32_t *name = pool->lent.names + BUFPOOL_NAME_WORDS * (k % buffers(pool));
+    const uint32_t *name = held_name(pool, k);
     return side->pin(BUFPOOL_LENT(&pool->lent), NAME_OF(name), ANSWER(pool));
 }
 
 static uint32_t pin_other(const struct side *side, struct pool *pool, size_t k)
 {
-    uint32_t name[BUFPOOL_NAME_WORDS];
-    name_other(pool, k, name);
+    const uint32_t *name = other_name(pool, k);
     return side->pin(BUFPOOL_LENT(&pool->lent), NAME_OF(name), ANSWER(pool));
 }
 
 static uint32_t unpin(const struct side *side, struct pool *pool, size_t k)
 {
-    return side->unpin(BUFPOOL_LENT(&pool->lent), k % buffers(pool), ANSWER(pool));
+    return side->unpin(BUFPOOL_LENT(&pool->lent), held_buffer(pool, k), ANSWER(pool));
 }
 
 static uint32_t read_some(const struct side *side, struct pool *pool, size_t k)
 {
-    uint8_t out[SPAN];
-    return side->read(BUFPOOL_LENT(&pool->lent), k % buffers(pool), k % 100 * SPAN, out, SPAN, ANSWER(pool));
+    size_t from = (k & (pool->places - 1)) * STEP;
+    return side->read(BUFPOOL_LENT(&pool->lent), held_buffer(pool, k), from, bytes, pool->span, ANSWER(pool));
 }
 
+/* of a whole page all bytes but the log position */
 static uint32_t write_some(const struct side *side, struct pool *pool, size_t k)
 {
-    uint8_t bytes[SPAN];
-    memset(bytes, (int)(k & 255), SPAN);
-    return side->write(BUFPOOL_LENT(&pool->lent), dirty_buffer(pool, k), BUFPOOL_POSITION_BYTES + k % 100 * SPAN, bytes, SPAN,
+    size_t from = BUFPOOL_POSITION_BYTES + (k & (pool->places - 1)) * STEP, most = pool->lent.control[BUFPOOL_PAGE_SIZE] - from;
+    return side->write(BUFPOOL_LENT(&pool->lent), dirty_buffer(pool, k), from, bytes, pool->span < most ? pool->span : most,
                        inserted(pool), ANSWER(pool));
 }
 
@@ -84,14 +90,13 @@ static uint32_t checkpoint(const struct side *side, struct pool *pool, size_t k)
 
 static uint32_t peek_held(const struct side *side, struct pool *pool, size_t k)
 {
-    const uint32_t *name = pool->lent.names + BUFPOOL_NAME_WORDS * (k % buffers(pool));
+    const uint32_t *name = held_name(pool, k);
     return side->peek(BUFPOOL_LENT(&pool->lent), NAME_OF(name), ANSWER(pool));
 }
 
 static uint32_t peek_other(const struct side *side, struct pool *pool, size_t k)
 {
-    uint32_t name[BUFPOOL_NAME_WORDS];
-    name_other(pool, k, name);
+    const uint32_t *name = other_name(pool, k);
     return side->peek(BUFPOOL_LENT(&pool->lent), NAME_OF(name), ANSWER(pool));
 }
 
@@ -124,37 +129,51 @@ static uint32_t set_up(const struct side *side, struct pool *pool, size_t k)
     return side->set_up(BUFPOOL_LENT(&pool->lent), pool->kept.control[BUFPOOL_PAGE_SIZE], k, ANSWER(pool));
 }
 
+/* The state of most cases: every page is pinned and was used, a quarter of them is dirty, and calls change nothing that matters. */
+#define IN_USE .pins = 1, .usage = 3, .dirty = DIRTY_NEXT, .batch = ANY_NUMBER
+
 /* unless a case says more, every buffer has a clean page, no pins and usage 0, and is set back for each call */
 const struct bench_case bench_cases[] = {
-    {.name = "pin, hit", .call = pin_held, .pins = 1, .usage = 3, .dirty = DIRTY_NEXT, .batch = ANY_NUMBER},
-    {.name = "pin, free buffer", .call = pin_other, .batch = QUARTER, .empty = 1},
-    {.name = "pin, clean victim", .call = pin_other, .dirty = DIRTY_NEXT, .batch = QUARTER},
-    {.name = "pin, dirty victim", .call = pin_other, .dirty = DIRTY_HAND, .batch = QUARTER},
-    {.name = "pin, longest sweep", .call = pin_other, .usage = MOST_USAGE, .dirty = DIRTY_NEXT, .batch = ONE},
-    {.name = "unpin", .call = unpin, .pins = 100000, .usage = 3, .dirty = DIRTY_NEXT, .batch = ANY_NUMBER},
-    {.name = "read 64 bytes", .call = read_some, .pins = 1, .usage = 3, .dirty = DIRTY_NEXT, .batch = ANY_NUMBER},
-    {.name = "write 64 bytes", .call = write_some, .pins = 1, .usage = 3, .dirty = DIRTY_NEXT, .batch = ANY_NUMBER},
+    {.name = "pin, hit", .call = pin_held, .kind = STILL, IN_USE},
+    {.name = "pin, free buffer", .call = pin_other, .kind = MISS, .batch = QUARTER, .empty = 1},
+    {.name = "pin, clean victim", .call = pin_other, .kind = MISS, .dirty = DIRTY_NEXT, .batch = QUARTER, .all_sizes = 1},
+    {.name = "pin, dirty victim", .call = pin_other, .kind = MISS, .dirty = DIRTY_HAND, .batch = QUARTER},
+    {.name = "pin, longest sweep", .call = pin_other, .kind = MISS, .usage = MOST_USAGE, .dirty = DIRTY_NEXT, .batch = ONE},
+    {.name = "unpin", .call = unpin, .kind = STILL, .pins = 100000, .usage = 3, .dirty = DIRTY_NEXT, .batch = ANY_NUMBER},
+    {.name = "read 64 bytes", .call = read_some, .kind = STILL, .span = 64, IN_USE},
+    {.name = "read 1 KiB", .call = read_some, .span = 1024, IN_USE},
+    {.name = "read 4,000 bytes", .call = read_some, .span = 4000, IN_USE},
+    {.name = "read a whole page", .call = read_some, .span = WHOLE, .all_sizes = 1, IN_USE},
+    {.name = "write 64 bytes", .call = write_some, .kind = STILL, .span = 64, IN_USE},
+    {.name = "write 1 KiB", .call = write_some, .span = 1024, IN_USE},
+    {.name = "write 4,000 bytes", .call = write_some, .span = 4000, IN_USE},
+    {.name = "write a whole page", .call = write_some, .span = WHOLE, IN_USE},
     {.name = "flush", .call = flush, .pins = 1, .usage = 3, .dirty = DIRTY_NEXT, .batch = QUARTER},
-    {.name = "checkpoint, all clean", .call = checkpoint, .pins = 1, .usage = 3, .batch = ANY_NUMBER},
+    {.name = "checkpoint, all clean", .call = checkpoint, .kind = STILL, .pins = 1, .usage = 3, .batch = ANY_NUMBER},
     {.name = "checkpoint, N / 4 dirty", .call = checkpoint, .pins = 1, .usage = 3, .dirty = DIRTY_NEXT, .batch = ONE},
-    {.name = "peek, held", .call = peek_held, .pins = 1, .usage = 3, .dirty = DIRTY_NEXT, .batch = ANY_NUMBER},
-    {.name = "peek, not held", .call = peek_other, .pins = 1, .usage = 3, .dirty = DIRTY_NEXT, .batch = ANY_NUMBER},
+    {.name = "peek, held", .call = peek_held, .kind = STILL, IN_USE},
+    {.name = "peek, not held", .call = peek_other, .kind = STILL, IN_USE},
     {.name = "extend", .call = extend, .pins = 1, .usage = 3, .dirty = DIRTY_NEXT, .batch = QUARTER},
     {.name = "drop", .call = drop, .usage = 3, .dirty = DIRTY_NEXT, .batch = FOR_EACH_FILE},
-    {.name = "log inserted", .call = log_inserted, .pins = 1, .usage = 3, .dirty = DIRTY_NEXT, .batch = ANY_NUMBER},
-    {.name = "log flushed", .call = log_flushed, .pins = 1, .usage = 3, .dirty = DIRTY_NEXT, .batch = ANY_NUMBER},
-    {.name = "set up", .call = set_up, .pins = 1, .usage = 3, .dirty = DIRTY_NEXT, .batch = ANY_NUMBER, .no_books = 1},
+    {.name = "log inserted", .call = log_inserted, .kind = STILL, IN_USE},
+    {.name = "log flushed", .call = log_flushed, .kind = STILL, IN_USE},
+    {.name = "set up", .call = set_up, .no_books = 1, IN_USE},
 };
 const size_t bench_case_count = sizeof bench_cases / sizeof *bench_cases;
 
-static void *copy_of(const void *from, size_t bytes)
+static void *room_for(size_t bytes_needed)
 {
-    void *to = malloc(bytes);
-    if (to == NULL) {
-        perror("copy_of");
+    void *room = malloc(bytes_needed);
+    if (room == NULL) {
+        perror("room_for");
         exit(2);
     }
-    return memcpy(to, from, bytes);
+    return room;
+}
+
+static void *copy_of(const void *from, size_t length)
+{
+    return memcpy(room_for(length), from, length);
 }
 
 /* What a set-back needs: everything but pool and store, whose bytes it may leave. */
@@ -169,56 +188,83 @@ static void keep(struct pool *pool)
     kept->rows = copy_of(m->rows, m->rows_len * sizeof *m->rows);
 }
 
-/* all in use and dirty: then every page has a log position that a dirty page may have */
-static struct memory full_memory(struct shape shape)
+static void note_held(struct pool *pool)
 {
-    struct memory m;
-    shape.used = shape.dirty = 100;
-    shape.runs = shape.relations = 1;
-    seed_random(1);
-    memory_new(&m, &shape);
-    memory_fill(&m, &shape);
-    return m;
+    pool->held = room_for(buffers(pool) * sizeof *pool->held);
+    for (size_t i = 0; i < buffers(pool); i++)
+        if (pool->lent.states[i] != 0) pool->held[pool->held_count++] = (uint32_t)i;
 }
 
-void pool_new(struct pool *pool, const struct shape *shape)
+static int is_held(const struct pool *pool, const uint32_t *name)
 {
-    struct memory m = full_memory(*shape);
+    for (size_t k = 0; k < pool->held_count; k++)
+        if (memcmp(held_name(pool, k), name, BUFPOOL_NAME_WORDS * sizeof *name) == 0) return 1;
+    return 0;
+}
+
+/* in runs of 16 blocks of a file, from the files' beginning on */
+static void note_others(struct pool *pool)
+{
+    size_t found = 0, n = buffers(pool);
+    pool->others = room_for(3 * n * BUFPOOL_NAME_WORDS * sizeof *pool->others);
+    for (size_t k = 0; found < 3 * n; k++) {
+        uint32_t *name = pool->others + BUFPOOL_NAME_WORDS * found;
+        memcpy(name, pool->lent.rows + BUFPOOL_ROW_WORDS * (k / RUN % pool->files), FILE_WORDS * sizeof *name);
+        name[BUFPOOL_BLOCK] = (uint32_t)(k / RUN / pool->files * RUN + k % RUN);
+        if (!is_held(pool, name)) found++;
+    }
+}
+
+void pool_new(struct pool *pool, const struct bench_shape *shape, int pages_move)
+{
+    struct bench_shape dirty = *shape;
+    struct memory m;
+    dirty.is.dirty = 100; /* so that every page has a log position that a dirty page may have */
+    shape_new(&m, &dirty);
     memset(pool, 0, sizeof *pool);
-    pool->files = shape->files;
+    pool->files = shape->is.files;
     pool->lent = (struct bufpool){m.control, m.control_len, m.states, m.states_len, m.names, m.names_len, m.pool, m.pool_len,
                                   m.free, m.free_len, m.heads, m.heads_len, m.chain, m.chain_len, m.rows, m.rows_len,
                                   m.store, m.store_len};
-    /* files are half full, so that they can be extended; their blocks are written to, so that there is memory behind them */
-    for (size_t r = 0; r < shape->files; r++) {
-        uint8_t *file = m.store + r * shape->capacity * shape->page;
-        m.rows[BUFPOOL_ROW_WORDS * r + BUFPOOL_BLOCKS] = (uint32_t)shape->capacity / 2;
-        memset(file, 0, shape->capacity * shape->page);
-    }
+    /* files are half full, so that they can be extended, but where blocks were chosen among all */
+    for (size_t r = 0; r < pool->files && !shape->crowded; r++) m.rows[BUFPOOL_ROW_WORDS * r + BUFPOOL_BLOCKS] /= 2;
+    if (pages_move) memset(m.store, 0, m.store_len);
+    note_held(pool);
+    note_others(pool);
     keep(pool);
 }
 
 static void set_words(struct pool *pool, const struct bench_case *c)
 {
-    size_t n = buffers(pool), hand = pool->lent.control[BUFPOOL_HAND], first = c->dirty == DIRTY_HAND ? 0 : n / 4;
-    for (size_t k = 0; k < n; k++) {
-        int is_dirty = c->dirty != CLEAN_POOL && k >= first && k < first + n / 4;
-        pool->lent.states[(hand + k) % n] = (is_dirty ? 590u : 524u) << 22 | c->usage << 18 | c->pins;
+    size_t quarter = pool->held_count / 4, first = c->dirty == DIRTY_HAND ? 0 : quarter;
+    for (size_t k = 0; k < pool->held_count; k++) {
+        int is_dirty = c->dirty != CLEAN_POOL && k >= first && k < first + quarter;
+        pool->lent.states[held_buffer(pool, pool->hand + k)] = (is_dirty ? 590u : 524u) << 22 | c->usage << 18 | c->pins;
     }
+}
+
+/* bytes are read and written in steps from the page's beginning, as far as they fit behind the log position */
+static void set_span(struct pool *pool, size_t span)
+{
+    size_t page = pool->kept.control[BUFPOOL_PAGE_SIZE];
+    pool->span = span < page ? span : page;
+    for (pool->places = 1; BUFPOOL_POSITION_BYTES + (2 * pool->places - 1) * STEP + pool->span <= page;) pool->places *= 2;
 }
 
 void pool_set_back(struct pool *pool, const struct bench_case *c)
 {
     struct bufpool *m = &pool->lent, *kept = &pool->kept;
-    size_t n = buffers(pool);
     memcpy(m->control, kept->control, m->control_len * sizeof *m->control);
     memcpy(m->names, kept->names, m->names_len * sizeof *m->names);
     memcpy(m->free, kept->free, m->free_len * sizeof *m->free);
     memcpy(m->heads, kept->heads, m->heads_len * sizeof *m->heads);
     memcpy(m->chain, kept->chain, m->chain_len * sizeof *m->chain);
     memcpy(m->rows, kept->rows, m->rows_len * sizeof *m->rows);
-    m->control[BUFPOOL_HAND] = pool->turn++ * (n / 4) % n;
+    memset(m->states, 0, m->states_len * sizeof *m->states);
+    pool->hand = pool->turn++ * (pool->held_count / 4) % pool->held_count;
+    m->control[BUFPOOL_HAND] = held_buffer(pool, pool->hand);
     set_words(pool, c);
+    set_span(pool, c->span);
     if (c->empty)
         plain_set_up(BUFPOOL_LENT(m), kept->control[BUFPOOL_PAGE_SIZE], kept->control[BUFPOOL_INSERTED], ANSWER(pool));
 }

@@ -3,7 +3,7 @@
 #define CASES_H
 
 #include "bufpool.h"
-#include "memory.h"
+#include "shapes.h"
 
 /* The calls of one side: the library, or plain C. */
 struct side {
@@ -24,15 +24,25 @@ struct side {
 /* A pool, and what it is set back to. */
 struct pool {
     struct bufpool lent, kept;
-    size_t files, turn; /* turn: how often it was set back */
+    size_t files, turn;      /* turn: how often it was set back */
+    uint32_t *held;          /* the buffers in use, rising */
+    size_t held_count, hand; /* hand: the place in held where the hand stands */
+    uint32_t *others;        /* names of pages that are not held, three for each buffer */
+    size_t span, places;     /* bytes to read or write, and how many places in a page they come from, a power of two */
     uint64_t answer[BUFPOOL_ANSWER_WORDS];
 };
 
-/* Which buffers are dirty: none, the quarter of all that begins at the hand, or the quarter behind that one. */
+/* Which buffers are dirty: none, the quarter of those in use that begins at the hand, or the quarter behind that one. */
 enum dirty { CLEAN_POOL, DIRTY_HAND, DIRTY_NEXT };
 
 /* How many calls are made before the pool is set back. */
 enum batch { ONE, FOR_EACH_FILE, QUARTER, ANY_NUMBER };
+
+/* A call that moves no page, a pin that loads one, or another. Reads and writes move no page if they are of few bytes. */
+enum kind { OTHER, STILL, MISS };
+
+/* As many bytes as a call may read or write of a page. */
+enum { WHOLE = 32768 };
 
 /* The kth call of a batch. */
 typedef uint32_t call_fn(const struct side *side, struct pool *pool, size_t k);
@@ -40,18 +50,21 @@ typedef uint32_t call_fn(const struct side *side, struct pool *pool, size_t k);
 struct bench_case {
     const char *name;
     call_fn *call;
-    uint32_t pins, usage; /* of every buffer */
+    enum kind kind;
+    uint32_t pins, usage; /* of every buffer in use */
     enum dirty dirty;
     enum batch batch;
-    int empty;    /* no page is held */
-    int no_books; /* the call does not check the books */
+    size_t span;   /* of a read or write */
+    int empty;     /* no page is held */
+    int no_books;  /* the call does not check the books */
+    int all_sizes; /* timed with other block sizes too */
 };
 
 extern const struct bench_case bench_cases[];
 extern const size_t bench_case_count;
 
-/* A new pool of a shape, with every buffer in use. */
-void pool_new(struct pool *pool, const struct shape *shape);
+/* A new pool of a shape. If pages are moved there is memory behind all of the store. */
+void pool_new(struct pool *pool, const struct bench_shape *shape, int pages_move);
 
 /* The state of a case, with the hand a quarter further each time. */
 void pool_set_back(struct pool *pool, const struct bench_case *c);
