@@ -1,7 +1,8 @@
 -- The check of the books as the code makes it is the test of the definition.
-use mathlib.Core.Path.{_≡_, refl, ap, _∙_}
+use mathlib.Core.Path.{_≡_, refl, sym, ap, _∙_}
 use mathlib.Core.Bool.{Bool, true, false, not, cond, _&&_}
 use mathlib.Core.Logic.{⊎-elim}
+use mathlib.Core.List.{[]}
 use Prim.Native.Nat.{ℕ, _+_, _≤_, _<_}
 use native.Mathlib.Omega.{arith}
 use lib.Dec.{eqb}
@@ -29,10 +30,10 @@ use Rattle.buftag.proofs.TestLaws.{chains-say}
 use Rattle.bufmodel.specs.Word.{empty, dirty, bit, soundWord}
 use Rattle.bufmodel.specs.Position.{position}
 use Rattle.bufmodel.specs.Rows.{placeOf}
-use Rattle.bufmodel.specs.Memory.{Memory, buffers, wordOf, nameOf, pageOf}
+use Rattle.bufmodel.specs.Memory.{Memory, buffers, wordOf, nameOf, pageOf, withFree}
 use Rattle.bufmodel.specs.Books.{emptyAt, sound, BooksSound}
 use Rattle.bufmodel.proofs.BooksLaws.{says-off, says-found, books-say}
-use Rattle.bufbooks.specs.Words.{fine, fineAt, wordsOf}
+use Rattle.bufbooks.specs.Words.{fine, fineAt, countsOf}
 use Rattle.bufbooks.specs.Lists.{listsTest}
 use Rattle.bufbooks.specs.Buffers.{Fitting, lowTest, heldTest, bufferTest}
 use Rattle.bufbooks.specs.Books.{booksTest}
@@ -111,8 +112,8 @@ module _ (m : Memory) where
   abbrev freed : Bool
   freed = spent (spend (m .free) (count (buffers m) (emptyAt m)) (linkOf (m .control .top)))
 
-  abbrev led : Bool
-  led = eqb (leading (m .heads) + leading (m .chain)) (count (buffers m) (used (m .states)))
+  abbrev linked : Bool
+  linked = eqb (leading (m .heads) + leading (m .chain)) (count (buffers m) (used (m .states)))
 
   -- empty buffers and buffers in use are all there are
   both : count (buffers m) (emptyAt m) + count (buffers m) (used (m .states)) ≡ buffers m
@@ -120,7 +121,7 @@ module _ (m : Memory) where
   both = count-not (emptyAt m) (buffers m)
 
   Listed : Type 0
-  Listed = (((i : ℕ) → i < buffers m → Fine i) × (led ≡ true)) × (freed ≡ true)
+  Listed = (((i : ℕ) → i < buffers m → Fine i) × (linked ≡ true)) × (freed ≡ true)
 
   -- the lists as they are counted, with the words
   counted : Bool
@@ -131,7 +132,7 @@ module _ (m : Memory) where
       && freed
 
   counted-is : listsTest (m .control .top) (m .states) (m .free) (m .heads) (m .chain) ≡ counted
-  unfolding listsTest wordsOf emptyAt counted
+  unfolding listsTest countsOf emptyAt counted
   counted-is = refl
 
   fine-all : Says (all (buffers m) (fineAt (m .states) (m .free) (m .chain))) ((i : ℕ) → i < buffers m → Fine i)
@@ -186,7 +187,7 @@ module _ (m : Memory) where
         (holds-says (m .free) (linkOf (m .control .top)) (emptyAt m))
 
     -- the places in the chains, and the number of links
-    chains-are : Says (all (length (m .chain)) standing && led)
+    chains-are : Says (all (length (m .chain)) standing && linked)
         (ChainsSound (m .states) (m .names) (m .heads) (m .chain) × Distinct (m .states) (m .names))
     chains-are =
         rw (check-is (m .states) (m .names) (m .heads) (m .chain) (fit .buckets) (fit .chain))
@@ -234,7 +235,7 @@ module _ (m : Memory) where
     sound-tested k =
         let stand = all (length (m .chain)) standing in
         let chained = chains-are .shown (k .chains, k .distinct) in
-        let at = all-at standing (length (m .chain)) (and-left stand led chained) in
+        let at = all-at standing (length (m .chain)) (and-left stand linked chained) in
         let fine : (i : ℕ) → i < buffers m → Fine i =
         λ i l. (λ e. k .chains .idle i (omega (arith, fit .chain)) (used-false i e), λ e. (k .words i l, k .off i l e)) in
         let kept : (i : ℕ) → i < buffers m → Kept i =
@@ -242,13 +243,18 @@ module _ (m : Memory) where
           λ e. k .blank i l e,
           λ e. (k .low i l, (k .page i l e, stands-finds i e (at i (omega (arith, fit .chain))))),
         ) in
-        (((k .hand, k .log), ((fine, and-right stand led chained), free-is (k .off) .shown (k .free))), kept)
+        (((k .hand, k .log), ((fine, and-right stand linked chained), free-is (k .off) .shown (k .free))), kept)
 
     pub books-is : booksTest m ≡ sound m
     books-is =
         same-tests (booksTest m) (sound m)
         (λ h. books-say m .shown (tested-sound (tested-says .holds h)))
         (λ h. tested-says .shown (sound-tested (books-say m .holds h)))
+
+-- the test of a buffer does not look at the free links
+buffer-free : (m : Memory) (i : ℕ) → bufferTest (withFree [] m) i ≡ bufferTest m i
+unfolding bufferTest emptyAt
+buffer-free m i = refl
 
 -- ---- the tests, in the order in which the code makes them
 module _ (m : Memory) (fit : Fitting m) where
@@ -274,5 +280,11 @@ module _ (m : Memory) (fit : Fitting m) where
       pub books-lists : lists ≡ false → false ≡ sound m
       books-lists h = rw (← books-rest, h)
 
-      pub books-buffers : lists ≡ true → all (buffers m) (bufferTest m) ≡ sound m
-      books-buffers h = rw (← books-rest, h)
+      buffers-free : all (buffers m) (bufferTest (withFree [] m)) ≡ all (buffers m) (bufferTest m)
+      buffers-free =
+          same-tests _ _
+          (λ h. all-of (bufferTest m) (buffers m) (λ i l. sym (buffer-free m i) ∙ all-at (bufferTest (withFree [] m)) (buffers m) h i l))
+          (λ h. all-of (bufferTest (withFree [] m)) (buffers m) (λ i l. buffer-free m i ∙ all-at (bufferTest m) (buffers m) h i l))
+
+      pub books-buffers : lists ≡ true → all (buffers m) (bufferTest (withFree [] m)) ≡ sound m
+      books-buffers h = rw (← books-rest, h) buffers-free

@@ -12,8 +12,8 @@ use Rattle.laws.proofs.Sum.{count-le}
 use Rattle.buftag.specs.Link.{linkOf}
 use Rattle.buftag.specs.Budget.{spend, spent}
 use Rattle.buftag.specs.Check.{leading}
-use Rattle.bufbooks.specs.declared.words.Words.{Words}
-use Rattle.bufbooks.specs.Words.{wordsOf}
+use Rattle.bufbooks.specs.declared.words.Counts.{Counts}
+use Rattle.bufbooks.specs.Words.{countsOf}
 use Rattle.bufbooks.specs.Lists.{listsTest}
 
 -- no more links lead on than there are, and no more buffers are empty
@@ -21,14 +21,16 @@ pub leading-le : (ls : List ℤ) → leading ls ≤ length ls
 unfolding leading
 leading-le ls = count-le _ (length ls)
 
-pub empty-le : (states : List ℕ) (free chain : List ℤ) → wordsOf states free chain .empty ≤ length states
-unfolding wordsOf
+pub empty-le : (states : List ℕ) (free chain : List ℤ) → countsOf states free chain .empty ≤ length states
+unfolding countsOf
 empty-le states free chain = count-le _ (length states)
 
-module _ (top : ℤ) (states : List ℕ) (free heads chain : List ℤ) {w : Words} (e : w ≡ wordsOf states free chain) where
+module _ (top : ℤ) (states : List ℕ) (free heads chain : List ℤ) {w : Counts} (e : w ≡ countsOf states free chain) where
   -- the test over what was counted
-  abbrev by : Words → Bool
-  by v = eqb (v .fine) (length states) && eqb (leading heads + leading chain + v .empty) (v .fine) && spent (spend free (v .empty) (linkOf top))
+  abbrev by : Counts → Bool
+  by v =
+      eqb (v .fine) (length states) && eqb (leading heads + leading chain + v .empty) (v .fine)
+      && spent (spend free (v .empty) (linkOf top))
 
   by-is : by w ≡ listsTest top states free heads chain
   unfolding listsTest

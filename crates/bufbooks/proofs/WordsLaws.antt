@@ -15,28 +15,18 @@ use Rattle.laws.specs.Sum.{count}
 use Rattle.laws.proofs.Tests.{same-tests, never}
 use Rattle.laws.proofs.Sum.{count-done}
 use Rattle.buftag.specs.Link.{linkOf, numberAt, isEnd}
-use Rattle.buftag.proofs.SignedLaws.{minus-one, minus-two, element-back}
+use Rattle.buftag.proofs.SignedLaws.{minus-two, end-test, element-back}
 use Rattle.bufmodel.specs.Word.{empty, soundWord}
 use Rattle.bufmodel.specs.Books.{isOff}
-use Rattle.bufbooks.specs.declared.words.Words.{Words}
-use Rattle.bufbooks.specs.Words.{fine, fineAt, wordsOf}
+use Rattle.bufbooks.specs.declared.words.Counts.{Counts}
+use Rattle.bufbooks.specs.Words.{fine, fineAt, countsOf}
 
--- ---- a link compared with −1, and with −2
-end-bits : (z : ℤ) → isEnd (linkOf z) ≡ true → eqb (ofZ w32 z) 4294967295 ≡ true
-end-bits (pos n) e = never e refl
-end-bits (negsuc zero) e = refl
-end-bits (negsuc (suc zero)) e = never e refl
-end-bits (negsuc (suc (suc k))) e = never e refl
-
+-- ---- a link compared with −2
 off-bits : (z : ℤ) → isOff (linkOf z) ≡ true → eqb (ofZ w32 z) 4294967294 ≡ true
 off-bits (pos n) e = never e refl
 off-bits (negsuc zero) e = never e refl
 off-bits (negsuc (suc zero)) e = refl
 off-bits (negsuc (suc (suc k))) e = never e refl
-
-end-test : (z : ℤ) → SFits w32 z → eqb (ofZ w32 z) 4294967295 ≡ isEnd (linkOf z)
-end-test z f =
-    same-tests _ _ (λ e. ap (λ (x : ℤ). isEnd (linkOf x)) (minus-one z f (eqb-true (ofZ w32 z) 4294967295 e))) (end-bits z)
 
 off-test : (z : ℤ) → SFits w32 z → eqb (ofZ w32 z) 4294967294 ≡ isOff (linkOf z)
 off-test z f =
@@ -69,7 +59,7 @@ pub idle-other : (states : List ℕ) (i : ℕ) → getD states i 0 ≢ 0 → idl
 unfolding empty
 idle-other states i n = ne-eqb (getD states i 0) 0 n
 
-abbrev words : ℕ → ℕ → Words
+abbrev words : ℕ → ℕ → Counts
 words f e = record { fine = f; empty = e }
 
 module _ (states : List ℕ) (free chain : List ℤ) where
@@ -80,8 +70,8 @@ module _ (states : List ℕ) (free chain : List ℤ) where
   fine-read i f g = rw (element-back free i f, element-back chain i g)
 
   pub words-done : (i x y : ℕ) → i ≤ length states → length states ≤ i → x ≡ count i (fineAt states free chain)
-      → y ≡ count i (idle states) → words x y ≡ wordsOf states free chain
-  unfolding wordsOf
+      → y ≡ count i (idle states) → words x y ≡ countsOf states free chain
+  unfolding countsOf
   words-done i x y l m f e =
       let p = count-done (fineAt states free chain) (length states) i x l m f in
       let q = count-done (idle states) (length states) i y l m e in

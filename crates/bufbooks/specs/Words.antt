@@ -8,7 +8,7 @@ use Rattle.laws.specs.Sum.{count}
 use Rattle.buftag.specs.Link.{linkOf, numberAt, isEnd}
 use Rattle.bufmodel.specs.Word.{empty, soundWord}
 use Rattle.bufmodel.specs.Books.{isOff}
-use Rattle.bufbooks.specs.declared.words.Words.{Words}
+use Rattle.bufbooks.specs.declared.words.Counts.{Counts}
 
 -- a buffer's word with its links: of an empty buffer, chain link −1; of one in use, a sound word and free link −2
 unfoldable pub fine : ℕ → ℤ → ℤ → Bool
@@ -18,8 +18,8 @@ unfoldable pub fineAt : List ℕ → List ℤ → List ℤ → ℕ → Bool
 fineAt states free chain i = fine (getD states i 0) (numberAt free i) (numberAt chain i)
 
 -- how many buffers' words fit their links, and how many are empty
-unfoldable pub wordsOf : List ℕ → List ℤ → List ℤ → Words
-wordsOf states free chain =
+unfoldable pub countsOf : List ℕ → List ℤ → List ℤ → Counts
+countsOf states free chain =
     record {
       fine = count (length states) (fineAt states free chain);
       empty = count (length states) (λ i. empty (getD states i 0));

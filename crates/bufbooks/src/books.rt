@@ -47,7 +47,6 @@ pub fn books_ok(
         states,
         names,
         pool,
-        free,
         heads,
         chain,
         rows,

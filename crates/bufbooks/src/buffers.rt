@@ -13,9 +13,8 @@ ghost use Rattle.bufmodel.specs.Memory.{memory};
 ghost use Rattle.bufmodel.specs.Sizes.{maxBuffers, maxBuckets, soundRows};
 ghost use Rattle.bufmem.specs.Rows.{foundRow};
 ghost use Rattle.bufbooks.specs.Hashes.{Hashed};
-ghost use Rattle.bufbooks.specs.Buffers.{Fitting, lowTest, heldTest, bufferTest};
+ghost use Rattle.bufbooks.specs.Buffers.{lowTest, heldTest, bufferTest};
 use crate::guesses::slot_of;
-use bufhash::fnv::mix_short;
 use bufmem::page::page_position;
 use bufmem::rows::ROW_WORDS;
 use bufmem::rows::Row;
@@ -29,6 +28,7 @@ use buftag::bucket::bucket_by;
 use buftag::bucket::mask_of;
 use buftag::check::is_first;
 use buftag::name::FileName;
+use buftag::name::hash_short;
 use buftag::names::holds;
 use buftag::names::no_name;
 use buftag::names::stored;
@@ -86,7 +86,7 @@ fn held_ok(
     if !has_block(rows, row, block) {
         return false;
     }
-    let b = bucket_by(mix_short(hashes[row], block.0), heads.len() as u32, mask) as usize;
+    let b = bucket_by(hash_short(hashes[row], block), heads.len() as u32, mask) as usize;
     is_first(chain, names, heads[b], buffer)
 }
 
@@ -96,21 +96,23 @@ pub fn buffers_ok(
     states: &[u32],
     names: &[u32],
     pool: &[u8],
-    free: &[i32],
     heads: &[i32],
     chain: &[i32],
     rows: &[u32],
     hashes: &[u32; 64],
     guesses: &[u8; 256],
 ) -> bool
-    requires { ⌜ Fitting (memory control (now states) (now names) (now pool) (now free) (now heads) (now chain) (now rows) [])
+    requires { ⌜ (8 ≤ control .size) × (0 < length (now heads)) × (length (now heads) ≤ maxBuckets) × (length (now states) ≤ maxBuffers)
+        × (length (now names) ≡ nameWords * length (now states)) × (length (now pool) ≡ length (now states) * control .size)
+        × (length (now chain) ≡ length (now states))
+        × (soundRows (now rows) ≡ true)
         × Hashed (now rows) (now hashes) ⌝ }
     ensures { λ r.
         ⌜ r
         ≡ all (length (now (states .entry)))
         (bufferTest
-        (memory control (now (states .entry)) (now (names .entry)) (now (pool .entry)) (now (free .entry)) (now (heads .entry))
-        (now (chain .entry)) (now (rows .entry)) [])) ⌝ }
+        (memory control (now (states .entry)) (now (names .entry)) (now (pool .entry)) [] (now (heads .entry)) (now (chain .entry))
+        (now (rows .entry)) [])) ⌝ }
 {
     let mask = mask_of(heads.len() as u32);
     let mut i = 0;

@@ -2,23 +2,12 @@
 
 ghost use mathlib.Core.Path.{_≡_};
 ghost use mathlib.Core.Bool.{true};
-ghost use mathlib.Core.List.{_++_};
-ghost use Rattle.bufhash.specs.Bytes.{wordBytes};
-ghost use Rattle.bufhash.specs.Fnv.{fnv, fnvStart};
 ghost use Rattle.bufmodel.specs.Sizes.{soundRows};
 ghost use Rattle.bufbooks.specs.Hashes.{Hashed};
-use bufhash::fnv::mix_small;
-use bufhash::fnv::mix_word;
 use bufmem::rows::ROW_WORDS;
 use bufmem::rows::file_at;
-
-// The hash of a file's first eight bytes.
-fn hash_database(tablespace: u32, database: u32) -> u32
-    ensures { λ r. ⌜ r ≡ fnv (wordBytes tablespace ++ wordBytes database) fnvStart ⌝ }
-{
-    let h = mix_word(2166136261, tablespace);
-    mix_word(h, database)
-}
+use buftag::name::hash_database;
+use buftag::name::hash_within;
 
 // Files of one database stand together, mostly: its eight bytes are hashed where it is another than the row before has.
 pub fn hash_rows(rows: &[u32], hashes: &mut [u32; 64])
@@ -39,7 +28,7 @@ pub fn hash_rows(rows: &[u32], hashes: &mut [u32; 64])
             database = file.database;
             start = hash_database(tablespace, database);
         }
-        all[row] = mix_small(mix_word(start, file.relation), file.fork);
+        all[row] = hash_within(start, file);
         row += 1;
     }
 }

@@ -3,12 +3,12 @@
 ghost use mathlib.Core.Path.{_≡_};
 ghost use Prim.Native.Nat.{_^_, _<_};
 ghost use lib.ListN.{length};
-ghost use Rattle.bufbooks.specs.Words.{fine, wordsOf};
+ghost use Rattle.bufbooks.specs.Words.{fine, countsOf};
 use bufmem::word::is_full;
 use buftag::link::NONE;
 use buftag::link::OFF;
 
-pub struct Words {
+pub struct Counts {
     // How many buffers have a word and links that fit together, and how many are empty.
     pub fine: u32,
     pub empty: u32,
@@ -21,10 +21,10 @@ fn is_fine(w: u32, free: i32, chain: i32) -> bool
     ((w == 0) & (chain == NONE)) | (is_full(w) & (free == OFF))
 }
 
-pub fn count_words(states: &[u32], free: &[i32], chain: &[i32]) -> Words
+pub fn count_words(states: &[u32], free: &[i32], chain: &[i32]) -> Counts
     requires { ⌜ (length (now free) ≡ length (now states)) × (length (now chain) ≡ length (now states))
         × (length (now states) < 2 ^ 32) ⌝ }
-    ensures { λ r. ⌜ r ≡ wordsOf (now (states .entry)) (now (free .entry)) (now (chain .entry)) ⌝ }
+    ensures { λ r. ⌜ r ≡ countsOf (now (states .entry)) (now (free .entry)) (now (chain .entry)) ⌝ }
 {
     let mut fine = 0u32;
     let mut empty = 0u32;
@@ -39,7 +39,7 @@ pub fn count_words(states: &[u32], free: &[i32], chain: &[i32]) -> Words
         }
         i += 1;
     }
-    Words {
+    Counts {
         fine: fine,
         empty: empty,
     }

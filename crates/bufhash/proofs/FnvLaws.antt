@@ -1,10 +1,11 @@
 -- Laws of FNV-1a.
 use mathlib.Core.Path.{_≡_, refl, sym, ap, _∙_}
 use mathlib.Core.List.{List, [], _∷_, _++_}
-use Prim.Native.Nat.{ℕ, suc, _+_, _*_, _/_, _%_, _^_, _<_}
+use Prim.Native.Nat.{ℕ, suc, _*_, _/_, _%_, _^_, _<_}
 use lib.Bits.{bitXor}
-use native.Mathlib.Nat.{add-mul, mul-comm, mul-assoc, pow-suc, mod-add-div, add-mul-mod-self-left}
+use native.Mathlib.Nat.{mul-assoc, pow-suc}
 use native.Mathlib.Omega.{arith}
+use Rattle.laws.proofs.Numbers.{mod-mul-left, mod-mul-right}
 use Rattle.bufhash.specs.Bytes.{wordBytes}
 use Rattle.bufhash.specs.Fnv.{fnv, fnvStep, fnvPrime}
 
@@ -14,17 +15,6 @@ fnv-append [] ys h = refl
 fnv-append (x ∷ xs) ys h = fnv-append xs ys (fnvStep x h)
 
 -- ---- zero bytes multiply only
--- the remainder of a product is that of a factor's remainder
-mod-mul-left : (a b m : ℕ) → a % m * b % m ≡ a * b % m
-mod-mul-left a b m =
-    sym
-    (ap (λ x. x * b % m) (sym (mod-add-div a m))
-    ∙ ap (λ x. x % m) (add-mul (a % m) (m * (a / m)) b ∙ ap (λ x. a % m * b + x) (mul-assoc m (a / m) b))
-    ∙ add-mul-mod-self-left (a % m * b) m (a / m * b))
-
-mod-mul-right : (a b m : ℕ) → a * (b % m) % m ≡ a * b % m
-mod-mul-right a b m = ap (λ x. x % m) (mul-comm a (b % m)) ∙ mod-mul-left b a m ∙ ap (λ x. x % m) (mul-comm b a)
-
 -- the low 32 bits of the prime's power
 abbrev pub primePower : ℕ → ℕ
 primePower k = fnvPrime ^ k % 2 ^ 32

@@ -14,7 +14,7 @@ use borrow.Author.Tests.{eq-eqb, ne-eqb, eqb-true}
 use Rattle.laws.specs.Sum.{sum, ind, count}
 use Rattle.laws.specs.Times.{times}
 use Rattle.laws.proofs.Tests.{and-true, and-left, and-right, lt-or-le, true-or-false, eq-or-ne, never}
-use Rattle.laws.proofs.Sum.{ind-one, ind-none, ind-le, ind-some}
+use Rattle.laws.proofs.Sum.{ind-one, ind-none, ind-le, ind-some, ind-not, ind-parts, cond-ind, count-some, count-same}
 use Rattle.laws.proofs.Sum.{sum-same, sum-below, sum-plus, sum-tight, sum-zero, sum-point, sum-point′, sum-swap, count-only, count-parts}
 use Rattle.buftag.specs.declared.link.Link.{Link}
 use Rattle.buftag.specs.declared.link.Link.the-variants.{To, End, Off, Bad}
@@ -24,46 +24,6 @@ use Rattle.buftag.specs.Chain.{inBucketBy, ChainsBy}
 use Rattle.buftag.specs.Check.{leading}
 use Rattle.buftag.proofs.LinkLaws.{to-isTo, links-once}
 use Rattle.buftag.proofs.MetLaws.{Within, ends, leads, within-to, Met, first, next, in-met, met-in, met-links}
-
--- ---- counts of a few
-module _ (p : ℕ → Bool) (n : ℕ) where
-  point-le : (i k : ℕ) → p i ≡ true → ind (eqb k i) ≤ ind (p k)
-  point-le i k t =
-      ⊎-elim
-      (λ e. omega (arith, ind-le (eqb k i), ind-one (ap p (eqb-true k i e) ∙ t)))
-      (λ f. omega (arith, ind-none f))
-      (true-or-false (eqb k i))
-
-  -- an index passes
-  count-some : (i : ℕ) → i < n → p i ≡ true → 0 < count n p
-  unfolding count
-  count-some i l t =
-      omega (arith, sum-point i n l, sum-below (λ k. ind (eqb k i)) (λ k. ind (p k)) n (λ k m. point-le i k t))
-
-  -- two that pass
-  two-le : (i j k : ℕ) → i ≢ j → p i ≡ true → p j ≡ true → ind (eqb k i) + ind (eqb k j) ≤ ind (p k)
-  two-le i j k ne t u =
-      ⊎-elim
-      (λ e. omega (arith, point-le i k t, ind-none (ne-eqb k j (λ q. ne (sym (eqb-true k i e) ∙ q)))))
-      (λ f. omega (arith, ind-none f, point-le j k u))
-      (true-or-false (eqb k i))
-
-  -- where one passes at most, two that pass are one
-  count-same : count n p ≤ 1 → (i j : ℕ) → i < n → j < n → p i ≡ true → p j ≡ true → i ≡ j
-  unfolding count
-  count-same most i j l m t u =
-      ⊎-elim
-      (λ e. e)
-      (λ ne.
-      absurd
-      (omega (
-        arith,
-        sum-point i n l,
-        sum-point j n m,
-        sum-plus (λ k. ind (eqb k i)) (λ k. ind (eqb k j)) n,
-        sum-below (λ k. ind (eqb k i) + ind (eqb k j)) (λ k. ind (p k)) n (λ k h. two-le i j k ne t u),
-      )))
-      (eq-or-ne i j)
 
 -- ---- the links that lead to a place
 -- how many of a list do
@@ -162,21 +122,6 @@ sum-passing p n x xs l =
       ap (λ (t : Bool). ind (t && p x)) (eq-eqb x x refl),
     )
 
-ind-both : (t : Bool) → ind t + ind (not t) ≡ 1
-ind-both true = refl
-ind-both false = refl
-
-ind-parts : (a t : Bool) → (a ≡ false → t ≡ true) → ind (a && t) + ind (not t) ≡ ind a
-ind-parts true t h = ind-both t
-ind-parts false true h = refl
-ind-parts false false h = absurd (false≢true (h refl))
-
-cond-ind : (a t e : Bool) → cond t (ind (a && e)) 0 ≡ ind ((a && t) && e)
-cond-ind true true e = refl
-cond-ind true false e = refl
-cond-ind false true e = refl
-cond-ind false false e = refl
-
 -- the link of a place ends its list
 abbrev last : List ℤ → ℕ → Bool
 last ls k = isEnd (linkAt ls k)
@@ -185,7 +130,7 @@ last ls k = isEnd (linkAt ls k)
 links-last : {ls : List ℤ} {l : Link} {xs : List ℕ} → Links ls l xs → sum (length ls) (λ k. passing (last ls) k xs) ≡ ind (not (isEnd l))
 links-last {ls = ls} done = sum-zero _ (length ls) (λ k h. passing-nil (last ls) k)
 links-last {ls = ls} (step {i = i} {is = is} h r) =
-    omega (arith, sum-passing (last ls) (length ls) i is h, links-last r, ind-both (last ls i))
+    omega (arith, sum-passing (last ls) (length ls) i is h, links-last r, ind-not (last ls i))
 
 -- ---- the chains, whichever bucket is a buffer's home
 module _ (words : List ℕ) (home : ℕ → ℕ) (heads chain : List ℤ) (len : length chain ≡ length words)

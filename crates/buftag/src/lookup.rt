@@ -19,7 +19,7 @@ pub enum Held {
 }
 
 // The first buffer with the name, from a link on. Takes as many steps as there are buffers, at most, whatever the links are.
-pub fn find_from(chain: &[i32], names: &[u32], name: PageName, first: Link) -> Held
+fn find_from(chain: &[i32], names: &[u32], name: PageName, first: Link) -> Held
     requires { ⌜ length (now names) ≡ nameWords * length (now chain) ⌝ }
     ensures { λ r. ⌜ r ≡ walk (now (chain .entry)) (now (names .entry)) name (length (now (chain .entry))) first ⌝ }
 {

@@ -1,7 +1,8 @@
 // A page's name: the file's four numbers, and the block's. Its bytes, its hash, its bucket.
 
 ghost use mathlib.Core.Path.{_≡_};
-ghost use Prim.Native.Nat.{_<_};
+ghost use mathlib.Core.List.{_++_};
+ghost use Prim.Native.Nat.{_^_, _<_};
 ghost use lib.ListN.{length};
 ghost use Rattle.bufhash.specs.Bytes.{wordBytes};
 ghost use Rattle.bufhash.specs.Fnv.{fnv, fnvStart};
@@ -10,6 +11,8 @@ ghost use Rattle.buftag.specs.Name.{hashOf, bucketOf, sameFile, sameName
 use crate::number::BlockNumber;
 use bufhash::bytes::put_word;
 use bufhash::bytes::word_at;
+use bufhash::fnv::mix_short;
+use bufhash::fnv::mix_small;
 use bufhash::fnv::mix_word;
 
 // The bytes of a name.
@@ -63,21 +66,45 @@ pub fn is_fork(fork: u32) -> bool
     fork <= VISIBILITY_MAP
 }
 
+// The hash of a file's first eight bytes, which all files of a database begin with.
+pub fn hash_database(tablespace: u32, database: u32) -> u32
+    ensures { λ r. ⌜ r ≡ fnv (wordBytes tablespace ++ wordBytes database) fnvStart ⌝ }
+{
+    let h = mix_word(2166136261, tablespace);
+    mix_word(h, database)
+}
+
+// That hash continued over the other eight bytes of a file, whose fork is one of the few that there are.
+pub fn hash_within(h: u32, file: FileName) -> u32
+    requires { ⌜ file .fork < 2 ^ 8 ⌝ }
+    ensures { λ r. ⌜ r ≡ fnv (wordBytes (file .relation) ++ wordBytes (file .fork)) h ⌝ }
+{
+    let h3 = mix_word(h, file.relation);
+    mix_small(h3, file.fork)
+}
+
 // The hash of a file's 16 bytes: what the hash of each of its pages' names begins with.
-pub fn hash_file(file: FileName) -> u32
+fn hash_file(file: FileName) -> u32
     ensures { λ r. ⌜ r ≡ fnv (fileBytes file) fnvStart ⌝ }
 {
-    let h1 = mix_word(2166136261, file.tablespace);
-    let h2 = mix_word(h1, file.database);
+    let h2 = hash_database(file.tablespace, file.database);
     let h3 = mix_word(h2, file.relation);
     mix_word(h3, file.fork)
 }
 
 // A hash continued over a block number's four bytes.
-pub fn hash_block(h: u32, block: BlockNumber) -> u32
+fn hash_block(h: u32, block: BlockNumber) -> u32
     ensures { λ r. ⌜ r ≡ fnv (wordBytes (block .0)) h ⌝ }
 {
     mix_word(h, block.0)
+}
+
+// The same for a block that a file can have.
+pub fn hash_short(h: u32, block: BlockNumber) -> u32
+    requires { ⌜ block .0 < 2 ^ 16 ⌝ }
+    ensures { λ r. ⌜ r ≡ fnv (wordBytes (block .0)) h ⌝ }
+{
+    mix_short(h, block.0)
 }
 
 pub fn hash(name: PageName) -> u32

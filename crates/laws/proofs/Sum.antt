@@ -4,14 +4,14 @@ use native.Mathlib.Numerals.{add-one}
 use native.Mathlib.Nat.{not-suc-le-zero, le-antisymm, eq-or-lt-of-le}
 use native.Mathlib.Omega.{arith}
 use mathlib.Core.Path.{_≡_, refl, sym, ap, _∙_, subst}
-use mathlib.Core.Bool.{Bool, true, false, not, _&&_}
-use mathlib.Core.Logic.{_↔_, ⊎-elim}
+use mathlib.Core.Bool.{Bool, true, false, not, _&&_, cond}
+use mathlib.Core.Logic.{_↔_, _≢_, ⊎-elim}
 use lib.Dec.{eqb}
 use borrow.Author.Count.{below-more}
 use borrow.Author.Tests.{eq-eqb, ne-eqb, eqb-true}
 use Rattle.laws.specs.Every.{all}
 use Rattle.laws.specs.Sum.{sum, ind, count}
-use Rattle.laws.proofs.Tests.{at-end, lt-or-le, never, same-tests, true-or-false}
+use Rattle.laws.proofs.Tests.{at-end, eq-or-ne, lt-or-le, never, same-tests, true-or-false}
 use Rattle.laws.proofs.Every.{all-at, all-of}
 
 module _ (f : ℕ → ℕ) where
@@ -69,9 +69,21 @@ pub ind-le : (b : Bool) → ind b ≤ 1
 ind-le true = omega arith
 ind-le false = omega arith
 
-ind-not : (b : Bool) → ind b + ind (not b) ≡ 1
+pub ind-not : (b : Bool) → ind b + ind (not b) ≡ 1
 ind-not true = refl
 ind-not false = refl
+
+-- what passes one test, or only then fails another
+pub ind-parts : (a t : Bool) → (a ≡ false → t ≡ true) → ind (a && t) + ind (not t) ≡ ind a
+ind-parts true t h = ind-not t
+ind-parts false true h = refl
+ind-parts false false h = never (h refl) refl
+
+pub cond-ind : (a t e : Bool) → cond t (ind (a && e)) 0 ≡ ind ((a && t) && e)
+cond-ind true true e = refl
+cond-ind true false e = refl
+cond-ind false true e = refl
+cond-ind false false e = refl
 
 module _ (p : ℕ → Bool) where
   pub count-none : count 0 p ≡ 0
@@ -190,3 +202,43 @@ module _ (p : ℕ → Bool) (n : ℕ) where
         all-of p n (λ i l. ind-some (p i) (omega (arith, each i l))),
     λ h. sum-same (λ k. ind (p k)) (λ k. 1) n (λ k l. ind-one (all-at p n h k l)) ∙ sum-ones n,
   )
+
+-- ---- counts of one, and of two
+module _ (p : ℕ → Bool) (n : ℕ) where
+  point-le : (i k : ℕ) → p i ≡ true → ind (eqb k i) ≤ ind (p k)
+  point-le i k t =
+      ⊎-elim
+      (λ e. omega (arith, ind-le (eqb k i), ind-one (ap p (eqb-true k i e) ∙ t)))
+      (λ f. omega (arith, ind-none f))
+      (true-or-false (eqb k i))
+
+  -- an index passes
+  pub count-some : (i : ℕ) → i < n → p i ≡ true → 0 < count n p
+  unfolding count
+  count-some i l t =
+      omega (arith, sum-point i n l, sum-below (λ k. ind (eqb k i)) (λ k. ind (p k)) n (λ k m. point-le i k t))
+
+  -- two that pass
+  two-le : (i j k : ℕ) → i ≢ j → p i ≡ true → p j ≡ true → ind (eqb k i) + ind (eqb k j) ≤ ind (p k)
+  two-le i j k ne t u =
+      ⊎-elim
+      (λ e. omega (arith, point-le i k t, ind-none (ne-eqb k j (λ q. ne (sym (eqb-true k i e) ∙ q)))))
+      (λ f. omega (arith, ind-none f, point-le j k u))
+      (true-or-false (eqb k i))
+
+  -- where one passes at most, two that pass are one
+  pub count-same : count n p ≤ 1 → (i j : ℕ) → i < n → j < n → p i ≡ true → p j ≡ true → i ≡ j
+  unfolding count
+  count-same most i j l m t u =
+      ⊎-elim
+      (λ e. e)
+      (λ ne.
+      absurd
+      (omega (
+        arith,
+        sum-point i n l,
+        sum-point j n m,
+        sum-plus (λ k. ind (eqb k i)) (λ k. ind (eqb k j)) n,
+        sum-below (λ k. ind (eqb k i) + ind (eqb k j)) (λ k. ind (p k)) n (λ k h. two-le i j k ne t u),
+      )))
+      (eq-or-ne i j)

@@ -52,7 +52,10 @@ guess-rows-requires c κs =
     let s = entry (handed (c .before .before .before .before)) in rows-say (now (s .args .rows)) .holds (s .pre .rows) .few
 
 buffers-ok-requires : tie.Need-buffers-ok-requires
-buffers-ok-requires c κs = search needs
+buffers-ok-requires c κs =
+    let s = entry (handed (c .before .before .before .before .before .before .before)) in
+    let fit = s .pre in
+    (fit .page, fit .buckets, fit .narrow, fit .few, fit .names, fit .pool, fit .chain, fit .rows, search needs)
 
 returns-4 : tie.Need-returns-4
 returns-4 c =

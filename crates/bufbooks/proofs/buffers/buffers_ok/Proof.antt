@@ -21,18 +21,17 @@ use Rattle.bufbooks.proofs.buffers.buffers_ok.Statement.{statement}
 use Rattle.bufbooks.proofs.buffers.buffers_ok.Tie as tie
 
 abbrev Inv-loop : tie.InvT-loop
-Inv-loop control states names pool free heads chain rows hashes guesses mask i₀ i =
-    (i ≤ length states) × (all i (bufferTest (memory control states names pool free heads chain rows [])) ≡ true)
+Inv-loop control states names pool heads chain rows hashes guesses mask i₀ i =
+    (i ≤ length states) × (all i (bufferTest (memory control states names pool [] heads chain rows [])) ≡ true)
 
 abbrev μ-loop : tie.MeasureT-loop
-μ-loop control states names pool free heads chain rows hashes guesses mask i₀ i = length states - i
+μ-loop control states names pool heads chain rows hashes guesses mask i₀ i = length states - i
 
 -- the memory lent, and the buffer looked at
 abbrev lent : tie.Start Inv-loop μ-loop → Memory
 lent s =
     let a = s .args in
-    memory (a .control) (now (a .states)) (now (a .names)) (now (a .pool)) (now (a .free)) (now (a .heads)) (now (a .chain))
-    (now (a .rows)) []
+    memory (a .control) (now (a .states)) (now (a .names)) (now (a .pool)) [] (now (a .heads)) (now (a .chain)) (now (a .rows)) []
 
 abbrev masked : tie.After-is-empty Inv-loop μ-loop → tie.After-mask-of Inv-loop μ-loop
 masked c = c .before .before .before .before
@@ -52,7 +51,7 @@ unfolding emptyAt
 blank c = sym (c .is-empty .ensures)
 
 cast-mask-of : tie.Need-cast-mask-of Inv-loop μ-loop
-cast-mask-of c = record { fits = omega (arith, c .before .before .before .before .pre .0 .narrow) }
+cast-mask-of c = record { fits = omega (arith, c .before .before .before .before .pre .2) }
 
 mask-of-requires : tie.Need-mask-of-requires Inv-loop μ-loop
 mask-of-requires c κs = search needs
@@ -73,7 +72,7 @@ no-name-requires : tie.Need-no-name-requires Inv-loop μ-loop
 no-name-requires c κs = search needs
 
 holds-requires : tie.Need-holds-requires Inv-loop μ-loop
-holds-requires c κs = let d = c .before .before in omega (arith, inside d, entry d .pre .0 .names)
+holds-requires c κs = let d = c .before .before in omega (arith, inside d, entry d .pre .4)
 
 returns : tie.Need-returns Inv-loop μ-loop
 returns c =
@@ -88,9 +87,9 @@ returns c =
 is-low-requires : tie.Need-is-low-requires Inv-loop μ-loop
 is-low-requires c κs =
     let d = c .before in
-    let m = lent (entry d) in
-    let fit = entry d .pre .0 in
-    (fit .page, block-in (size m) (buffers m) (place d) (m .pool) (fit .pool) (inside d))
+    let s = entry d in
+    let m = lent s in
+    (s .pre .0, block-in (size m) (buffers m) (place d) (m .pool) (s .pre .5) (inside d))
 
 returns-2 : tie.Need-returns-2 Inv-loop μ-loop
 returns-2 c =
@@ -103,16 +102,15 @@ returns-2 c =
 held-ok-requires : tie.Need-held-ok-requires Inv-loop μ-loop
 held-ok-requires c κs =
     let d = c .before .before .before in
-    let s = entry d in
-    let fit = s .pre .0 in (
-      fit .buckets,
-      fit .narrow,
-      omega (arith, fit .few, fit .chain),
-      masked d .mask-of .ensures,
-      omega (arith, fit .names, fit .chain),
-      omega (arith, inside d, fit .chain),
-      fit .rows,
+    let s = entry d in (
       s .pre .1,
+      s .pre .2,
+      omega (arith, s .pre .3, s .pre .6),
+      masked d .mask-of .ensures,
+      omega (arith, s .pre .4, s .pre .6),
+      omega (arith, inside d, s .pre .6),
+      s .pre .7,
+      s .pre .8,
     )
 
 returns-3 : tie.Need-returns-3 Inv-loop μ-loop

@@ -103,14 +103,14 @@ returns-2 c =
 below : (c : tie.Else1) → let r = c .before .before .before in block-of (entry (looked r)) < blocks-of r
 below c = ltb-true _ _ (has (c .before) ∙ not-false _ (c .if1 .left))
 
-mul-mix-short : tie.Need-mul-mix-short
-mul-mix-short c = omega (arith, few (c .before .before .before))
+mul-hash-short : tie.Need-mul-hash-short
+mul-hash-short c = omega (arith, few (c .before .before .before))
 
-element-copy-out-mix-short : tie.Need-element-copy-out-mix-short
-element-copy-out-mix-short c = few (c .before .before .before)
+element-copy-out-hash-short : tie.Need-element-copy-out-hash-short
+element-copy-out-hash-short c = few (c .before .before .before)
 
-mix-short-requires : tie.Need-mix-short-requires
-mix-short-requires c κs =
+hash-short-requires : tie.Need-hash-short-requires
+hash-short-requires c κs =
     let e = c .before in
     let r = e .before .before .before in
     let s = entry (looked r) in
@@ -164,7 +164,7 @@ finds c =
     let a = s .args in
     let n = nameAt (now (a .names)) (a .buffer .0) in
     let start = getD (now (a .hashes)) (found-row r) 0 in
-    let hash = b .before .mix-short .ensures ∙ ap (λ m. fnv (wordBytes (m .block .0)) start) (named (looked r) .stored .ensures) in
+    let hash = b .before .hash-short .ensures ∙ ap (λ m. fnv (wordBytes (m .block .0)) start) (named (looked r) .stored .ensures) in
     let bucket = bucket-continued (now (a .rows)) (now (a .hashes)) (s .pre .7) n (here r) hash (length (now (a .heads))) in
     let back = element-back (now (a .heads)) (b .bucket-by .result) (c .before .is-first-arg .given) in
     let first = ap linkOf back ∙ ap (linkAt (now (a .heads))) (b .bucket-by .ensures ∙ bucket) in
@@ -186,9 +186,9 @@ held-ok-spec =
     returns
     has-block-requires
     returns-2
-    mul-mix-short
-    element-copy-out-mix-short
-    mix-short-requires
+    mul-hash-short
+    element-copy-out-hash-short
+    hash-short-requires
     cast-bucket-by
     bucket-by-requires
     cast-b

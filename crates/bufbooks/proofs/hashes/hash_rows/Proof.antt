@@ -48,13 +48,10 @@ file-at-requires c κs = search needs
 hash-database-requires-2 : tie.Need-hash-database-requires-2 Inv-loop μ-loop
 hash-database-requires-2 c κs = search needs
 
-mix-word-requires : tie.Need-mix-word-requires Inv-loop μ-loop
-mix-word-requires c κs = search needs
-
-mix-small-requires : tie.Need-mix-small-requires Inv-loop μ-loop
+hash-within-requires : tie.Need-hash-within-requires Inv-loop μ-loop
 unfolding files
-mix-small-requires c κs =
-    let f = c .before .before .before .before in
+hash-within-requires c κs =
+    let f = c .before .before .before in
     let s = f .before .before .before .before .before .before in
     omega (
       arith,
@@ -68,7 +65,7 @@ mul-all c = search needs
 slice-write-all : tie.Need-slice-write-all Inv-loop μ-loop
 unfolding files
 slice-write-all c =
-    let t = c .before .before .before .before .before .before in
+    let t = c .before .before .before .before .before in
     let s = t .before .before .before .before .before in
     omega (arith, t .loop-test .taken, t .before .loop .inv .1, rows-say (now (s .args .rows)) .holds (s .pre) .few)
 
@@ -99,13 +96,12 @@ joined c =
 
 loop-again : tie.Need-loop-again Inv-loop μ-loop
 loop-again c =
-    let j = c .before .before in
+    let j = c .before in
     let f = j .before .before .before in
     let l = f .before .before in
     let file = f .file-at .result in
-    let begins = ap (fnv (wordBytes (file .relation))) (joined j .1) in
-    let new = c .mix-small .ensures ∙ ap (fnv (wordBytes (file .fork))) (c .before .mix-word .ensures ∙ begins)
-    ∙ ap (λ x. fnv (fileBytes x) fnvStart) (f .file-at .ensures) in (
+    let whole = ap (fnv (wordBytes (file .relation) ++ wordBytes (file .fork))) (joined j .1) in
+    let new = c .hash-within .ensures ∙ whole ∙ ap (λ x. fnv (fileBytes x) fnvStart) (f .file-at .ensures) in (
       search needs,
       search needs,
       joined j .0,
@@ -127,8 +123,7 @@ hash-rows-spec =
     loop-holds
     file-at-requires
     hash-database-requires-2
-    mix-word-requires
-    mix-small-requires
+    hash-within-requires
     mul-all
     slice-write-all
     add-row

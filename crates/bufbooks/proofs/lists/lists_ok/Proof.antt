@@ -9,7 +9,7 @@ use Rattle.buftag.specs.Check.{leading}
 use Rattle.buftag.specs.Link.{linkOf}
 use Rattle.buftag.specs.Budget.{spend, spent}
 use Rattle.buftag.proofs.SignedLaws.{bits-back}
-use Rattle.bufbooks.specs.declared.words.Words.{Words}
+use Rattle.bufbooks.specs.declared.words.Counts.{Counts}
 use Rattle.bufbooks.proofs.ListsLaws.{leading-le, empty-le, lists-unfit, lists-other, lists-walked}
 use Rattle.bufbooks.proofs.lists.lists_ok.Statement.{statement}
 use Rattle.bufbooks.proofs.lists.lists_ok.Tie as tie
@@ -53,7 +53,7 @@ add-if2-2 : tie.Need-add-if2-2
 add-if2-2 c =
     let l = c .before in
     let a = entry l .args in
-    let e = ap (λ (w : Words). w .empty) (l .before .before .before .before .count-words .ensures) in
+    let e = ap (λ (w : Counts). w .empty) (l .before .before .before .before .count-words .ensures) in
     record {
       fits = omega (arith, few l, entry l .pre .0, e, empty-le (now (a .states)) (now (a .free)) (now (a .chain)));
     }
@@ -86,7 +86,8 @@ returns-3 c =
     let a = entry l .args in
     let e = l .before .before in
     let back = bits-back (a .control .top) (record { sfits = r .before .struct-told .given .1 .1 .0 .1 }) in
-    let walk = c .before .list-walk .ensures ∙ ap (λ k. spend (now (a .free)) (e .before .before .count-words .result .empty) k) (r .read-link .ensures ∙ ap linkOf back) in
+    let top = r .read-link .ensures ∙ ap linkOf back in
+    let walk = c .before .list-walk .ensures ∙ ap (spend (now (a .free)) (e .before .before .count-words .result .empty)) top in
     lists-walked (a .control .top) _ _ (now (a .heads)) (now (a .chain)) (e .before .before .count-words .ensures) (e .if1 .left)
     (omega (arith, counted l, i .if2 .left)) (c .is-spent .ensures ∙ ap spent walk)
 

@@ -36,7 +36,8 @@ returns-2 c =
 abbrev looked : tie.Else2 → tie.After-is-fork
 looked c = c .before .before .before .before
 
-rest : (c : tie.Else2) → let a = looked c .before .before .before .args in newFile (now (a .rows)) (a .row) ≡ soundRow (now (a .rows)) (a .row)
+rest : (c : tie.Else2)
+    → let a = looked c .before .before .before .args in newFile (now (a .rows)) (a .row) ≡ soundRow (now (a .rows)) (a .row)
 rest c =
     let d = looked c in
     let forked = d .is-fork .ensures ∙ ap (λ f. isFork (f .fork)) (d .before .file-at .ensures) in

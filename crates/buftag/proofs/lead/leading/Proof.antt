@@ -1,19 +1,18 @@
 use Rattle.laws.specs.Sum.{count}
 use Rattle.laws.proofs.Sum.{count-none, count-hit, count-miss, count-done, count-le}
-use Rattle.buftag.specs.Link.{linkOf, linkAt, isEnd}
+use Rattle.buftag.specs.Link.{linkAt, isEnd}
 use Rattle.buftag.specs.Check.{leading}
-use Rattle.buftag.proofs.SignedLaws.{minus-one}
-use Prim.Native.Nat.{ℕ, zero, suc, _≤_, _-_}
+use Rattle.buftag.proofs.SignedLaws.{end-test}
+use Prim.Native.Nat.{ℕ, _≤_, _-_}
 use native.Mathlib.Omega.{arith}
-use lib.IntN.{ℤ, pos, negsuc}
+use lib.IntN.{ℤ, pos}
 use lib.ListN.{length, getD}
-use mathlib.Core.Bool.{Bool, false, not}
+use mathlib.Core.Bool.{Bool, not}
 use mathlib.Core.List.{List}
 use mathlib.Core.Logic.{⊎-elim}
-use mathlib.Core.Path.{_≡_, refl, ap, sym}
-use mir.Syntax.{w32}
-use mir.Val.{ofZ}
+use mathlib.Core.Path.{_≡_, ap, sym, _∙_}
 use borrow.Author.Needs.{needs}
+use borrow.Author.Tests.{eq-eqb, ne-eqb}
 use denote.Ref.{now}
 use Rattle.buftag.proofs.lead.leading.Statement.{statement}
 use Rattle.buftag.proofs.lead.leading.Tie as tie
@@ -21,13 +20,6 @@ use Rattle.buftag.proofs.lead.leading.Tie as tie
 -- whether the link at a place leads on
 abbrev on : List ℤ → ℕ → Bool
 on links i = not (isEnd (linkAt links i))
-
--- a number other than −1 ends no list
-not-none : (z : ℤ) → (ofZ w32 z ≡ 4294967295 → ⊥) → isEnd (linkOf z) ≡ false
-not-none (pos n) h = refl
-not-none (negsuc zero) h = absurd (h refl)
-not-none (negsuc (suc zero)) h = refl
-not-none (negsuc (suc (suc k))) h = refl
 
 abbrev Inv-loop : tie.InvT-loop
 Inv-loop links many₀ i₀ many i = (i ≤ length links) × (many ≡ count i (on links))
@@ -60,13 +52,11 @@ loop-again c =
     let l = c .before .before .before in
     let links = now (l .before .args .links) in
     let i = l .loop .i in
-    let z = getD links i (pos 0) in (
+    let told = sym (end-test (getD links i (pos 0)) (record { sfits = c .before .if12 .given })) in (
       search needs,
       ⊎-elim
-          (λ w. omega (arith, count-hit (on links) i (ap not (not-none z (w .0 .taken)))))
-          (λ w.
-          let e = minus-one z (record { sfits = c .before .if12 .given }) (w .0 .left) in
-          omega (arith, count-miss (on links) i (ap (λ x. not (isEnd (linkOf x))) e)))
+          (λ w. omega (arith, count-hit (on links) i (ap not (told ∙ ne-eqb _ _ (w .0 .taken)))))
+          (λ w. omega (arith, count-miss (on links) i (ap not (told ∙ eq-eqb _ _ (w .0 .left)))))
           (c .if1 .came),
     )
 

@@ -2,8 +2,8 @@ use borrow.Author.Needs.{needs}
 use mathlib.Core.Path.{ap, _∙_}
 use Rattle.bufhash.specs.Bytes.{wordBytes}
 use Rattle.bufhash.specs.Fnv.{fnv}
-use Rattle.bufbooks.proofs.hashes.hash_database.Statement.{statement}
-use Rattle.bufbooks.proofs.hashes.hash_database.Tie as tie
+use Rattle.buftag.proofs.name.hash_database.Statement.{statement}
+use Rattle.buftag.proofs.name.hash_database.Tie as tie
 
 mix-word-requires : tie.Need-mix-word-requires
 mix-word-requires c κs = search needs
