@@ -11,6 +11,7 @@ enum { FIRST_RELATION = 16384 };
 const struct bench_shape other_shapes[] = {
     {SHAPE(16, 32, 1, 8192, 8192, 100), .words = "few buffers"},
     {SHAPE(16, 32, 64, 8192, 128, 100), .words = "few buffers"},
+    {SHAPE(1024, 1024, 1, 8192, 8192, 100), .words = "one file"},
     {SHAPE(1024, 4096, 1, 8192, 8192, 100), .words = "one file"},
     {SHAPE(128, 256, 64, 8192, 128, 100), .words = "64 apart", .apart = 64},
     {SHAPE(1024, 4096, 64, 8192, 128, 100), .words = "64 apart", .apart = 64},

@@ -25,11 +25,12 @@ static inline double median(double *times, size_t many)
     return times[many / 2];
 }
 
-/* Prints a ratio, what it may be at most, and a mark if it is more; whether it is. */
+/* Prints a ratio, what it may be at most, and a mark if it is more, or no ratio of times; whether it is. */
 static inline int print_ratio(double ratio, double most)
 {
-    printf("ratio %.3f, at most %.2f%s", ratio, most, ratio > most ? " ABOVE" : "");
-    return ratio > most;
+    int within = ratio > 0 && ratio <= most;
+    printf("ratio %.3f, at most %.2f%s", ratio, most, within ? "" : " ABOVE");
+    return !within;
 }
 
 #endif

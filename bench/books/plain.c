@@ -31,7 +31,8 @@ static bool same_name(const uint32_t *a, const uint32_t *b)
     return a[NAME_BLOCK] == b[NAME_BLOCK] && same_file(a, b);
 }
 
-/* where the guess for a file's row stands: by a product, so that relation numbers 64 apart do not fall together */
+/* where the guess for a file's row stands: by a product, so that few files with neighbouring relation numbers, or numbers 64 apart, share
+   a slot */
 static size_t slot_of(const uint32_t *file)
 {
     return ((4 * file[FILE_RELATION] + file[FILE_FORK]) * 2654435761u) >> (32 - SLOT_BITS);
@@ -151,7 +152,7 @@ uint32_t plain_check(const uint64_t *control, size_t control_len, const uint32_t
         if (free[i] != -2 || !word_ok(states[i], pool + i * control[CONTROL_SIZE], control[CONTROL_INSERTED])) return 2;
         size_t r = find_row(rows, files, guesses[slot_of(name)], name);
         if (r == files || name[NAME_BLOCK] >= rows[ROW_WORDS * r + ROW_BLOCKS]) return 2;
-        bucket[i] = (uint16_t)(mix(hashes[r], name[NAME_BLOCK]) % buckets);
+        bucket[i] = (uint16_t)(mix(hashes[r], name[NAME_BLOCK]) % (uint32_t)buckets);
         used++;
     }
     uint64_t top = control[CONTROL_TOP];

@@ -1,4 +1,4 @@
-/* The twelve calls in plain C, written for speed. Sizes and books are checked by plain_check of bench/books, once for each call; after
+/* The twelve calls in plain C, as a good C programmer would write them at first. Sizes and books are checked by plain_check of bench/books, once for each call; after
    it the code relies on them. Link with bench/books/plain.c. */
 #include "plain.h"
 #include "memory.h"
@@ -101,7 +101,7 @@ static int32_t find_held(int32_t at, const int32_t *chain, const uint32_t *names
 /* The link that leads to a buffer takes its own link. */
 static void leave_chain(int32_t *heads, size_t buckets, int32_t *chain, const uint32_t *names, size_t i)
 {
-    int32_t *link = heads + hash(names + NAME_WORDS * i) % buckets;
+    int32_t *link = heads + hash(names + NAME_WORDS * i) % (uint32_t)buckets;
     while (*link != (int32_t)i) link = chain + *link;
     *link = chain[i];
 }
@@ -179,7 +179,7 @@ uint32_t plain_pin(LENDS(MUT, MUT, MUT, MUT, const, MUT), FILE_NUMBERS, uint32_t
     if (refusal == 0) refusal = find_page(rows, rows_len, name, &place);
     if (refusal != 0) return refuse(answer, answer_len, refusal);
 
-    int32_t *head = heads + hash(name) % buckets, held = find_held(*head, chain, names, name);
+    int32_t *head = heads + hash(name) % (uint32_t)buckets, held = find_held(*head, chain, names, name);
     if (held >= 0) {
         uint32_t w = states[held];
         if ((w & PINS) == BUFPOOL_MAX_PINS) return refuse(answer, answer_len, BUFPOOL_PIN_COUNT);
@@ -273,7 +273,7 @@ uint32_t plain_peek(LENDS(const, const, const, const, const, const), FILE_NUMBER
     uint32_t refusal = CHECK_WITH(control);
     if (refusal == 0) refusal = find_page(rows, rows_len, name, &place);
     if (refusal != 0) return refuse(answer, answer_len, refusal);
-    int32_t held = find_held(heads[hash(name) % buckets], chain, names, name);
+    int32_t held = find_held(heads[hash(name) % (uint32_t)buckets], chain, names, name);
     if (held >= 0) return accept(answer, 1, (uint64_t)held * control[CONTROL_SIZE], 0, 0);
     return accept(answer, 0, place * control[CONTROL_SIZE], 0, 0);
 }

@@ -9,8 +9,8 @@ use bufmem::rows::ROW_WORDS;
 use bufmem::rows::file_at;
 use buftag::name::FileName;
 
-// Where a table of 256 places has a file's. The product spreads files whose relations have neighbouring numbers, or numbers so far apart
-// as a power of two.
+// Where a table of 256 places has a file's. The product spreads files whose relations have neighbouring numbers, or numbers 64 apart: of 64
+// such files some five share a slot.
 pub fn slot_of(file: FileName) -> usize
     ensures { λ r. ⌜ r ≡ slotOf file ⌝ }
 {
