@@ -10,27 +10,27 @@ use lib.ListN.{length, getD}
 use lib.Signed.{mag}
 use mir.Syntax.{w32}
 use mir.Val.{SFits, ofZ, toZ}
-use borrow.Author.Tests.{eqb-true, eq-eqb, ne-eqb}
+use native.Mathlib.Omega.{arith}
+use borrow.Author.Tests.{eq-eqb, ne-eqb}
 use Rattle.laws.specs.Sum.{count}
-use Rattle.laws.proofs.Tests.{same-tests, never}
+use Rattle.laws.proofs.Tests.{never}
 use Rattle.laws.proofs.Sum.{count-done}
 use Rattle.buftag.specs.Link.{linkOf, numberAt, isEnd}
-use Rattle.buftag.proofs.SignedLaws.{minus-two, end-test, element-back}
+use Rattle.buftag.proofs.SignedLaws.{mark-test, end-test, element-back}
 use Rattle.bufmodel.specs.Word.{empty, soundWord}
 use Rattle.bufmodel.specs.Books.{isOff}
 use Rattle.bufbooks.specs.declared.words.Counts.{Counts}
 use Rattle.bufbooks.specs.Words.{fine, fineAt, countsOf}
 
 -- ---- a link compared with −2
-off-bits : (z : ℤ) → isOff (linkOf z) ≡ true → eqb (ofZ w32 z) 4294967294 ≡ true
-off-bits (pos n) e = never e refl
-off-bits (negsuc zero) e = never e refl
-off-bits (negsuc (suc zero)) e = refl
-off-bits (negsuc (suc (suc k))) e = never e refl
+off-only : (z : ℤ) → isOff (linkOf z) ≡ true → z ≡ negsuc 1
+off-only (pos n) e = never e refl
+off-only (negsuc zero) e = never e refl
+off-only (negsuc (suc zero)) e = refl
+off-only (negsuc (suc (suc k))) e = never e refl
 
 off-test : (z : ℤ) → SFits w32 z → eqb (ofZ w32 z) 4294967294 ≡ isOff (linkOf z)
-off-test z f =
-    same-tests _ _ (λ e. ap (λ (x : ℤ). isOff (linkOf x)) (minus-two z f (eqb-true (ofZ w32 z) 4294967294 e))) (off-bits z)
+off-test = mark-test (negsuc 1) (record { sfits = omega arith }) (λ z. isOff (linkOf z)) refl off-only
 
 -- ---- the test of a buffer without a branch
 by-cases : (e n s o : Bool) → (e && n || s && not e && o) ≡ cond e n (s && o)

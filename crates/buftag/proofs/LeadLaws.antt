@@ -2,8 +2,8 @@
 -- use, one link leads to each of them and none elsewhere, so each chain holds exactly its bucket's buffers, once. In sound chains as many
 -- lead on.
 use mathlib.Core.Path.{_≡_, refl, sym, _∙_, ap, subst}
-use mathlib.Core.Bool.{Bool, true, false, not, _&&_, cond, false≢true}
-use mathlib.Core.Logic.{_≢_, ⊎-elim}
+use mathlib.Core.Bool.{Bool, true, false, not, _&&_, cond}
+use mathlib.Core.Logic.{⊎-elim}
 use mathlib.Core.List.{List, [], _∷_}
 use Prim.Native.Nat.{ℕ, suc, _+_, _≤_, _<_}
 use native.Mathlib.Omega.{arith}
@@ -13,9 +13,9 @@ use lib.ListN.{length}
 use borrow.Author.Tests.{eq-eqb, ne-eqb, eqb-true}
 use Rattle.laws.specs.Sum.{sum, ind, count}
 use Rattle.laws.specs.Times.{times}
-use Rattle.laws.proofs.Tests.{and-true, and-left, and-right, lt-or-le, true-or-false, eq-or-ne, never}
+use Rattle.laws.proofs.Tests.{and-true, and-left, and-right, lt-or-le, true-or-false, never}
 use Rattle.laws.proofs.Sum.{ind-one, ind-none, ind-le, ind-some, ind-not, ind-parts, cond-ind, count-some, count-same}
-use Rattle.laws.proofs.Sum.{sum-same, sum-below, sum-plus, sum-tight, sum-zero, sum-point, sum-point′, sum-swap, count-only, count-parts}
+use Rattle.laws.proofs.Sum.{sum-same, sum-below, sum-plus, sum-tight, sum-zero, sum-point′, sum-swap, count-only, count-parts}
 use Rattle.buftag.specs.declared.link.Link.{Link}
 use Rattle.buftag.specs.declared.link.Link.the-variants.{To, End, Off, Bad}
 use Rattle.buftag.specs.Link.{linkAt, isEnd, isTo, Links, done, step, Holds}

@@ -73,12 +73,13 @@ pub ind-not : (b : Bool) → ind b + ind (not b) ≡ 1
 ind-not true = refl
 ind-not false = refl
 
--- what passes one test, or only then fails another
+-- what passes a test passes another or not, if only what passes the first fails the other
 pub ind-parts : (a t : Bool) → (a ≡ false → t ≡ true) → ind (a && t) + ind (not t) ≡ ind a
 ind-parts true t h = ind-not t
 ind-parts false true h = refl
 ind-parts false false h = never (h refl) refl
 
+-- one test among others, taken before or after them
 pub cond-ind : (a t e : Bool) → cond t (ind (a && e)) 0 ≡ ind ((a && t) && e)
 cond-ind true true e = refl
 cond-ind true false e = refl
