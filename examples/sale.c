@@ -43,7 +43,7 @@ static uint32_t hold(struct shop *shop, struct till *till, uint32_t block, struc
 /* The log first: it is a line longer, and the page that changes gets the position of its new end. */
 static void log_and_write(struct shop *shop, struct bufpool_buffer buffer, uint64_t from, const struct line *line)
 {
-    uint64_t position = shop->pool.control[BUFPOOL_INSERTED] + 1;
+    uint64_t position = bufpool_inserted(&shop->pool) + 1;
     must("log inserted", bufpool_log_inserted_to(&shop->pool, position));
     must("write", bufpool_write_buffer(&shop->pool, buffer, from, (const uint8_t *)line, sizeof *line, position));
 }

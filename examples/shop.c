@@ -36,17 +36,7 @@ void must(const char *call, uint32_t refusal)
 
 uint32_t receipts_blocks(const struct shop *shop)
 {
-    return shop->card->rows[BUFPOOL_BLOCKS];
-}
-
-static void fill_row(uint32_t *row, struct bufpool_file file, uint32_t blocks, uint32_t capacity)
-{
-    row[BUFPOOL_TABLESPACE] = file.tablespace;
-    row[BUFPOOL_DATABASE] = file.database;
-    row[BUFPOOL_RELATION] = file.relation;
-    row[BUFPOOL_FORK] = file.fork;
-    row[BUFPOOL_BLOCKS] = blocks;
-    row[BUFPOOL_CAPACITY] = capacity;
+    return shop->card->rows[BUFPOOL_ROW_AT_BLOCKS];
 }
 
 int card_new(const char *path, const struct sizes *sizes)
@@ -67,8 +57,8 @@ int card_new(const char *path, const struct sizes *sizes)
     card.page_size = sizes->page;
     card.day_block = sizes->used;
     /* one block is kept for the class; the file stays full of holes until its blocks are written */
-    fill_row(card.rows, receipts_file, sizes->used, sizes->blocks - 1);
-    fill_row(card.rows + BUFPOOL_ROW_WORDS, practice_file, 0, 1);
+    bufpool_fill_row(card.rows, receipts_file, sizes->used, sizes->blocks - 1);
+    bufpool_fill_row(card.rows + BUFPOOL_ROW_WORDS, practice_file, 0, 1);
     if (ftruncate(fd, length) != 0 || pwrite(fd, &card, sizeof card, 0) != (ssize_t)sizeof card) {
         stop("the card cannot be written: %s", strerror(errno));
     }
@@ -144,8 +134,8 @@ void card_let_go(const struct shop *shop)
    out here. */
 void shop_force_log(struct shop *shop)
 {
-    uint64_t inserted = shop->pool.control[BUFPOOL_INSERTED];
-    if (shop->pool.control[BUFPOOL_FLUSHED] == inserted) return;
+    uint64_t inserted = bufpool_inserted(&shop->pool);
+    if (bufpool_flushed(&shop->pool) == inserted) return;
     shop->card->position = inserted;
     settle(shop->card, sizeof *shop->card);
     must("log flushed", bufpool_log_flushed_to(&shop->pool, inserted));
@@ -155,7 +145,7 @@ void shop_force_log(struct shop *shop)
 uint32_t shop_pin(struct shop *shop, const char *who, struct bufpool_name name, struct bufpool_pinned *pinned)
 {
     uint32_t refusal;
-    if (shop->pool.control[BUFPOOL_FREE_TOP] == BUFPOOL_FREE_NONE) shop_force_log(shop);
+    if (!bufpool_has_free(&shop->pool)) shop_force_log(shop);
     refusal = bufpool_pin_page(&shop->pool, name, pinned);
     trail_pin(shop, who, name, refusal, pinned);
     return refusal;
@@ -169,7 +159,7 @@ void shop_checkpoint(struct shop *shop)
     card_settle(shop);
     card_let_go(shop);
     trail_note(shop, "checkpoint: %llu pages written", (unsigned long long)written);
-    printf("checkpoint: log flushed to %llu, pages written: %llu\n", (unsigned long long)shop->pool.control[BUFPOOL_FLUSHED],
+    printf("checkpoint: log flushed to %llu, pages written: %llu\n", (unsigned long long)bufpool_flushed(&shop->pool),
            (unsigned long long)written);
 }
 

@@ -20,20 +20,20 @@ static void print_buffer(const struct snapshot *s, uint32_t b)
         printf("  %6u  empty\n", b);
         return;
     }
-    snprintf(page, sizeof page, "%u %u %u %u, %u", name[BUFPOOL_TABLESPACE], name[BUFPOOL_DATABASE], name[BUFPOOL_RELATION],
-             name[BUFPOOL_FORK], name[BUFPOOL_BLOCK]);
+    snprintf(page, sizeof page, "%u %u %u %u, %u", name[BUFPOOL_FILE_AT_TABLESPACE], name[BUFPOOL_FILE_AT_DATABASE],
+             name[BUFPOOL_FILE_AT_RELATION], name[BUFPOOL_FILE_AT_FORK], name[BUFPOOL_NAME_AT_BLOCK]);
     printf("  %6u  %-24s  %4u  %5u  %-5s  %12llu\n", b, page, bufpool_state_pins(state), bufpool_state_usage(state),
            bufpool_state_dirty(state) ? "dirty" : "clean", (unsigned long long)s->positions[b]);
 }
 
 static void print_free_list(const struct trail_head *head, const struct snapshot *s)
 {
-    uint64_t at = s->control[BUFPOOL_FREE_TOP];
+    uint64_t at = s->control[BUFPOOL_CONTROL_AT_FREE_TOP];
     uint32_t k;
     printf("  free list:%s", at >= head->buffers ? " none" : "");
     for (k = 0; k < head->buffers && at < head->buffers; k++) {
         printf(" %llu", (unsigned long long)at);
-        at = s->free[at] < 0 ? BUFPOOL_FREE_NONE : (uint64_t)s->free[at];
+        at = s->free[at] < 0 ? BUFPOOL_BUFFER_NONE : (uint64_t)s->free[at];
     }
     putchar('\n');
 }
@@ -43,8 +43,8 @@ static void print_files(const struct trail_head *head, const struct snapshot *s)
     const uint32_t *row = s->rows;
     uint32_t k;
     for (k = 0; k < head->files; k++, row += BUFPOOL_ROW_WORDS) {
-        printf("  file %u %u %u %u: %u of %u blocks\n", row[BUFPOOL_TABLESPACE], row[BUFPOOL_DATABASE], row[BUFPOOL_RELATION],
-               row[BUFPOOL_FORK], row[BUFPOOL_BLOCKS], row[BUFPOOL_CAPACITY]);
+        printf("  file %u %u %u %u: %u of %u blocks\n", row[BUFPOOL_FILE_AT_TABLESPACE], row[BUFPOOL_FILE_AT_DATABASE],
+               row[BUFPOOL_FILE_AT_RELATION], row[BUFPOOL_FILE_AT_FORK], row[BUFPOOL_ROW_AT_BLOCKS], row[BUFPOOL_ROW_AT_CAPACITY]);
     }
 }
 
@@ -52,7 +52,7 @@ static void print_files(const struct trail_head *head, const struct snapshot *s)
 static void print_sweep(const struct trail_head *head, const struct snapshot *before, const struct trail_event *pin)
 {
     /* a refusal answers no probes: it has looked at each buffer once */
-    uint64_t probes = pin->refusal == BUFPOOL_ALL_PINNED ? head->buffers : pin->probes, hand = before->control[BUFPOOL_HAND], k;
+    uint64_t probes = pin->refusal == BUFPOOL_ALL_PINNED ? head->buffers : pin->probes, hand = before->control[BUFPOOL_CONTROL_AT_HAND], k;
     uint32_t used[BUFPOOL_MAX_BUFFERS];
     for (k = 0; k < head->buffers; k++) used[k] = bufpool_state_usage(before->states[k]);
     for (k = 0; k < probes && hand < head->buffers; k++) {
@@ -89,8 +89,8 @@ static void print_snapshot(const struct trail_head *head, const struct snapshot 
     printf("  buffer  %-24s  pins  usage  %-5s  log position\n", "page", "");
     for (b = 0; b < head->buffers; b++) print_buffer(s, b);
     print_free_list(head, s);
-    printf("  hand at %llu; log inserted to %llu, flushed to %llu\n", (unsigned long long)s->control[BUFPOOL_HAND],
-           (unsigned long long)s->control[BUFPOOL_INSERTED], (unsigned long long)s->control[BUFPOOL_FLUSHED]);
+    printf("  hand at %llu; log inserted to %llu, flushed to %llu\n", (unsigned long long)s->control[BUFPOOL_CONTROL_AT_HAND],
+           (unsigned long long)s->control[BUFPOOL_CONTROL_AT_INSERTED], (unsigned long long)s->control[BUFPOOL_CONTROL_AT_FLUSHED]);
     print_files(head, s);
     putchar('\n');
     fflush(stdout);

@@ -30,7 +30,7 @@ static void put(struct shop *shop, const struct trail_event *event)
     fwrite(m->names, sizeof *m->names, m->names_len, shop->trail);
     fwrite(m->free, sizeof *m->free, m->free_len, shop->trail);
     for (b = 0; b < m->states_len; b++) {
-        position = bufpool_page_position(m->pool + b * m->control[BUFPOOL_PAGE_SIZE]);
+        position = bufpool_page_position(m->pool + b * bufpool_page_size(m));
         fwrite(&position, sizeof position, 1, shop->trail);
     }
     if (ferror(shop->trail) || fflush(shop->trail) != 0) stop("the trail cannot be written");

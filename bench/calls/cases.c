@@ -18,7 +18,7 @@ static size_t buffers(const struct pool *pool)
 
 static uint64_t inserted(const struct pool *pool)
 {
-    return pool->lent.control[BUFPOOL_INSERTED];
+    return bufpool_inserted(&pool->lent);
 }
 
 /* the kth of the buffers in use */
@@ -72,7 +72,7 @@ static uint32_t read_some(const struct side *side, struct pool *pool, size_t k)
 /* of a whole page all bytes but the log position */
 static uint32_t write_some(const struct side *side, struct pool *pool, size_t k)
 {
-    size_t from = BUFPOOL_POSITION_BYTES + (k & (pool->places - 1)) * STEP, most = pool->lent.control[BUFPOOL_PAGE_SIZE] - from;
+    size_t from = BUFPOOL_POSITION_BYTES + (k & (pool->places - 1)) * STEP, most = bufpool_page_size(&pool->lent) - from;
     return side->write(BUFPOOL_LENT(&pool->lent), dirty_buffer(pool, k), from, bytes, pool->span < most ? pool->span : most,
                        inserted(pool), ANSWER(pool));
 }
@@ -126,7 +126,7 @@ static uint32_t log_flushed(const struct side *side, struct pool *pool, size_t k
 
 static uint32_t set_up(const struct side *side, struct pool *pool, size_t k)
 {
-    return side->set_up(BUFPOOL_LENT(&pool->lent), pool->kept.control[BUFPOOL_PAGE_SIZE], k, ANSWER(pool));
+    return side->set_up(BUFPOOL_LENT(&pool->lent), bufpool_page_size(&pool->kept), k, ANSWER(pool));
 }
 
 /* The state of most cases: every page is pinned and was used, a quarter of them is dirty, and calls change nothing that matters. */
@@ -210,7 +210,7 @@ static void note_others(struct pool *pool)
     for (size_t k = 0; found < 3 * n; k++) {
         uint32_t *name = pool->others + BUFPOOL_NAME_WORDS * found;
         memcpy(name, pool->lent.rows + BUFPOOL_ROW_WORDS * (k / RUN % pool->files), FILE_WORDS * sizeof *name);
-        name[BUFPOOL_BLOCK] = (uint32_t)(k / RUN / pool->files * RUN + k % RUN);
+        name[BUFPOOL_NAME_AT_BLOCK] = (uint32_t)(k / RUN / pool->files * RUN + k % RUN);
         if (!is_held(pool, name)) found++;
     }
 }
@@ -227,7 +227,7 @@ void pool_new(struct pool *pool, const struct bench_shape *shape, int pages_move
                                   m.free, m.free_len, m.heads, m.heads_len, m.chain, m.chain_len, m.rows, m.rows_len,
                                   m.store, m.store_len};
     /* files are half full, so that they can be extended, but where blocks were chosen among all */
-    for (size_t r = 0; r < pool->files && !shape->crowded; r++) m.rows[BUFPOOL_ROW_WORDS * r + BUFPOOL_BLOCKS] /= 2;
+    for (size_t r = 0; r < pool->files && !shape->crowded; r++) m.rows[BUFPOOL_ROW_WORDS * r + BUFPOOL_ROW_AT_BLOCKS] /= 2;
     if (pages_move) memset(m.store, 0, m.store_len);
     note_held(pool);
     note_others(pool);
@@ -246,7 +246,7 @@ static void set_words(struct pool *pool, const struct bench_case *c)
 /* bytes are read and written in steps from the page's beginning, as far as they fit behind the log position */
 static void set_span(struct pool *pool, size_t span)
 {
-    size_t page = pool->kept.control[BUFPOOL_PAGE_SIZE];
+    size_t page = bufpool_page_size(&pool->kept);
     pool->span = span < page ? span : page;
     for (pool->places = 1; BUFPOOL_POSITION_BYTES + (2 * pool->places - 1) * STEP + pool->span <= page;) pool->places *= 2;
 }
@@ -262,11 +262,11 @@ void pool_set_back(struct pool *pool, const struct bench_case *c)
     memcpy(m->rows, kept->rows, m->rows_len * sizeof *m->rows);
     memset(m->states, 0, m->states_len * sizeof *m->states);
     pool->hand = pool->turn++ * (pool->held_count / 4) % pool->held_count;
-    m->control[BUFPOOL_HAND] = held_buffer(pool, pool->hand);
+    m->control[BUFPOOL_CONTROL_AT_HAND] = held_buffer(pool, pool->hand);
     set_words(pool, c);
     set_span(pool, c->span);
     if (c->empty)
-        plain_set_up(BUFPOOL_LENT(m), kept->control[BUFPOOL_PAGE_SIZE], kept->control[BUFPOOL_INSERTED], ANSWER(pool));
+        plain_set_up(BUFPOOL_LENT(m), bufpool_page_size(kept), bufpool_inserted(kept), ANSWER(pool));
 }
 
 size_t batch_of(const struct pool *pool, const struct bench_case *c)

@@ -1,5 +1,5 @@
-/* The twelve calls in plain C, as a good C programmer would write them at first. Sizes and books are checked by plain_check of bench/books, once for each call; after
-   it the code relies on them. Link with bench/books/plain.c. */
+/* The twelve calls in plain C, as a good C programmer would write them at first. Sizes and books are checked by plain_check of
+   bench/books, once for each call; after it the code relies on them. Link with bench/books/plain.c. */
 #include "plain.h"
 #include "memory.h"
 #include <stdbool.h>
@@ -187,7 +187,7 @@ uint32_t plain_pin(LENDS(MUT, MUT, MUT, MUT, const, MUT), FILE_NUMBERS, uint32_t
         return accept(answer, (uint64_t)held, 1, 0, 0);
     }
     size_t i = top = control[CONTROL_TOP], size = control[CONTROL_SIZE];
-    if (top != BUFPOOL_FREE_NONE) {
+    if (top != BUFPOOL_BUFFER_NONE) {
         control[CONTROL_TOP] = (uint64_t)(int64_t)free[i];
         free[i] = -2;
     } else {

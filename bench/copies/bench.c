@@ -31,7 +31,7 @@ enum { ROWS = sizeof rows / sizeof *rows };
 static uint32_t call(struct row *r, const struct side *side, size_t buffer, uint8_t *bytes, size_t length)
 {
     struct bufpool *m = &r->pool.lent;
-    uint64_t *answer = r->pool.answer, position = m->control[BUFPOOL_INSERTED];
+    uint64_t *answer = r->pool.answer, position = bufpool_inserted(m);
     if (!r->is_write) return side->read(BUFPOOL_LENT(m), buffer, 0, bytes, length, answer, BUFPOOL_ANSWER_WORDS);
     return side->write(BUFPOOL_LENT(m), buffer, BUFPOOL_POSITION_BYTES, bytes, length, position, answer, BUFPOOL_ANSWER_WORDS);
 }

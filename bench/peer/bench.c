@@ -34,9 +34,9 @@ static int by_pool(size_t k)
 {
     struct bufpool *m = &pool.lent;
     const uint32_t *name = m->names + BUFPOOL_NAME_WORDS * page_of(k);
-    struct bufpool_name page = {{FILE_OF(name)}, name[BUFPOOL_BLOCK]};
+    struct bufpool_name page = {{FILE_OF(name)}, name[BUFPOOL_NAME_AT_BLOCK]};
     struct bufpool_pinned pinned;
-    uint64_t position = m->control[BUFPOOL_INSERTED] + 1;
+    uint64_t position = bufpool_inserted(m) + 1;
     uint32_t wrong = bufpool_pin_page(m, page, &pinned);
     wrong |= bufpool_read_buffer(m, pinned.buffer, from_of(k), bytes, SPAN);
     wrong |= bufpool_log_inserted_to(m, position);

@@ -63,13 +63,15 @@ static int pins(struct bufpool *m)
     uint32_t k;
     SEE(bufpool_set_up_pool(m, 1000, 100) == BUFPOOL_SIZES);
     SEE(bufpool_set_up_pool(m, PAGE, 100) == BUFPOOL_DONE);
-    SEE(control[BUFPOOL_PAGE_SIZE] == PAGE && control[BUFPOOL_HAND] == 0 && control[BUFPOOL_FREE_TOP] == 0);
+    SEE(bufpool_page_size(m) == PAGE && bufpool_has_free(m) && control[BUFPOOL_CONTROL_AT_HAND] == 0);
+    SEE(control[BUFPOOL_CONTROL_AT_FREE_TOP] == 0);
     for (k = 0; k < BUFFERS; k++) {
         SEE(bufpool_pin_page(m, bufpool_name_of(table, k), &p) == BUFPOOL_DONE);
         SEE(p.buffer.number == k && !p.hit && !p.wrote && p.probes == 0 && states[k] == 0x83040001u);
     }
-    SEE(control[BUFPOOL_FREE_TOP] == BUFPOOL_FREE_NONE);
-    SEE(bufpool_pin_page(m, bufpool_name_of(table, 3), &p) == BUFPOOL_ALL_PINNED && control[BUFPOOL_HAND] == 0);
+    SEE(!bufpool_has_free(m));
+    SEE(bufpool_pin_page(m, bufpool_name_of(table, 3), &p) == BUFPOOL_ALL_PINNED && control[BUFPOOL_CONTROL_AT_HAND] == 0);
+    SEE(p.buffer.number == BUFPOOL_BUFFER_NONE && !p.hit && !p.wrote && p.probes == 0);
     SEE(bufpool_pin_page(m, bufpool_name_of(table, 4), &p) == BUFPOOL_NO_BLOCK);
     SEE(bufpool_pin_page(m, bufpool_name_of(other, 0), &p) == BUFPOOL_NO_FILE);
     SEE(bufpool_pin_page(m, bufpool_name_of(table, 2), &p) == BUFPOOL_DONE && p.hit && p.buffer.number == 2);
@@ -100,7 +102,7 @@ static int bytes(struct bufpool *m)
     SEE(bufpool_log_flushed_to(m, 201) == BUFPOOL_FLUSHED_BEYOND && bufpool_log_flushed_to(m, 150) == BUFPOOL_DONE);
     SEE(bufpool_write_buffer(m, first, 8, word, 4, 200) == BUFPOOL_DONE);
     SEE(bufpool_checkpoint_pool(m, &written) == BUFPOOL_DONE && written == 1);
-    SEE(control[BUFPOOL_INSERTED] == 200 && control[BUFPOOL_FLUSHED] == 200 && memcmp(store + 8, word, 4) == 0);
+    SEE(bufpool_inserted(m) == 200 && bufpool_flushed(m) == 200 && memcmp(store + 8, word, 4) == 0);
     return 0;
 }
 
@@ -116,11 +118,12 @@ static int files(struct bufpool *m)
     SEE(part.bytes == store + 3 * PAGE && part.length == PAGE && part.in_pool == 0);
     SEE(bufpool_peek_page(m, bufpool_name_of(table, 4), &part) == BUFPOOL_NO_BLOCK);
     SEE(part.bytes == NULL && part.length == 0 && part.in_pool == 0);
-    SEE(bufpool_extend_file(m, table, &block) == BUFPOOL_DONE && block == 4 && rows[BUFPOOL_BLOCKS] == rows[BUFPOOL_CAPACITY]);
-    SEE(bufpool_extend_file(m, table, &block) == BUFPOOL_FILE_FULL && block == 0);
+    SEE(bufpool_extend_file(m, table, &block) == BUFPOOL_DONE && block == 4);
+    SEE(rows[BUFPOOL_ROW_AT_BLOCKS] == rows[BUFPOOL_ROW_AT_CAPACITY]);
+    SEE(bufpool_extend_file(m, table, &block) == BUFPOOL_FILE_FULL && block == BUFPOOL_BLOCK_NONE);
     SEE(bufpool_drop_file(m, table) == BUFPOOL_FILE_PINNED);
     for (; at.number < 2; at.number++) SEE(bufpool_unpin_buffer(m, at) == BUFPOOL_DONE);
-    SEE(bufpool_drop_file(m, table) == BUFPOOL_DONE && rows[BUFPOOL_BLOCKS] == 0 && control[BUFPOOL_FREE_TOP] == 2);
+    SEE(bufpool_drop_file(m, table) == BUFPOOL_DONE && rows[BUFPOOL_ROW_AT_BLOCKS] == 0 && control[BUFPOOL_CONTROL_AT_FREE_TOP] == 2);
     SEE(bufpool_state_empty(states[0]) && bufpool_state_empty(states[1]) && bufpool_state_empty(states[2]));
     return 0;
 }
@@ -130,7 +133,7 @@ static int refusals(struct bufpool *m)
 {
     uint64_t answer[BUFPOOL_ANSWER_WORDS] = {9, 9, 9, 9};
     SEE(bufpool_checkpoint(BUFPOOL_LENT(m), answer, BUFPOOL_ANSWER_WORDS - 1) == BUFPOOL_SIZES && answer[0] == 9);
-    control[BUFPOOL_HAND] = BUFFERS;
+    control[BUFPOOL_CONTROL_AT_HAND] = BUFFERS;
     SEE(bufpool_checkpoint(BUFPOOL_LENT(m), answer, BUFPOOL_ANSWER_WORDS) == BUFPOOL_BOOKS && answer[0] == 0 && answer[3] == 0);
     return 0;
 }

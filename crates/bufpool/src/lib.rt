@@ -1,10 +1,11 @@
-// The pool for programs in C: the twelve calls over lent memory.
+// The pool for programs in C: the twelve calls over lent memory, and the interface's number.
 
 pub mod answer;
 pub mod back;
 pub mod buffer;
 pub mod control;
 pub mod file;
+pub mod interface;
 pub mod log;
 pub mod page;
 pub mod set_up;
