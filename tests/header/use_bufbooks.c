@@ -3,7 +3,9 @@
 #include "bufbooks.h"
 #include "../layout.h"
 
-enum { BUFFERS = 1, BUCKETS = 1, PAGE = 1024 };
+#define BUFFERS 1
+#define BUCKETS 1
+#define PAGE 1024
 
 static uint64_t control[CONTROL_WORDS] = {PAGE, 0, 0, 100, 100}, answer[ANSWER_WORDS];
 static uint32_t states[BUFFERS], names[NAME_WORDS * BUFFERS], rows[ROW_WORDS];
@@ -11,7 +13,7 @@ static int32_t links[BUFFERS] = {-1}, heads[BUCKETS] = {-1}, chain[BUFFERS] = {-
 static uint8_t pool[PAGE], store[1];
 
 /* one empty buffer, one bucket, no file; so many words of names */
-static uint32_t check(size_t names_len)
+static uint32_t check(uint64_t names_len)
 {
     return bufbooks_check(control, CONTROL_WORDS, states, BUFFERS, names, names_len, pool, sizeof pool, links, BUFFERS, heads, BUCKETS,
                           chain, BUFFERS, rows, 0, store, 0, answer, ANSWER_WORDS);

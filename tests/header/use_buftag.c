@@ -7,7 +7,7 @@ int main(void)
 {
     uint8_t out[BUFTAG_NAME_BYTES];
     uint32_t words[BUFTAG_NAME_WORDS];
-    if (buftag_bytes(0, 0, 0, 0, 7, out, sizeof out) != 0 || out[WORD_BYTES * NAME_BLOCK] != 7) {
+    if (buftag_bytes(0, 0, 0, 0, 7, out, sizeof out) != 0 || out[BUFTAG_NAME_BYTES - WORD_BYTES] != 7) {
         return 1;
     }
     if (buftag_name(out, sizeof out, words, BUFTAG_NAME_WORDS) != 0 || words[NAME_BLOCK] != 7) {
