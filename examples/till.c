@@ -1,7 +1,8 @@
 /* A bakery's training morning: four tills over one pool, a checkpoint, and a second start that reads the day back from the card.
 
    Takeaway food that is sold cold has no tax in it, hot food has 20 % (as in the United Kingdom). At till 1 somebody learns: a pie
-   that is warmed is pressed as cold, made void, and pressed as hot. The others sell bread, with lines on the same pages.
+   that is warmed is pressed as cold, made void, and pressed as hot. The others sell bread, with lines on the same pages. With --mornings
+   the day has several such mornings, and more pages.
 
    Each till does a step of its morning in its turn. One that is refused a page with 6 stays at its step and asks again in its next
    turn, after others have given pages back. Any other refusal is a mistake in this program or a damaged card: it stops with the reason. */
