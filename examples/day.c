@@ -25,14 +25,30 @@ static struct day new_day(const struct shop *shop)
     return day;
 }
 
-/* A page's lines. No page on the card may be further than the log on it. */
+static int all_zeros(const void *bytes, size_t length)
+{
+    const uint8_t *b = bytes;
+    return b[0] == 0 && memcmp(b, b + 1, length - 1) == 0;
+}
+
+/* What stands before a page's lines. No page on the card may be further than the log on it. A page that was never written is zeros to
+   its end; any other has the header that came with its first line. */
+static void check_top(const struct shop *shop, uint32_t block, const uint8_t top[LINE_BYTES], const struct line *lines)
+{
+    uint8_t rest[BUFPOOL_HEADER_REST];
+    if (bufpool_page_position(top) > shop->card->position) stop("page %u is further than the card's log", block);
+    if (all_zeros(top, LINE_BYTES) && all_zeros(lines, shop->page_lines * sizeof *lines)) return;
+    sale_page_header(shop, rest);
+    if (memcmp(top + BUFPOOL_POSITION_BYTES, rest, sizeof rest) != 0) stop("page %u has no page header that a till writes", block);
+}
+
 static void read_page(struct shop *shop, const char *who, uint32_t block, struct line *lines, struct bufpool_pinned *pinned)
 {
-    uint8_t position[BUFPOOL_POSITION_BYTES];
+    uint8_t top[LINE_BYTES];
     must("pin", shop_pin(shop, who, bufpool_name_of(receipts_file, block), pinned));
-    must("read", bufpool_read_buffer(&shop->pool, pinned->buffer, 0, position, sizeof position));
-    if (bufpool_page_position(position) > shop->card->position) stop("page %u is further than the card's log", block);
+    must("read", bufpool_read_buffer(&shop->pool, pinned->buffer, 0, top, sizeof top));
     must("read", bufpool_read_buffer(&shop->pool, pinned->buffer, LINE_BYTES, (uint8_t *)lines, shop->page_lines * sizeof *lines));
+    check_top(shop, block, top, lines);
     must("unpin", bufpool_unpin_buffer(&shop->pool, pinned->buffer));
     trail_note(shop, "%s gives page %u back", who, block);
 }

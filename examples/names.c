@@ -40,8 +40,7 @@ static void show(struct page p, uint32_t buckets)
 {
     uint8_t bytes[BUFTAG_NAME_BYTES];
     uint32_t hash = buftag_hash(p.tablespace, p.database, p.relation, p.fork, p.block);
-    /* answers 0: the length is right */
-    buftag_bytes(p.tablespace, p.database, p.relation, p.fork, p.block, bytes, sizeof bytes);
+    if (buftag_bytes(p.tablespace, p.database, p.relation, p.fork, p.block, bytes, sizeof bytes) != 0) abort(); /* the length is right */
     printf("page   %" PRIu32 " %" PRIu32 " %" PRIu32 " %" PRIu32 " %" PRIu32 "\n",
            p.tablespace, p.database, p.relation, p.fork, p.block);
     printf("bytes ");

@@ -41,11 +41,31 @@ static uint32_t hold(struct shop *shop, struct till *till, uint32_t block, struc
 }
 
 /* The log first: it is a line longer, and the page that changes gets the position of its new end. */
-static void log_and_write(struct shop *shop, struct bufpool_buffer buffer, uint64_t from, const struct line *line)
+static uint64_t log_line(struct shop *shop)
 {
     uint64_t position = bufpool_inserted(&shop->pool) + 1;
     must("log inserted", bufpool_log_inserted_to(&shop->pool, position));
+    return position;
+}
+
+static void write_line(struct shop *shop, struct bufpool_buffer buffer, uint64_t from, const struct line *line, uint64_t position)
+{
     must("write", bufpool_write_buffer(&shop->pool, buffer, from, (const uint8_t *)line, sizeof *line, position));
+}
+
+void sale_page_header(const struct shop *shop, uint8_t rest[BUFPOOL_HEADER_REST])
+{
+    uint64_t page = bufpool_page_size(&shop->pool);
+    bufpool_page_header(rest, page, BUFPOOL_HEADER_BYTES, LINE_BYTES, page);
+}
+
+/* Line and header are one record of the log, and so one position. The page is pinned: neither comes to the card without the other. */
+static void write_first_line(struct shop *shop, struct bufpool_buffer buffer, const struct line *line, uint64_t position)
+{
+    uint8_t rest[BUFPOOL_HEADER_REST];
+    sale_page_header(shop, rest);
+    must("write", bufpool_write_buffer(&shop->pool, buffer, BUFPOOL_POSITION_BYTES, rest, sizeof rest, position));
+    write_line(shop, buffer, LINE_BYTES, line, position);
 }
 
 static struct line line_of(uint32_t till, uint32_t receipt, const struct product *product)
@@ -72,6 +92,7 @@ static void new_page(struct shop *shop)
 uint32_t sale_press(struct shop *shop, struct till *till, const struct product *product)
 {
     struct bufpool_buffer buffer;
+    uint64_t position;
     uint32_t refusal;
     if (shop->last_lines == shop->page_lines) new_page(shop);
     refusal = hold(shop, till, receipts_blocks(shop) - 1, &buffer);
@@ -83,7 +104,12 @@ uint32_t sale_press(struct shop *shop, struct till *till, const struct product *
     till->last = line_of(till->number, till->receipt, product);
     till->last_from = (uint64_t)LINE_BYTES * ++shop->last_lines;
     till->pence += product->pence;
-    log_and_write(shop, buffer, till->last_from, &till->last);
+    position = log_line(shop);
+    if (shop->last_lines == 1) {
+        write_first_line(shop, buffer, &till->last, position);
+    } else {
+        write_line(shop, buffer, till->last_from, &till->last, position);
+    }
     trail_note(shop, "till %u writes a line on page %u", till->number, receipts_blocks(shop) - 1);
     return BUFPOOL_DONE;
 }
@@ -95,7 +121,7 @@ void sale_void(struct shop *shop, struct till *till)
     held = &till->held[till->held_pages - 1]; /* the line is on the page that the till pinned last */
     till->last.kind = LINE_VOID;
     till->pence -= till->last.pence;
-    log_and_write(shop, held->buffer, till->last_from, &till->last);
+    write_line(shop, held->buffer, till->last_from, &till->last, log_line(shop));
     trail_note(shop, "till %u voids a line on page %u", till->number, held->block);
 }
 
@@ -126,7 +152,7 @@ void sale_practice(struct shop *shop, const struct product *product)
     must("extend", bufpool_extend_file(&shop->pool, practice_file, &block));
     trail_note(shop, "practice gets page %u", block);
     must("pin", shop_pin(shop, "practice", bufpool_name_of(practice_file, block), &pinned));
-    log_and_write(shop, pinned.buffer, LINE_BYTES, &line);
+    write_first_line(shop, pinned.buffer, &line, log_line(shop));
     trail_note(shop, "practice writes a line on page %u", block);
     must("unpin", bufpool_unpin_buffer(&shop->pool, pinned.buffer));
     trail_note(shop, "practice gives page %u back", block);

@@ -8,8 +8,9 @@ enum { LINE_BYTES = 64, HELD_PAGES = 8 };
 
 enum line_kind { LINE_NONE = 0, LINE_SOLD = 1, LINE_VOID = 2 };
 
-/* A line as it is on a page, little-endian. Line k begins at byte 64 * (k + 1): the first 64 bytes begin with the page's log
-   position, and the till leaves the others alone. A block of zeros has no lines. */
+/* A line as it is on a page, little-endian. Line k begins at byte 64 * (k + 1). The first 64 bytes are PostgreSQL's page header of 24, so
+   that its tools take the page, and 40 that stay 0: the log position, which the pool writes; then the 16 that sale_page_header makes.
+   A block of zeros has no lines; PostgreSQL takes it for a new page. */
 struct line {
     uint32_t kind, till, receipt;
     uint32_t rate;  /* of tax, in percent */
@@ -43,6 +44,10 @@ struct product {
 
 #define MONEY "%3u.%02u"
 #define POUNDS(pence) (pence) / 100, (pence) % 100
+
+/* The page header behind the log position: no item pointers, so lower is the header's end; the lines stand from upper to special. It is
+   written with a page's first line, and at that line's log position. */
+void sale_page_header(const struct shop *shop, uint8_t rest[BUFPOOL_HEADER_REST]);
 
 /* One line more on the receipt. Results in 0, or in 6 if no buffer can be had now: then the till asks again later. */
 uint32_t sale_press(struct shop *shop, struct till *till, const struct product *product);

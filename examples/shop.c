@@ -31,7 +31,8 @@ void stop(const char *format, ...)
 
 void must(const char *call, uint32_t refusal)
 {
-    if (refusal != BUFPOOL_DONE) stop("%s: refused, %u: %s", call, refusal, bufpool_refusal_words(refusal));
+    if (refusal == BUFPOOL_DONE) return;
+    stop("%s: refused, %u, %s: %s", call, refusal, bufpool_refusal_name(refusal), bufpool_refusal_words(refusal));
 }
 
 uint32_t receipts_blocks(const struct shop *shop)
@@ -49,7 +50,8 @@ int card_new(const char *path, const struct sizes *sizes)
     if (path != NULL) {
         fd = open(path, O_RDWR | O_CREAT | O_EXCL, 0600);
     } else if ((temporary = tmpfile()) != NULL) {
-        fd = fileno(temporary); /* never closed: the file goes when the program ends */
+        fd = dup(fileno(temporary)); /* the file is there as long as this is open */
+        if (fclose(temporary) != 0) stop("no temporary card: %s", strerror(errno));
     }
     if (fd < 0) stop("no new card at %s: %s", path != NULL ? path : "a temporary place", strerror(errno));
     memset(&card, 0, sizeof card);
@@ -72,6 +74,11 @@ int card_open(const char *path)
     return fd;
 }
 
+void card_close(int fd)
+{
+    if (close(fd) != 0) stop("the card cannot be closed: %s", strerror(errno));
+}
+
 static void map_card(struct shop *shop, int fd)
 {
     struct stat file;
@@ -85,33 +92,29 @@ static void map_card(struct shop *shop, int fd)
     if (memcmp(shop->card->mark, card_mark, sizeof card_mark) != 0) stop("this file is not a card");
 }
 
-/* Memory as it may come, not cleared: set up needs none that is. */
-static void *fresh(size_t count, size_t size)
+/* Memory as it may come, not cleared: set up needs none that is. A byte more, so that sizes that no pool has are left to lend. */
+static void *fresh(uint64_t bytes)
 {
-    void *memory = malloc(count * size + 1);
+    void *memory = malloc(bytes + 1);
     if (memory == NULL) stop("no memory");
-    return memset(memory, 0xA5, count * size + 1);
+    return memset(memory, 0xA5, bytes + 1);
 }
 
 void shop_start(struct shop *shop, int fd, uint32_t buffers)
 {
     struct bufpool *m = &shop->pool;
+    uint64_t page, bytes;
     map_card(shop, fd);
-    m->rows = shop->card->rows;
-    bufpool_fit(m, buffers, buffers, FILES, shop->card->page_size);
-    if (shop->card_len != shop->card->page_size + m->store_len) stop("the card is not as long as its file rows say");
+    page = shop->card->page_size;
+    bytes = bufpool_bytes(buffers, buffers, page);
+    shop->memory = fresh(bytes);
+    must("lend", bufpool_lend(m, shop->memory, bytes, buffers, buffers, page, shop->card->rows, FILES));
+    m->store = (uint8_t *)shop->card + page;
+    if (shop->card_len != page + m->store_len) stop("the card is not as long as its file rows say");
     if (shop->card->day_block > receipts_blocks(shop)) stop("the card's day begins behind its last block");
-    shop->page_lines = shop->last_lines = shop->card->page_size / LINE_BYTES - 1;
+    shop->page_lines = shop->last_lines = (uint32_t)page / LINE_BYTES - 1;
     shop->receipts = 0;
-    m->store = (uint8_t *)shop->card + shop->card->page_size;
-    m->control = fresh(m->control_len, sizeof *m->control);
-    m->states = fresh(m->states_len, sizeof *m->states);
-    m->names = fresh(m->names_len, sizeof *m->names);
-    m->pool = fresh(m->pool_len, 1);
-    m->free = fresh(m->free_len, sizeof *m->free);
-    m->heads = fresh(m->heads_len, sizeof *m->heads);
-    m->chain = fresh(m->chain_len, sizeof *m->chain);
-    must("set up", bufpool_set_up_pool(m, shop->card->page_size, shop->card->position));
+    must("set up", bufpool_set_up_pool(m, page, shop->card->position));
     trail_note(shop, "set up at log position %llu", (unsigned long long)shop->card->position);
 }
 
@@ -165,14 +168,8 @@ void shop_checkpoint(struct shop *shop)
 
 void shop_end(struct shop *shop)
 {
-    struct bufpool *m = &shop->pool;
-    munmap(shop->card, shop->card_len);
+    if (munmap(shop->card, shop->card_len) != 0) stop("the card cannot be unmapped: %s", strerror(errno));
     shop->card = NULL;
-    free(m->control);
-    free(m->states);
-    free(m->names);
-    free(m->pool);
-    free(m->free);
-    free(m->heads);
-    free(m->chain);
+    free(shop->memory);
+    shop->memory = NULL;
 }

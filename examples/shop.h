@@ -23,6 +23,7 @@ struct card {
 
 struct shop {
     struct bufpool pool; /* all the lent memory */
+    void *memory;        /* what of it is not on the card, in one piece */
     struct card *card;
     size_t card_len;
     FILE *trail;         /* or null: see trail.h */
@@ -42,6 +43,9 @@ int card_new(const char *path, const struct sizes *sizes);
 
 /* A card made before. */
 int card_open(const char *path);
+
+/* No further start is made with it. */
+void card_close(int fd);
 
 /* Maps the card, takes fresh memory and sets the pool up. Stops at a card whose notes do not fit its length or each other. */
 void shop_start(struct shop *shop, int fd, uint32_t buffers);
@@ -70,7 +74,7 @@ uint32_t receipts_blocks(const struct shop *shop);
 /* A message on standard error, then the end with status 1. */
 _Noreturn void stop(const char *format, ...);
 
-/* Stops unless a call was accepted, and says what its number means. */
+/* Stops unless a call was accepted, and says its number, name and meaning. */
 void must(const char *call, uint32_t refusal);
 
 #endif

@@ -1,7 +1,8 @@
 /* A bakery's training morning: four tills over one pool, a checkpoint, and a second start that reads the day back from the card.
 
    Takeaway food that is sold cold has no tax in it, hot food has 20 % (as in the United Kingdom). At till 1 somebody learns: a pie
-   that is warmed is pressed as cold, made void, and pressed as hot. The others sell bread, with lines on the same pages.
+   that is warmed is pressed as cold, made void, and pressed as hot. The others sell bread, with lines on the same pages. With --mornings
+   the day has several such mornings, and more pages.
 
    Each till does a step of its morning in its turn. One that is refused a page with 6 stays at its step and asks again in its next
    turn, after others have given pages back. Any other refusal is a mistake in this program or a damaged card: it stops with the reason. */
@@ -39,7 +40,7 @@ static const struct step morning[TILLS][STEPS] = {
 
 struct options {
     struct sizes sizes;
-    uint32_t look_back, pause;
+    uint32_t look_back, mornings, pause;
     int read_only, memory;
     const char *trail, *card;
 };
@@ -136,18 +137,19 @@ static uint32_t number(const char *option, const char *text)
 
 static void usage(void)
 {
-    fputs("usage: till [--buffers N] [--page P] [--blocks N] [--used N] [--look-back N] [--pause MS] [--memory]\n"
-          "            [--trail FILE] [CARD]      a new card; a temporary one if no name is given\n"
+    fputs("usage: till [--buffers N] [--page P] [--blocks N] [--used N] [--look-back N] [--mornings N]\n"
+          "            [--pause MS] [--memory] [--trail FILE] [CARD]\n"
+          "                                       a new card; a temporary one if no name is given\n"
           "       till --read CARD                reads back the day of a card made before\n", stderr);
     exit(2);
 }
 
 static struct options options_of(char **arg)
 {
-    struct options o = {{3, 1024, 8, 0}, 0, 0, 0, 0, NULL, NULL};
+    struct options o = {{3, 1024, 8, 0}, 0, 1, 0, 0, 0, NULL, NULL};
     struct { const char *name; uint32_t *value; } numbers[] = {
         {"--buffers", &o.sizes.buffers}, {"--page", &o.sizes.page}, {"--blocks", &o.sizes.blocks}, {"--used", &o.sizes.used},
-        {"--look-back", &o.look_back}, {"--pause", &o.pause}};
+        {"--look-back", &o.look_back}, {"--mornings", &o.mornings}, {"--pause", &o.pause}};
     size_t k, count = sizeof numbers / sizeof *numbers;
     while (*++arg != NULL) {
         for (k = 0; k < count && strcmp(*arg, numbers[k].name) != 0; k++) continue;
@@ -172,12 +174,13 @@ static struct options options_of(char **arg)
 
 static void first_start(struct shop *shop, int fd, const struct options *o)
 {
+    uint32_t k;
     shop_start(shop, fd, o->sizes.buffers);
     printf("first start: %u buffers, %u blocks of %u bytes on the card, %u lines on a page\n",
            o->sizes.buffers, o->sizes.blocks, o->sizes.page, shop->page_lines);
     day_look_back(shop, o->look_back);
     sale_practice(shop, &pie_cold);
-    work_morning(shop, o->pause);
+    for (k = 0; k < o->mornings; k++) work_morning(shop, o->pause);
     day_peek(shop);
     shop_checkpoint(shop);
     shop_end(shop);
@@ -198,6 +201,7 @@ int main(int argc, char **argv)
     day_read_back(&shop);
     trail_end(&shop);
     shop_end(&shop);
+    card_close(fd);
     if (o.memory && getrusage(RUSAGE_SELF, &use) == 0) fprintf(stderr, "resident at most %ld KiB\n", use.ru_maxrss);
     return 0;
 }

@@ -1,4 +1,4 @@
-/* Compares what the library makes with PostgreSQL's own layouts: compare tags|forks|constants|words|pins|positions.
+/* Compares what the library makes with PostgreSQL's own layouts: compare tags|forks|constants|words|pins|positions|headers.
    Status 0 if they agree; else 1, and a line about the first difference. */
 #include "buftag.h"
 #include "published.h"
@@ -6,7 +6,7 @@
 #include <stdio.h>
 #include <string.h>
 
-enum { NAMES = 100000, CALLS = 200000, POSITIONS = 20000, BUFFERS = MOST_BUFFERS };
+enum { NAMES = 100000, CALLS = 200000, POSITIONS = 20000, HEADERS = 20000, BUFFERS = MOST_BUFFERS };
 
 static void see_tag(const uint32_t name[NAME_WORDS], uint64_t which)
 {
@@ -160,12 +160,32 @@ static void positions(void)
     for (int k = 0; k < POSITIONS; k++) see_position(random64() >> random_below(64));
 }
 
+static void see_header(uint16_t lower, uint16_t upper, uint16_t special)
+{
+    uint8_t ours[BUFPOOL_HEADER_REST], theirs[PAGE_HEADER_BYTES];
+    need(BUFPOOL_HEADER_BYTES == PAGE_HEADER_BYTES, "another number of bytes has a page header than", BUFPOOL_HEADER_BYTES);
+    bufpool_page_header(ours, PAGE, lower, upper, special);
+    published_header(lower, upper, special, theirs);
+    need(memcmp(ours, theirs + BUFPOOL_POSITION_BYTES, sizeof ours) == 0, "the page header differs of upper", upper);
+}
+
+/* The till's, and random places in their order. */
+static void headers(void)
+{
+    see_header(24, 64, PAGE);
+    for (int k = 0; k < HEADERS; k++) {
+        uint16_t special = (uint16_t)(PAGE - 8 * random_below(100)), upper = (uint16_t)(special - random_below(3000));
+        see_header((uint16_t)(PAGE_HEADER_BYTES + random_below(3000)), upper, special);
+    }
+}
+
 int main(int argc, char **argv)
 {
     static const struct {
         const char *name;
         void (*see)(void);
-    } parts[] = {{"tags", tags}, {"forks", forks}, {"constants", constants}, {"words", words}, {"pins", pins}, {"positions", positions}};
+    } parts[] = {{"tags", tags}, {"forks", forks}, {"constants", constants}, {"words", words}, {"pins", pins}, {"positions", positions},
+                 {"headers", headers}};
     for (size_t k = 0; argc == 2 && k < sizeof parts / sizeof *parts; k++) {
         if (strcmp(argv[1], parts[k].name) != 0) continue;
         parts[k].see();

@@ -76,9 +76,10 @@ void published_header(uint16_t lower, uint16_t upper, uint16_t special, uint8_t 
     PageHeaderData header;
     StaticAssertStmt(SizeOfPageHeaderData == PAGE_HEADER_BYTES, "published.h has the header's size");
     memset(&header, 0, sizeof header);
-    header.pd_lower = lower;
-    header.pd_upper = upper;
+    header.pd_lower = SLIP == 17 ? upper : lower;
+    header.pd_upper = SLIP == 17 ? lower : upper;
     header.pd_special = special;
-    PageSetPageSizeAndVersion((Page)&header, BLCKSZ, PG_PAGE_LAYOUT_VERSION);
+    header.pd_flags = SLIP == 18 ? PD_ALL_VISIBLE : 0;
+    PageSetPageSizeAndVersion((Page)&header, BLCKSZ, PG_PAGE_LAYOUT_VERSION + (SLIP == 19));
     memcpy(out, &header, SizeOfPageHeaderData);
 }
