@@ -31,15 +31,19 @@ static int all_zeros(const void *bytes, size_t length)
     return b[0] == 0 && memcmp(b, b + 1, length - 1) == 0;
 }
 
+enum { CHECKSUM_BYTES = 2 }; /* at the header's beginning, behind the log position */
+
 /* What stands before a page's lines. No page on the card may be further than the log on it. A page that was never written is zeros to
-   its end; any other has the header that came with its first line. */
+   its end; any other has the header that came with its first line, but for a checksum, which head office's tools may have put there. */
 static void check_top(const struct shop *shop, uint32_t block, const uint8_t top[LINE_BYTES], const struct line *lines)
 {
     uint8_t rest[BUFPOOL_HEADER_REST];
     if (bufpool_page_position(top) > shop->card->position) stop("page %u is further than the card's log", block);
     if (all_zeros(top, LINE_BYTES) && all_zeros(lines, shop->page_lines * sizeof *lines)) return;
     sale_page_header(shop, rest);
-    if (memcmp(top + BUFPOOL_POSITION_BYTES, rest, sizeof rest) != 0) stop("page %u has no page header that a till writes", block);
+    if (memcmp(top + BUFPOOL_POSITION_BYTES + CHECKSUM_BYTES, rest + CHECKSUM_BYTES, sizeof rest - CHECKSUM_BYTES) != 0) {
+        stop("page %u has no page header that a till writes", block);
+    }
 }
 
 static void read_page(struct shop *shop, const char *who, uint32_t block, struct line *lines, struct bufpool_pinned *pinned)
