@@ -137,13 +137,14 @@ static inline void bufpool_fit(struct bufpool *m, uint64_t buffers, uint64_t buc
 }
 
 /* Cuts one piece of memory into the slices, and sets every length; the rows are filled before. The pages come first, so that they lie as
-   the memory does. The store, of store_len bytes, is for the caller to put in. Refuses with 1, and changes nothing, if the memory is a
-   null pointer, does not begin at a multiple of 8 or has fewer bytes than bufpool_bytes says, or if there are more than 64 files. */
+   the memory does. The store, of store_len bytes, is for the caller to put in. Refuses with 1, and changes nothing, if memory or rows is
+   a null pointer, if the memory does not begin at a multiple of 8 or has fewer bytes than bufpool_bytes says, or at more than 64 files. */
 BUFPOOL_INLINE uint32_t bufpool_lend(struct bufpool *m, void *memory, uint64_t memory_len, uint64_t buffers, uint64_t buckets,
                                      uint64_t page_size, uint32_t *rows, uint64_t files)
 {
     uint64_t bytes = bufpool_bytes(buffers, buckets, page_size);
-    if (memory == NULL || (uintptr_t)memory % 8 != 0 || bytes == 0 || memory_len < bytes || files > BUFPOOL_MAX_FILES) return BUFPOOL_SIZES;
+    if (memory == NULL || (uintptr_t)memory % 8 != 0 || rows == NULL) return BUFPOOL_SIZES;
+    if (bytes == 0 || memory_len < bytes || files > BUFPOOL_MAX_FILES) return BUFPOOL_SIZES;
     m->rows = rows;
     bufpool_fit(m, buffers, buckets, files, page_size);
     m->pool = (uint8_t *)memory;

@@ -57,6 +57,7 @@ static int lends(struct bufpool *m, uint8_t *memory, uint64_t bytes)
     bufpool_fill_row(rows + BUFPOOL_ROW_WORDS, map, 0, 2);
     memset(m, 0, sizeof *m);
     SEE(bufpool_lend(m, NULL, bytes, BUFFERS, BUCKETS, PAGE, rows, FILES) == BUFPOOL_SIZES);
+    SEE(bufpool_lend(m, memory, bytes, BUFFERS, BUCKETS, PAGE, NULL, FILES) == BUFPOOL_SIZES);
     SEE(bufpool_lend(m, memory + 4, bytes, BUFFERS, BUCKETS, PAGE, rows, FILES) == BUFPOOL_SIZES);
     SEE(bufpool_lend(m, memory, bytes - 1, BUFFERS, BUCKETS, PAGE, rows, FILES) == BUFPOOL_SIZES);
     SEE(bufpool_lend(m, memory, bytes, BUFFERS, BUCKETS, PAGE + 1, rows, FILES) == BUFPOOL_SIZES);
