@@ -49,11 +49,11 @@ static void check_top(const struct shop *shop, uint32_t block, const uint8_t top
 static void read_page(struct shop *shop, const char *who, uint32_t block, struct line *lines, struct bufpool_pinned *pinned)
 {
     uint8_t top[LINE_BYTES];
-    must("pin", shop_pin(shop, who, bufpool_name_of(receipts_file, block), pinned));
-    must("read", bufpool_read_buffer(&shop->pool, pinned->buffer, 0, top, sizeof top));
-    must("read", bufpool_read_buffer(&shop->pool, pinned->buffer, LINE_BYTES, (uint8_t *)lines, shop->page_lines * sizeof *lines));
+    must(shop, "pin", shop_pin(shop, who, bufpool_name_of(receipts_file, block), pinned));
+    must(shop, "read", bufpool_read_buffer(&shop->pool, pinned->buffer, 0, top, sizeof top));
+    must(shop, "read", bufpool_read_buffer(&shop->pool, pinned->buffer, LINE_BYTES, (uint8_t *)lines, shop->page_lines * sizeof *lines));
     check_top(shop, block, top, lines);
-    must("unpin", bufpool_unpin_buffer(&shop->pool, pinned->buffer));
+    must(shop, "unpin", bufpool_unpin_buffer(&shop->pool, pinned->buffer));
     trail_note(shop, "%s gives page %u back", who, block);
 }
 
@@ -154,7 +154,7 @@ void day_peek(const struct shop *shop)
     struct day day = new_day(shop);
     uint32_t block, in_pool = 0, page = 0;
     for (block = shop->card->day_block; block < receipts_blocks(shop); block++, page++) {
-        must("peek", bufpool_peek_page(&shop->pool, bufpool_name_of(receipts_file, block), &part));
+        must(shop, "peek", bufpool_peek_page(&shop->pool, bufpool_name_of(receipts_file, block), &part));
         in_pool += (uint32_t)part.in_pool;
         memcpy(day.lines + page * shop->page_lines, part.bytes + LINE_BYTES, shop->page_lines * sizeof *day.lines);
     }

@@ -32,7 +32,7 @@ static uint32_t hold(struct shop *shop, struct till *till, uint32_t block, struc
     snprintf(who, sizeof who, "till %u", till->number);
     refusal = shop_pin(shop, who, bufpool_name_of(receipts_file, block), &pinned);
     if (refusal == BUFPOOL_ALL_PINNED) return refusal;
-    must("pin", refusal);
+    must(shop, "pin", refusal);
     say_pinned(till, block, &pinned);
     *buffer = pinned.buffer;
     till->held[till->held_pages].block = block;
@@ -44,13 +44,13 @@ static uint32_t hold(struct shop *shop, struct till *till, uint32_t block, struc
 static uint64_t log_line(struct shop *shop)
 {
     uint64_t position = bufpool_inserted(&shop->pool) + 1;
-    must("log inserted", bufpool_log_inserted_to(&shop->pool, position));
+    must(shop, "log inserted", bufpool_log_inserted_to(&shop->pool, position));
     return position;
 }
 
 static void write_line(struct shop *shop, struct bufpool_buffer buffer, uint64_t from, const struct line *line, uint64_t position)
 {
-    must("write", bufpool_write_buffer(&shop->pool, buffer, from, (const uint8_t *)line, sizeof *line, position));
+    must(shop, "write", bufpool_write_buffer(&shop->pool, buffer, from, (const uint8_t *)line, sizeof *line, position));
 }
 
 void sale_page_header(const struct shop *shop, uint8_t rest[BUFPOOL_HEADER_REST])
@@ -64,7 +64,7 @@ static void write_first_line(struct shop *shop, struct bufpool_buffer buffer, co
 {
     uint8_t rest[BUFPOOL_HEADER_REST];
     sale_page_header(shop, rest);
-    must("write", bufpool_write_buffer(&shop->pool, buffer, BUFPOOL_POSITION_BYTES, rest, sizeof rest, position));
+    must(shop, "write", bufpool_write_buffer(&shop->pool, buffer, BUFPOOL_POSITION_BYTES, rest, sizeof rest, position));
     write_line(shop, buffer, LINE_BYTES, line, position);
 }
 
@@ -84,7 +84,7 @@ static struct line line_of(uint32_t till, uint32_t receipt, const struct product
 static void new_page(struct shop *shop)
 {
     uint32_t block;
-    must("extend", bufpool_extend_file(&shop->pool, receipts_file, &block));
+    must(shop, "extend", bufpool_extend_file(&shop->pool, receipts_file, &block));
     trail_note(shop, "the receipts get page %u", block);
     shop->last_lines = 0;
 }
@@ -133,10 +133,10 @@ void sale_pay(struct shop *shop, struct till *till, int by_card)
     for (k = 0; k < till->held_pages; k++) {
         const struct held *held = &till->held[k];
         if (by_card) {
-            must("flush", bufpool_flush_buffer(&shop->pool, held->buffer, &written));
+            must(shop, "flush", bufpool_flush_buffer(&shop->pool, held->buffer, &written));
             trail_note(shop, "till %u flushes page %u", till->number, held->block);
         }
-        must("unpin", bufpool_unpin_buffer(&shop->pool, held->buffer));
+        must(shop, "unpin", bufpool_unpin_buffer(&shop->pool, held->buffer));
         trail_note(shop, "till %u gives page %u back", till->number, held->block);
     }
     if (by_card) card_settle(shop);
@@ -149,14 +149,14 @@ void sale_practice(struct shop *shop, const struct product *product)
     struct bufpool_pinned pinned;
     struct line line = line_of(1, 0, product);
     uint32_t block;
-    must("extend", bufpool_extend_file(&shop->pool, practice_file, &block));
+    must(shop, "extend", bufpool_extend_file(&shop->pool, practice_file, &block));
     trail_note(shop, "practice gets page %u", block);
-    must("pin", shop_pin(shop, "practice", bufpool_name_of(practice_file, block), &pinned));
+    must(shop, "pin", shop_pin(shop, "practice", bufpool_name_of(practice_file, block), &pinned));
     write_first_line(shop, pinned.buffer, &line, log_line(shop));
     trail_note(shop, "practice writes a line on page %u", block);
-    must("unpin", bufpool_unpin_buffer(&shop->pool, pinned.buffer));
+    must(shop, "unpin", bufpool_unpin_buffer(&shop->pool, pinned.buffer));
     trail_note(shop, "practice gives page %u back", block);
-    must("drop", bufpool_drop_file(&shop->pool, practice_file));
+    must(shop, "drop", bufpool_drop_file(&shop->pool, practice_file));
     trail_note(shop, "practice is dropped");
     printf("practice: a receipt for the class, dropped\n");
 }

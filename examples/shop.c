@@ -10,6 +10,7 @@
 #include <sys/stat.h>
 #include <unistd.h>
 
+#include "bufpool_why.h"
 #include "sale.h"
 #include "trail.h"
 
@@ -29,10 +30,27 @@ void stop(const char *format, ...)
     exit(1);
 }
 
-void must(const char *call, uint32_t refusal)
+static void stop_refused(const char *call, uint32_t refusal, const char *why)
 {
+    stop("%s: refused, %u, %s: %s", call, refusal, bufpool_refusal_name(refusal), why);
+}
+
+void must(const struct shop *shop, const char *call, uint32_t refusal)
+{
+    char why[BUFPOOL_WHY_BYTES];
     if (refusal == BUFPOOL_DONE) return;
-    stop("%s: refused, %u, %s: %s", call, refusal, bufpool_refusal_name(refusal), bufpool_refusal_words(refusal));
+    if (bufpool_refusal_kind(refusal) == BUFPOOL_KIND_DAMAGE && bufpool_why(&shop->pool, why, sizeof why) == refusal) {
+        stop_refused(call, refusal, why);
+    }
+    stop_refused(call, refusal, bufpool_refusal_words(refusal));
+}
+
+/* The memory that set up is lent has no books yet. */
+static void must_set_up(const struct shop *shop, uint64_t page, uint32_t refusal)
+{
+    char why[BUFPOOL_WHY_BYTES];
+    if (refusal != BUFPOOL_DONE && bufpool_why_set_up(&shop->pool, page, why, sizeof why) == refusal) stop_refused("set up", refusal, why);
+    must(shop, "set up", refusal);
 }
 
 uint32_t receipts_blocks(const struct shop *shop)
@@ -108,13 +126,15 @@ void shop_start(struct shop *shop, int fd, uint32_t buffers)
     page = shop->card->page_size;
     bytes = bufpool_bytes(buffers, buffers, page);
     shop->memory = fresh(bytes);
-    must("lend", bufpool_lend(m, shop->memory, bytes, buffers, buffers, page, shop->card->rows, FILES));
+    if (bufpool_lend(m, shop->memory, bytes, buffers, buffers, page, shop->card->rows, FILES) != BUFPOOL_DONE) {
+        stop("there is no pool of %u buffers with blocks of %llu bytes", buffers, (unsigned long long)page);
+    }
     m->store = (uint8_t *)shop->card + page;
     if (shop->card_len != page + m->store_len) stop("the card is not as long as its file rows say");
     if (shop->card->day_block > receipts_blocks(shop)) stop("the card's day begins behind its last block");
     shop->page_lines = shop->last_lines = (uint32_t)page / LINE_BYTES - 1;
     shop->receipts = 0;
-    must("set up", bufpool_set_up_pool(m, page, shop->card->position));
+    must_set_up(shop, page, bufpool_set_up_pool(m, page, shop->card->position));
     trail_note(shop, "set up at log position %llu", (unsigned long long)shop->card->position);
 }
 
@@ -141,7 +161,7 @@ void shop_force_log(struct shop *shop)
     if (bufpool_flushed(&shop->pool) == inserted) return;
     shop->card->position = inserted;
     settle(shop->card, sizeof *shop->card);
-    must("log flushed", bufpool_log_flushed_to(&shop->pool, inserted));
+    must(shop, "log flushed", bufpool_log_flushed_to(&shop->pool, inserted));
     trail_note(shop, "the log is on the card up to %llu", (unsigned long long)inserted);
 }
 
@@ -158,7 +178,7 @@ void shop_checkpoint(struct shop *shop)
 {
     uint64_t written;
     shop_force_log(shop);
-    must("checkpoint", bufpool_checkpoint_pool(&shop->pool, &written));
+    must(shop, "checkpoint", bufpool_checkpoint_pool(&shop->pool, &written));
     card_settle(shop);
     card_let_go(shop);
     trail_note(shop, "checkpoint: %llu pages written", (unsigned long long)written);

@@ -74,7 +74,7 @@ uint32_t receipts_blocks(const struct shop *shop);
 /* A message on standard error, then the end with status 1. */
 _Noreturn void stop(const char *format, ...);
 
-/* Stops unless a call was accepted, and says its number, name and meaning. */
-void must(const char *call, uint32_t refusal);
+/* Stops unless a call was accepted, and says its number, name and meaning; at damaged memory, which rule it breaks, and where. */
+void must(const struct shop *shop, const char *call, uint32_t refusal);
 
 #endif
