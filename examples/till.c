@@ -194,7 +194,7 @@ int main(int argc, char **argv)
     int fd = o.read_only ? card_open(o.card) : card_new(o.card, &o.sizes);
     (void)argc;
     memset(&shop, 0, sizeof shop);
-    if (o.trail != NULL) shop.trail = trail_new(o.trail, o.sizes.buffers);
+    if (o.trail != NULL) shop.trail = trail_new(o.trail);
     if (!o.read_only) first_start(&shop, fd, &o);
     shop_start(&shop, fd, o.sizes.buffers);
     printf("second start: fresh memory, log position %llu\n", (unsigned long long)shop.card->position);

@@ -1,0 +1,193 @@
+/* damage each FILE           prints a pool with each damage, and writes each to FILE, as a pool of its own: both as bufpool-show prints it
+   damage random FILE COUNT   random damage, printed to nowhere and written to FILE, one pool after the other
+   damage bytes FILE COUNT    copies of FILE with random bytes changed: FILE.1, FILE.2 and so on
+   damage beyond              lends a slice with a length that its memory does not have: the sanitizer has to stop this one */
+#include <stdlib.h>
+
+#include "lend.h"
+
+#define LENGTH(m, slice, to) ((m)->slice = other_length((m)->slice, sizeof *(m)->slice, (m)->slice##_len, to), (m)->slice##_len = (to))
+
+static uint64_t state = 0x2545F4914F6CDD1Du;
+
+static uint32_t random_below(uint32_t n)
+{
+    state ^= state << 13;
+    state ^= state >> 7;
+    state ^= state << 17;
+    return (uint32_t)(state >> 32) % n;
+}
+
+/* Four buffers: a dirty page, a clean one, and two empty buffers. */
+static struct bufpool some_pool(void)
+{
+    static const uint8_t line[] = "2 loaves, 5.40";
+    struct bufpool m = lend(4, 6, 6);
+    struct bufpool_pinned p;
+    see(bufpool_log_inserted_to(&m, 147) == BUFPOOL_DONE, "log inserted");
+    see(bufpool_pin_page(&m, bufpool_name_of(table_file, 5), &p) == BUFPOOL_DONE, "pin");
+    see(bufpool_write_buffer(&m, p.buffer, 24, line, sizeof line, 147) == BUFPOOL_DONE, "write");
+    see(bufpool_pin_page(&m, bufpool_name_of(map_file, 0), &p) == BUFPOOL_DONE, "pin");
+    return m;
+}
+
+static void nothing(struct bufpool *m) { (void)m; }
+static void hand(struct bufpool *m) { m->control[BUFPOOL_CONTROL_AT_HAND] = 4; }
+static void far_hand(struct bufpool *m) { m->control[BUFPOOL_CONTROL_AT_HAND] = UINT64_MAX; }
+static void top(struct bufpool *m) { m->control[BUFPOOL_CONTROL_AT_FREE_TOP] = 4; }
+static void top_off(struct bufpool *m) { m->control[BUFPOOL_CONTROL_AT_FREE_TOP] = UINT64_MAX - 1; }
+static void top_used(struct bufpool *m) { m->control[BUFPOOL_CONTROL_AT_FREE_TOP] = 1; }
+static void link_far(struct bufpool *m) { m->free[2] = INT32_MAX; }
+static void link_low(struct bufpool *m) { m->free[2] = INT32_MIN; }
+static void link_back(struct bufpool *m) { m->free[3] = 2; }
+static void link_early(struct bufpool *m) { m->free[2] = -1; }
+static void no_blocks(struct bufpool *m) { m->control[BUFPOOL_CONTROL_AT_PAGE_SIZE] = 0; }
+static void far_blocks(struct bufpool *m) { m->control[BUFPOOL_CONTROL_AT_PAGE_SIZE] = (uint64_t)1 << 63; }
+static void words(struct bufpool *m) { m->states[1] = 1, m->states[3] = UINT32_MAX; }
+static void flushed(struct bufpool *m) { m->control[BUFPOOL_CONTROL_AT_FLUSHED] = 148; }
+static void short_control(struct bufpool *m) { LENGTH(m, control, 2); }
+static void no_control(struct bufpool *m) { LENGTH(m, control, 0); }
+static void short_states(struct bufpool *m) { LENGTH(m, states, 1); }
+static void no_states(struct bufpool *m) { LENGTH(m, states, 0); }
+static void short_names(struct bufpool *m) { LENGTH(m, names, 9); }
+static void short_pool(struct bufpool *m) { LENGTH(m, pool, 2047); }
+static void short_free(struct bufpool *m) { LENGTH(m, free, 3); }
+static void short_links(struct bufpool *m) { LENGTH(m, heads, 3), LENGTH(m, chain, 3); }
+static void short_rows(struct bufpool *m) { LENGTH(m, rows, 11); }
+
+static void long_states(struct bufpool *m)
+{
+    LENGTH(m, states, BUFPOOL_MAX_BUFFERS + 1);
+    memset(m->states + 4, 0, (BUFPOOL_MAX_BUFFERS + 1 - 4) * sizeof *m->states);
+}
+
+static void null_pointers(struct bufpool *m)
+{
+    struct bufpool lengths = *m;
+    give_back(m);
+    *m = lengths;
+    m->control = NULL;
+    m->states = m->names = m->rows = NULL;
+    m->free = m->heads = m->chain = NULL;
+    m->pool = m->store = NULL;
+}
+
+static void null_pages(struct bufpool *m)
+{
+    free(m->pool);
+    m->pool = NULL;
+}
+
+static void all_ones(struct bufpool *m)
+{
+    memset(m->states, 0xFF, m->states_len * sizeof *m->states);
+    memset(m->names, 0xFF, m->names_len * sizeof *m->names);
+    memset(m->rows, 0xFF, m->rows_len * sizeof *m->rows);
+    memset(m->pool, 0xFF, m->pool_len);
+}
+
+static const struct { const char *text; void (*damage)(struct bufpool *m); } cases[] = {
+    {"sound", nothing}, {"the hand is beyond", hand}, {"the hand is far beyond", far_hand}, {"the free list begins beyond", top},
+    {"the free list begins with -2", top_off}, {"the free list begins with a page", top_used}, {"a free link leads far", link_far},
+    {"a free link is low", link_low}, {"a free link leads back", link_back}, {"the free list ends early", link_early},
+    {"blocks of 0 bytes", no_blocks}, {"blocks of 2 to the 63 bytes", far_blocks}, {"two state words", words},
+    {"flushed is beyond inserted", flushed}, {"a short control record", short_control}, {"no control record", no_control},
+    {"one state word", short_states}, {"no state word", no_states}, {"names of nine words", short_names}, {"a short pool", short_pool},
+    {"three free links", short_free}, {"three heads and chain links", short_links}, {"a row of five words", short_rows},
+    {"1025 state words", long_states}, {"null pointers", null_pointers}, {"no pages", null_pages}, {"all ones", all_ones}};
+
+static void dump(FILE *out, const struct bufpool *m, const char *text, uint32_t pool)
+{
+    struct bufpool_event event = bufpool_event_of_call(text, BUFPOOL_DONE);
+    event.pool = pool;
+    see(bufpool_dump(out, m, &event) == 0, "dump");
+}
+
+static void each(FILE *out)
+{
+    unsigned k;
+    for (k = 0; k < sizeof cases / sizeof *cases; k++) {
+        struct bufpool m = some_pool();
+        cases[k].damage(&m);
+        printf("%u. pool %u: %s\n  ", k + 1, k + 1, cases[k].text);
+        bufpool_print(stdout, &m);
+        putchar('\n');
+        dump(out, &m, cases[k].text, k + 1);
+        give_back(&m);
+    }
+}
+
+/* One word of one of the slices becomes another: a small number, one near a limit of its width, or any. */
+static void damage_word(struct bufpool *m)
+{
+    const uint64_t values[] = {random_below(8), UINT64_MAX - random_below(3), INT32_MAX - (uint64_t)random_below(2), 1024, state};
+    uint64_t value = values[random_below(5)];
+    switch (random_below(6)) {
+    case 0: m->control[random_below(BUFPOOL_CONTROL_WORDS)] = value; break;
+    case 1: m->states[random_below((uint32_t)m->states_len)] = (uint32_t)value; break;
+    case 2: m->names[random_below((uint32_t)m->names_len)] = (uint32_t)value; break;
+    case 3: m->free[random_below((uint32_t)m->free_len)] = (int32_t)value; break;
+    case 4: m->rows[random_below((uint32_t)m->rows_len)] = (uint32_t)value; break;
+    default: m->pool[random_below((uint32_t)m->pool_len)] = (uint8_t)value;
+    }
+}
+
+static void random_damage(FILE *out, unsigned count)
+{
+    FILE *nowhere = fopen("/dev/null", "w");
+    struct bufpool_pinned pinned;
+    see(nowhere != NULL, "/dev/null");
+    for (; count > 0; count--) {
+        struct bufpool m = some_pool();
+        struct bufpool_event event;
+        unsigned words = random_below(6);
+        for (; words > 0; words--) damage_word(&m);
+        pinned.buffer.number = random_below(6);
+        pinned.hit = 0;
+        pinned.wrote = (int)random_below(2);
+        pinned.probes = random_below(30);
+        event = bufpool_event_of_pin("", bufpool_name_of(table_file, 5), random_below(8), &pinned);
+        bufpool_print(nowhere, &m);
+        see(bufpool_dump(out, &m, &event) == 0, "dump");
+        give_back(&m);
+    }
+    fclose(nowhere);
+}
+
+static void other_bytes(const char *path, unsigned count)
+{
+    static char bytes[1 << 20], other[256];
+    FILE *in = fopen(path, "rb"), *out;
+    size_t length = in != NULL ? fread(bytes, 1, sizeof bytes, in) : 0;
+    see(length > 0 && length < sizeof bytes, "a file of less than a MiB");
+    fclose(in);
+    for (; count > 0; count--) {
+        size_t at = random_below((uint32_t)length);
+        char was = bytes[at];
+        bytes[at] = (char)random_below(256);
+        snprintf(other, sizeof other, "%s.%u", path, count);
+        out = fopen(other, "wb");
+        see(out != NULL && fwrite(bytes, 1, length, out) == length && fclose(out) == 0, "a copy");
+        bytes[at] = was;
+    }
+}
+
+int main(int argc, char **argv)
+{
+    FILE *out;
+    struct bufpool m = some_pool();
+    if (argc == 2 && strcmp(argv[1], "beyond") == 0) {
+        m.states_len++;
+        bufpool_print(stdout, &m);
+    } else if (argc == 4 && strcmp(argv[1], "bytes") == 0) {
+        other_bytes(argv[2], (unsigned)atoi(argv[3]));
+    } else if (argc > 2) {
+        out = fopen(argv[2], "wb");
+        see(out != NULL, "a file for the dump");
+        if (argc == 3) each(out);
+        if (argc == 4) random_damage(out, (unsigned)atoi(argv[3]));
+        see(fclose(out) == 0, "the dump is closed");
+    }
+    give_back(&m);
+    return 0;
+}

@@ -1,0 +1,162 @@
+/* pools wide       prints a pool of 128 buffers of which one is in use
+   pools runs       prints one whose free list is long and has no rising runs, with a name for one file
+   pools dump FILE  writes two pools' snapshots, step by step, to one file
+   pools full       status 0 if a dump on a full device results in -1 */
+#include <stdlib.h>
+
+#include "lend.h"
+
+/* A step writes what it did to the file of snapshots. */
+struct day {
+    struct bufpool m;
+    FILE *dump;
+    uint32_t pool;
+};
+
+static void put(struct day *day, struct bufpool_event event)
+{
+    event.pool = day->pool;
+    see(bufpool_dump(day->dump, &day->m, &event) == 0, "dump");
+}
+
+static void note(struct day *day, const char *text)
+{
+    put(day, bufpool_event_of_call(text, BUFPOOL_DONE));
+}
+
+/* A pin, and its snapshot unless who is null. */
+static void pin(struct day *day, const char *who, struct bufpool_file file, uint32_t block, uint32_t wanted)
+{
+    struct bufpool_pinned pinned;
+    struct bufpool_name name = bufpool_name_of(file, block);
+    uint32_t refusal = bufpool_pin_page(&day->m, name, &pinned);
+    see(refusal == wanted, "pin");
+    if (who != NULL) put(day, bufpool_event_of_pin(who, name, refusal, &pinned));
+}
+
+static void unpin(struct day *day, uint64_t number)
+{
+    struct bufpool_buffer buffer = {number};
+    see(bufpool_unpin_buffer(&day->m, buffer) == BUFPOOL_DONE, "unpin");
+}
+
+static void write_line(struct day *day, uint64_t number, uint64_t position)
+{
+    static const uint8_t line[] = "2 loaves, 5.40";
+    struct bufpool_buffer buffer = {number};
+    see(bufpool_log_inserted_to(&day->m, position) == BUFPOOL_DONE, "log inserted");
+    see(bufpool_write_buffer(&day->m, buffer, 24, line, sizeof line, position) == BUFPOOL_DONE, "write");
+}
+
+/* Three buffers: each thing that can happen to a page. */
+static void small_day(struct day *day)
+{
+    uint64_t written, b;
+    note(day, "the till is set up");
+    pin(day, "till 1", table_file, 0, BUFPOOL_DONE);
+    write_line(day, 0, 147);
+    note(day, "till 1 writes a line");
+    pin(day, "", table_file, 0, BUFPOOL_DONE);
+    pin(day, "till 2", table_file, 1, BUFPOOL_DONE);
+    pin(day, "till 2", map_file, 2, BUFPOOL_DONE);
+    pin(day, "till 3", table_file, 3, BUFPOOL_ALL_PINNED);
+    pin(day, "till 3", table_file, 99, BUFPOOL_NO_BLOCK);
+    unpin(day, 0);
+    unpin(day, 0);
+    note(day, "till 1 gives both pins back, and the text of this step is longer than the eighty characters that it may have");
+    see(bufpool_log_flushed_to(&day->m, 147) == BUFPOOL_DONE, "log flushed");
+    put(day, bufpool_event_of(BUFPOOL_EVENT_NONE, NULL));
+    pin(day, "till 3", table_file, 3, BUFPOOL_DONE);
+    for (b = 0; b < 3; b++) unpin(day, b);
+    pin(day, NULL, table_file, 1, BUFPOOL_DONE);
+    write_line(day, 1, 150);
+    unpin(day, 1);
+    note(day, "three \033[31msteps\n in one");
+    see(bufpool_checkpoint_pool(&day->m, &written) == BUFPOOL_DONE && written == 1, "checkpoint");
+    note(day, "checkpoint");
+    see(bufpool_drop_file(&day->m, map_file) == BUFPOOL_DONE, "drop");
+    note(day, "the map is dropped");
+    day->m.chain[0] ^= 1; /* not sound any more: no call follows */
+    note(day, "a link is damaged");
+}
+
+/* 128 buffers, every page with the greatest usage: the next pin looks at each buffer six times. */
+static void long_sweep(struct day *day)
+{
+    uint32_t k;
+    note(day, "set up");
+    for (k = 0; k < 5 * 128; k++) {
+        pin(day, NULL, table_file, k % 128, BUFPOOL_DONE);
+        unpin(day, k % 128);
+    }
+    note(day, "every page is used five times");
+    pin(day, "till 1", table_file, 128, BUFPOOL_DONE);
+    unpin(day, 0);
+    pin(day, NULL, table_file, 0, BUFPOOL_DONE);
+    pin(day, "till 2", table_file, 1, BUFPOOL_DONE);
+}
+
+/* The steps of both pools stand one after the other, but for the last, which is the first pool's. */
+static void write_dump(const char *path)
+{
+    struct day small = {lend(3, 5, 6), fopen(path, "wb"), 0}, wide = {lend(128, 256, 129), small.dump, 1};
+    see(small.dump != NULL, "a file for the dump");
+    small_day(&small);
+    long_sweep(&wide);
+    note(&small, "the first pool again");
+    put(&small, bufpool_event_of(BUFPOOL_EVENT_END, "never shown"));
+    see(fclose(small.dump) == 0, "the dump is closed");
+    give_back(&small.m);
+    give_back(&wide.m);
+}
+
+static void print_wide(void)
+{
+    struct day day = {lend(128, 256, 129), NULL, 0};
+    pin(&day, NULL, table_file, 7, BUFPOOL_DONE);
+    pin(&day, NULL, table_file, 7, BUFPOOL_DONE);
+    unpin(&day, 0);
+    write_line(&day, 0, 147);
+    bufpool_print(stdout, &day.m);
+    give_back(&day.m);
+}
+
+static void print_runs(void)
+{
+    static const struct bufpool_file_name names[] = {{{1663, 5, 16384, 0}, "receipts"}};
+    struct day day = {lend(40, 64, 40), NULL, 0};
+    uint32_t k;
+    for (k = 0; k < 40; k++) {
+        pin(&day, NULL, k % 10 < 9 ? map_file : table_file, k, BUFPOOL_DONE);
+        unpin(&day, k);
+    }
+    see(bufpool_drop_file(&day.m, map_file) == BUFPOOL_DONE, "drop");
+    bufpool_print_named(stdout, &day.m, names, 1);
+    give_back(&day.m);
+}
+
+static int full_device(void)
+{
+    FILE *full = fopen("/dev/full", "wb");
+    struct bufpool m = lend(3, 5, 6);
+    int result;
+    see(full != NULL, "/dev/full");
+    result = bufpool_dump(full, &m, NULL);
+    fclose(full);
+    give_back(&m);
+    return result == -1 ? 0 : 1;
+}
+
+int main(int argc, char **argv)
+{
+    if (argc == 3 && strcmp(argv[1], "dump") == 0) {
+        write_dump(argv[2]);
+    } else if (argc == 2 && strcmp(argv[1], "wide") == 0) {
+        print_wide();
+    } else if (argc == 2 && strcmp(argv[1], "runs") == 0) {
+        print_runs();
+    } else {
+        return argc == 2 && strcmp(argv[1], "full") == 0 ? full_device() : 2;
+    }
+    return 0;
+}
