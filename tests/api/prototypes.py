@@ -1,11 +1,13 @@
-"""prototypes.py PAGE HEADER..: that the page has the prototype of every function that the headers define, word for word; those that are the
-header's own, in a list below or with a prefix of it, are left out. Prints what is missing; status 1 if anything is."""
+"""prototypes.py PAGE HEADER..: that the page has the prototype of every function that the headers define, word for word, but for those that
+are the headers' own. Prints what is missing; status 1 if anything is."""
 import re
 import sys
 
 DEFINED = re.compile(r'^(?:BUFPOOL_INLINE|static inline) ([^;{}()]*?\b(bufpool_\w+)\([^)]*\))\s*\{', re.M)
-OWN = ('bufpool_meet_interface', 'bufpool_why_', 'bufpool_print_', 'bufpool_dump_')
-PUBLIC = ('bufpool_why_set_up',)
+# the beginnings of names that are the headers' own, and those that are not
+OWN = ('bufpool_meet_interface', 'bufpool_why_', 'bufpool_print_', 'bufpool_dump_', 'bufpool_view_', 'bufpool_free_', 'bufpool_keep',
+       'bufpool_most_kept', 'bufpool_state_sound', 'bufpool_file_text', 'bufpool_name_text', 'bufpool_page_text')
+PUBLIC = ('bufpool_why_set_up', 'bufpool_print_named')
 
 
 def words(text):

@@ -1,6 +1,8 @@
 /* Each call and helper with its result left unused, a line for each: the compiler warns as often. */
 #include "bufbooks.h"
 #include "bufpool.h"
+#include "bufpool_show.h"
+#include "bufpool_why.h"
 #include "buftag.h"
 
 #define ANSWER answer, BUFPOOL_ANSWER_WORDS
@@ -43,6 +45,17 @@ void unused_helpers(struct bufpool *m, struct bufpool_file f, struct bufpool_nam
     bufpool_refusal_words(0);                    /* unused */
     bufpool_refusal_kind(0);                     /* unused */
     bufpool_refusal_advice(0);                   /* unused */
+}
+
+void unused_looks(const struct bufpool *m, struct bufpool_name n, const struct bufpool_pinned *p, char *words);
+void unused_looks(const struct bufpool *m, struct bufpool_name n, const struct bufpool_pinned *p, char *words)
+{
+    bufpool_why(m, words, 0);                    /* unused */
+    bufpool_why_set_up(m, 1024, words, 0);       /* unused */
+    bufpool_dump(stdout, m, NULL);               /* unused */
+    bufpool_event_of(BUFPOOL_EVENT_END, NULL);   /* unused */
+    bufpool_event_of_call("unpins", 0);          /* unused */
+    bufpool_event_of_pin("till 1", n, 0, p);     /* unused */
 }
 
 void unused_calls(struct bufpool *m, struct bufpool_file f, uint8_t *bytes);
