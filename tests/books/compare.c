@@ -8,23 +8,6 @@
 
 check_fn judge, plain_check;
 
-/* a small pool; one in 16 has a block size, or a number of buffers or buckets, that is not permitted */
-static struct shape some_shape(void)
-{
-    static const uint64_t logs[] = {0, 0, UINT32_MAX - 500u, 1ull << 63, UINT64_MAX - 3000};
-    static const size_t pages[] = {512, 1025, 65536};
-    struct shape s = {.buffers = 1 + random_below(10), .files = random_below(5), .capacity = 1 + random_below(6)};
-    s.buckets = s.buffers + random_below(4);
-    s.page = random_below(32) == 0 ? pages[random_below(3)] : 1024u << random_below(6);
-    if (random_below(64) == 0) s.buffers = 0;
-    if (random_below(64) == 0) s.buckets = s.buffers - (s.buffers > 1);
-    s.log = logs[random_below(5)];
-    s.used = random_below(5) * 25;
-    s.dirty = random_below(3) * 50;
-    s.runs = (int)random_below(2);
-    return s;
-}
-
 /* a pool at the greatest sizes or just beyond them */
 static struct shape great_shape(void)
 {
@@ -35,17 +18,6 @@ static struct shape great_shape(void)
     s.capacity = random_below(2) ? 1024 : 1000;
     s.relations = (int)random_below(2);
     return s;
-}
-
-/* nothing, one thing or, now and then, two */
-static void some_damage(struct memory *m)
-{
-    unsigned times = random_below(4) == 0 ? 0 : 1 + (random_below(8) == 0);
-    for (unsigned t = 0; t < times; t++) {
-        unsigned kind = random_below(DAMAGES);
-        memory_damage(m, kind);
-        if (kind == DAMAGES - 1) return;
-    }
 }
 
 int main(int argc, char **argv)
@@ -59,9 +31,9 @@ int main(int argc, char **argv)
     seed_random(strtoull(argv[1], NULL, 10));
     memory_new(&m, &most);
     for (unsigned long k = 0; k < count && differ[0] + differ[1] < enough; k++) {
-        struct shape s = k % 400 == 0 ? great_shape() : some_shape();
+        struct shape s = k % 400 == 0 ? great_shape() : memory_shape();
         memory_fill(&m, &s);
-        some_damage(&m);
+        memory_damages(&m);
         if (k % 16 == 0) memory_guard(0);
         uint32_t answer = bufbooks_check(LENT(&m)), plain = plain_check(LENT(&m)), judged = judge(LENT(&m));
         if (k % 16 == 0) memory_guard(1);

@@ -255,3 +255,29 @@ void memory_damage(struct memory *m, unsigned kind)
     else if (kind < 29) damage_rows(m, kind - 22);
     else damage_length(m);
 }
+
+struct shape memory_shape(void)
+{
+    static const uint64_t logs[] = {0, 0, UINT32_MAX - 500u, 1ull << 63, UINT64_MAX - 3000};
+    static const size_t pages[] = {512, 1025, 65536};
+    struct shape s = {.buffers = 1 + random_below(10), .files = random_below(5), .capacity = 1 + random_below(6)};
+    s.buckets = s.buffers + random_below(4);
+    s.page = random_below(32) == 0 ? pages[random_below(3)] : 1024u << random_below(6);
+    if (random_below(64) == 0) s.buffers = 0;
+    if (random_below(64) == 0) s.buckets = s.buffers - (s.buffers > 1);
+    s.log = logs[random_below(5)];
+    s.used = random_below(5) * 25;
+    s.dirty = random_below(3) * 50;
+    s.runs = (int)random_below(2);
+    return s;
+}
+
+void memory_damages(struct memory *m)
+{
+    unsigned times = random_below(4) == 0 ? 0 : 1 + (random_below(8) == 0);
+    for (unsigned t = 0; t < times; t++) {
+        unsigned kind = random_below(DAMAGES);
+        memory_damage(m, kind);
+        if (kind == DAMAGES - 1) return;
+    }
+}

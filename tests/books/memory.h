@@ -51,9 +51,15 @@ void memory_fill(struct memory *m, const struct shape *s);
 /* Whether the slices can be written to. */
 void memory_guard(int writable);
 
+/* A small pool's shape; one in 16 has a block size, or a number of buffers or buckets, that is not permitted. */
+struct shape memory_shape(void);
+
 /* The number of kinds of damage, and one of them done: it may leave the memory sound. After the last kind, which changes a length, no
    other is done. */
 #define DAMAGES 30
 void memory_damage(struct memory *m, unsigned kind);
+
+/* Nothing done, one kind or, now and then, two. */
+void memory_damages(struct memory *m);
 
 #endif

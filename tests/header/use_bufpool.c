@@ -1,7 +1,7 @@
 /* A program in C or C++ that includes the header first, and twice, makes every call and uses every helper. Status 0 if all answer right. */
 #include "bufpool.h"
 #include "bufpool.h"
-#include <stdio.h>
+#include "see.h"
 #include <string.h>
 
 enum { BUFFERS = 3, BUCKETS = 3, FILES = 1, PAGE = 1024, CAPACITY = 5 };
@@ -12,14 +12,6 @@ static int32_t free_links[BUFFERS], heads[BUCKETS], chain[BUFFERS];
 static uint32_t rows[BUFPOOL_ROW_WORDS * FILES] = {1663, 5, 16384, 0, 4, CAPACITY};
 static uint8_t pool[BUFFERS * PAGE], store[CAPACITY * PAGE];
 static const struct bufpool_file table = {1663, 5, 16384, 0}, other = {1663, 5, 16384, 1};
-
-#define SEE(test)                                                   \
-    do {                                                            \
-        if (!(test)) {                                              \
-            fprintf(stderr, "line %d does not hold\n", __LINE__);   \
-            return 1;                                               \
-        }                                                           \
-    } while (0)
 
 static struct bufpool lend(void)
 {

@@ -1,7 +1,7 @@
 /* A program in C or C++ over memory from malloc, which nobody has cleared: sizes in bytes, one piece cut into slices, rows, what refused
    calls leave behind, page headers. Status 0 if all is right. */
 #include "bufpool.h"
-#include <stdio.h>
+#include "see.h"
 #include <stdlib.h>
 #include <string.h>
 
@@ -19,14 +19,6 @@
 
 static const struct bufpool_file table = {1663, 5, 16384, 0}, map = {1663, 5, 16384, 1}, other = {1663, 5, 16385, 0};
 static uint32_t rows[BUFPOOL_ROW_WORDS * FILES];
-
-#define SEE(test)                                                   \
-    do {                                                            \
-        if (!(test)) {                                              \
-            fprintf(stderr, "line %d does not hold\n", __LINE__);   \
-            return 1;                                               \
-        }                                                           \
-    } while (0)
 
 static int sizes(void)
 {

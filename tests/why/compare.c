@@ -14,27 +14,10 @@ enum { MOST_RULES = 20, MOST_WORDS = 400 };
 
 static unsigned long checked[3], set_up[3], differ, set_up_differ, unfit, named[5][MOST_RULES];
 
-/* a small pool; one in 16 has a block size, or a number of buffers or buckets, that is not permitted */
-static struct shape some_shape(void)
-{
-    static const uint64_t logs[] = {0, 0, UINT32_MAX - 500u, 1ull << 63, UINT64_MAX - 3000};
-    static const size_t pages[] = {512, 1025, 65536};
-    struct shape s = {.buffers = 1 + random_below(10), .files = random_below(5), .capacity = 1 + random_below(6)};
-    s.buckets = s.buffers + random_below(4);
-    s.page = random_below(32) == 0 ? pages[random_below(3)] : 1024u << random_below(6);
-    if (random_below(64) == 0) s.buffers = 0;
-    if (random_below(64) == 0) s.buckets = s.buffers - (s.buffers > 1);
-    s.log = logs[random_below(5)];
-    s.used = random_below(5) * 25;
-    s.dirty = random_below(3) * 50;
-    s.runs = (int)random_below(2);
-    return s;
-}
-
 /* as many files, blocks and buckets as there may be, or one more; few buffers, so that it takes no time */
 static struct shape wide_shape(void)
 {
-    struct shape s = some_shape();
+    struct shape s = memory_shape();
     s.page = 1024;
     s.buckets = 4095 + random_below(2) + (random_below(8) == 0);
     s.files = 63 + random_below(2) + (random_below(8) == 0);
@@ -50,17 +33,6 @@ static struct shape great_shape(void)
     s.used = 90;
     s.relations = (int)random_below(2);
     return s;
-}
-
-/* nothing, one thing or, now and then, two */
-static void some_damage(struct memory *m)
-{
-    unsigned times = random_below(4) == 0 ? 0 : 1 + (random_below(8) == 0);
-    for (unsigned t = 0; t < times; t++) {
-        unsigned kind = random_below(DAMAGES);
-        memory_damage(m, kind);
-        if (kind == DAMAGES - 1) return;
-    }
 }
 
 /* Whether a message is of its result: "sound" for 0, a rule of section 3 for 1, of section 4 for 2, and not cut. */
@@ -145,9 +117,9 @@ static uint64_t some_page(const struct shape *s)
 
 static void one_memory(struct memory *m, unsigned long k, uint8_t *nowhere)
 {
-    struct shape s = k % 400 == 0 ? great_shape() : k % 16 == 1 ? wide_shape() : some_shape();
+    struct shape s = k % 400 == 0 ? great_shape() : k % 16 == 1 ? wide_shape() : memory_shape();
     memory_fill(m, &s);
-    some_damage(m);
+    memory_damages(m);
     if (k % 16 == 0) memory_guard(0);
     differ += (unsigned long)compare_check(m, nowhere);
     if (k % 16 == 0) memory_guard(1);

@@ -4,10 +4,9 @@
 #include "bufpool_why.h"
 #include <string.h>
 
-static uint64_t control[BUFPOOL_CONTROL_WORDS] = {1024, 0, 0, 100, 100};
-static uint32_t states[1], names[BUFPOOL_NAME_WORDS], rows[BUFPOOL_ROW_WORDS];
-static int32_t free_links[1] = {-1}, heads[1] = {-1}, chain[1] = {-1};
-static uint8_t pool[1024], store[1];
+static uint64_t memory[BUFPOOL_BYTES(1, 1, 1024) / 8 + 1];
+static uint32_t rows[BUFPOOL_ROW_WORDS];
+static uint8_t store[1];
 
 /* An unused result does not compile with -Werror. */
 #ifdef UNUSED
@@ -20,19 +19,12 @@ int main(void)
 {
     struct bufpool m;
     char words[BUFPOOL_WHY_BYTES];
-    memset(&m, 0, sizeof m);
-    m.control = control;
-    m.states = states;
-    m.names = names;
-    m.pool = pool;
-    m.free = free_links;
-    m.heads = heads;
-    m.chain = chain;
-    m.rows = rows;
+    if (bufpool_lend(&m, memory, sizeof memory, 1, 1, 1024, rows, 0) != BUFPOOL_DONE) return 4;
     m.store = store;
-    bufpool_fit(&m, 1, 1, 0, 1024);
+    m.control[BUFPOOL_CONTROL_AT_PAGE_SIZE] = 1024; /* all else is 0: one empty buffer, which is the free list */
+    m.free[0] = m.heads[0] = m.chain[0] = -1;
     if (bufpool_why(&m, words, sizeof words) != BUFPOOL_DONE || strcmp(words, "sound") != 0) return 1;
-    control[BUFPOOL_CONTROL_AT_HAND] = 1;
+    m.control[BUFPOOL_CONTROL_AT_HAND] = 1;
     if (bufpool_why_set_up(&m, 1024, words, sizeof words) != BUFPOOL_DONE || strcmp(words, "sound") != 0) return 2;
     RESULT bufpool_why(&m, words, sizeof words);
 #ifndef UNUSED
