@@ -110,7 +110,8 @@ BUFPOOL_INLINE const uint32_t *bufpool_row_of(const struct bufpool *m, struct bu
 
 /* ---- Lending memory ---- */
 
-/* The bytes of control, states, names, pool, free, heads and chain together, as a constant for arrays of bytes and for #if. */
+/* The bytes of control, states, names, pool, free, heads and chain together, as a constant for #if and for arrays: as
+   uint64_t memory[(BUFPOOL_BYTES(..) + 7) / 8] it begins at a multiple of 8. */
 #define BUFPOOL_BYTES(buffers, buckets, page_size) \
     ((buffers) * (page_size) + 8 * BUFPOOL_CONTROL_WORDS + 4 * ((BUFPOOL_NAME_WORDS + 3) * (buffers) + (buckets)))
 

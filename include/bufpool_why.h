@@ -119,7 +119,8 @@ BUFPOOL_INLINE uint32_t bufpool_why_p_and_n(const struct bufpool_why_look *l)
     if (control != BUFPOOL_CONTROL_WORDS)
         return bufpool_why_say(l, BUFPOOL_SIZES, "rule 3.1: the control record has %llu words, not 5", control);
     if (p != 1024 && p != 2048 && p != 4096 && p != 8192 && p != 16384 && p != 32768)
-        return bufpool_why_say(l, BUFPOOL_SIZES, "rule 3.2: the block size is %llu, not 1024, 2048, 4096, 8192, 16384 or 32768", p);
+        return bufpool_why_say(l, BUFPOOL_SIZES, "rule 3.2: the block size is %llu, not 1024, 2048, 4096, 8192, 16384 or 32768%s", p,
+                               p == 0 ? "; was it set up?" : "");
     if (l->n < 1 || l->n > BUFPOOL_MAX_BUFFERS)
         return bufpool_why_say(l, BUFPOOL_SIZES, "rule 3.3: there are %llu state words, not 1 to 1024", l->n);
     return BUFPOOL_DONE;
