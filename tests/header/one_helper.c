@@ -1,11 +1,23 @@
-/* One helper and no other: what an object needs that a till links with the library. */
+/* One call and no other, which CALL has: what an object needs that a till links with the library. */
 #include "bufpool.h"
 
-uint32_t give_back(struct bufpool *m, struct bufpool_buffer buffer);
+struct given {
+    struct bufpool *m;
+    struct bufpool_file file;
+    struct bufpool_name name;
+    struct bufpool_buffer buffer;
+    struct bufpool_pinned pinned;
+    struct bufpool_part part;
+    uint64_t number, answer[BUFPOOL_ANSWER_WORDS];
+    uint32_t block;
+    uint8_t bytes[8];
+};
 
-uint32_t give_back(struct bufpool *m, struct bufpool_buffer buffer)
+uint32_t one_call(struct given *g);
+
+uint32_t one_call(struct given *g)
 {
-    return bufpool_unpin_buffer(m, buffer);
+    return CALL;
 }
 
 int main(void)

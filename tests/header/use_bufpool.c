@@ -78,7 +78,7 @@ static int pins(struct bufpool *m)
 static int bytes(struct bufpool *m)
 {
     static const uint8_t word[4] = {1, 2, 3, 4};
-    struct bufpool_buffer first = {0};
+    struct bufpool_buffer first = {0}, second = {1};
     uint64_t written;
     uint8_t out[4];
     SEE(bufpool_write_buffer(m, first, 7, word, 4, 100) == BUFPOOL_RANGE);
@@ -89,10 +89,13 @@ static int bytes(struct bufpool *m)
     SEE(bufpool_write_buffer(m, first, 1020, word, 4, 99) == BUFPOOL_EARLIER);
     SEE(bufpool_read_buffer(m, first, 1020, out, 4) == BUFPOOL_DONE && memcmp(out, word, 4) == 0);
     SEE(bufpool_flush_buffer(m, first, &written) == BUFPOOL_DONE && written == 1 && memcmp(store + 1020, word, 4) == 0);
+    SEE(bufpool_flush_buffer(m, first, &written) == BUFPOOL_DONE && written == 0);
+    SEE(bufpool_checkpoint_pool(m, &written) == BUFPOOL_DONE && written == 0);
     SEE(bufpool_log_inserted_to(m, 99) == BUFPOOL_LOG_SHORTER && bufpool_log_inserted_to(m, 200) == BUFPOOL_DONE);
     SEE(bufpool_log_flushed_to(m, 201) == BUFPOOL_FLUSHED_BEYOND && bufpool_log_flushed_to(m, 150) == BUFPOOL_DONE);
     SEE(bufpool_write_buffer(m, first, 8, word, 4, 200) == BUFPOOL_DONE);
-    SEE(bufpool_checkpoint_pool(m, &written) == BUFPOOL_DONE && written == 1);
+    SEE(bufpool_write_buffer(m, second, 8, word, 4, 200) == BUFPOOL_DONE);
+    SEE(bufpool_checkpoint_pool(m, &written) == BUFPOOL_DONE && written == 2);
     SEE(bufpool_inserted(m) == 200 && bufpool_flushed(m) == 200 && memcmp(store + 8, word, 4) == 0);
     return 0;
 }

@@ -13,6 +13,9 @@
 #if BUFPOOL_BYTES(BUFFERS, BUCKETS, PAGE) != 3 * 2048 + 40 + 4 * (3 + 15 + 3 + 5 + 3) || BUFPOOL_INTERFACE < 1
 #error "constants cannot be tested"
 #endif
+#if BUFPOOL_BLOCK_NONE < BUFPOOL_MAX_BLOCKS || BUFPOOL_BUFFER_NONE < BUFPOOL_MAX_BUFFERS
+#error "a number that is none can be a pool's"
+#endif
 #if BUFFERS > BUFPOOL_MAX_BUFFERS || BUCKETS > BUFPOOL_MAX_BUCKETS || PAGE < BUFPOOL_MIN_PAGE || PAGE > BUFPOOL_MAX_PAGE
 #error "not a pool's sizes"
 #endif
@@ -82,7 +85,11 @@ static int nothing_left(struct bufpool *m)
 
 static int row_found(struct bufpool *m)
 {
+    struct bufpool_file tablespace = table, database = table;
     uint32_t block;
+    tablespace.tablespace++;
+    database.database++;
+    SEE(bufpool_row_of(m, tablespace) == NULL && bufpool_row_of(m, database) == NULL);
     SEE(bufpool_row_of(m, table) == rows && bufpool_row_of(m, map) == rows + BUFPOOL_ROW_WORDS && bufpool_row_of(m, other) == NULL);
     SEE(bufpool_extend_file(m, map, &block) == BUFPOOL_DONE && bufpool_row_of(m, map)[BUFPOOL_ROW_AT_BLOCKS] == 1);
     SEE(bufpool_row_of(m, table)[BUFPOOL_ROW_AT_BLOCKS] == 1 && bufpool_row_of(m, table)[BUFPOOL_ROW_AT_CAPACITY] == 4);
