@@ -3,6 +3,7 @@
 
 #include "../layout.h"
 #include "buftag.h"
+#include <stddef.h>
 
 enum {
     NONE,
@@ -53,7 +54,7 @@ uint32_t buftag_hash(uint32_t tablespace, uint32_t database, uint32_t relation, 
 }
 
 uint32_t buftag_bytes(uint32_t tablespace, uint32_t database, uint32_t relation, uint32_t fork, uint32_t block,
-                      uint8_t *out, size_t out_len)
+                      uint8_t *out, uint64_t out_len)
 {
     uint8_t bytes[BUFTAG_NAME_BYTES];
     size_t filled = SLIP == LAST_BYTE_LEFT_OUT ? BUFTAG_NAME_BYTES - 1 : BUFTAG_NAME_BYTES;
@@ -79,13 +80,13 @@ static uint32_t gather(const uint8_t *from)
     return w;
 }
 
-static bool bytes_fit(size_t bytes_len)
+static bool bytes_fit(uint64_t bytes_len)
 {
     return bytes_len == BUFTAG_NAME_BYTES || (SLIP == MORE_BYTES_ACCEPTED && bytes_len > BUFTAG_NAME_BYTES)
         || (SLIP == FEWER_BYTES_ACCEPTED && bytes_len < BUFTAG_NAME_BYTES);
 }
 
-uint32_t buftag_name(const uint8_t *bytes, size_t bytes_len, uint32_t *words, size_t words_len)
+uint32_t buftag_name(const uint8_t *bytes, uint64_t bytes_len, uint32_t *words, uint64_t words_len)
 {
     size_t filled = SLIP == LAST_WORD_LEFT_OUT ? BUFTAG_NAME_WORDS - 1 : BUFTAG_NAME_WORDS;
     uint32_t answer = 0;
