@@ -1,9 +1,9 @@
 /* The three calls with one slip each, chosen by -DSLIP=.., to see that the comparison notices it. With NONE they are right. */
 #include <stdbool.h>
+#include <stddef.h>
 
 #include "../layout.h"
 #include "buftag.h"
-#include <stddef.h>
 
 enum {
     NONE,
