@@ -1,4 +1,5 @@
-/* For LD_PRELOAD: an msync that counts its calls of at least MSYNC_LEAST bytes and says their number at the end; with MSYNC_FAILS these fail. */
+/* For LD_PRELOAD: an msync that counts its calls of at least MSYNC_LEAST bytes and says their number at the end; with MSYNC_FAILS these
+   fail. */
 #define _GNU_SOURCE
 #include <errno.h>
 #include <stdio.h>

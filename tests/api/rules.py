@@ -34,7 +34,8 @@ def main(rules_page, statement, texts):
     wrong = ['not in the statement: %s' % rule for rule in rules if rule not in named]
     wrong += ['no such rule, in the statement: %s' % rule for rule in sorted(named) if rule not in rules + sections]
     for text in texts:
-        wrong += ['no such rule, in %s: %s' % (text, rule) for rule in re.findall(r'\b[Rr]ules? (\d+\.\d+)', read(text)) if rule not in rules]
+        cites = re.findall(r'\b[Rr]ules? (\d+\.\d+)', read(text))
+        wrong += ['no such rule, in %s: %s' % (text, rule) for rule in cites if rule not in rules]
     wrong += ['twice: %s' % rule for rule in set(rules) if rules.count(rule) > 1]
     print('\n'.join(wrong))
     return bool(wrong) or len(rules) < 60 or len(cells) < 60
