@@ -142,13 +142,14 @@ BUFPOOL_INLINE uint64_t bufpool_view_position(const struct bufpool_view *v, uint
 
 /* ---- Snapshots ---- */
 
-#define BUFPOOL_DUMP_MARK "bufdump1"
+#define BUFPOOL_DUMP_MARK "bufdump2"
 
 struct bufpool_dump_head {
     char mark[8];
     uint32_t interface_number, event_bytes; /* BUFPOOL_INTERFACE and sizeof event */
     uint64_t lengths[BUFPOOL_LENGTHS];      /* as lent, in the order of struct bufpool */
     uint64_t kept[BUFPOOL_KEPT_SLICES];     /* how many elements follow, in the order of the numbers above */
+    uint64_t nulls;                         /* a bit for each slice that is a null pointer, in the order of struct bufpool from bit 0 on */
     struct bufpool_event event;
 };
 
@@ -165,6 +166,15 @@ static inline void bufpool_dump_lengths(uint64_t *lengths, const struct bufpool 
     lengths[8] = m->store_len;
 }
 
+BUFPOOL_INLINE uint64_t bufpool_dump_nulls(const struct bufpool *m)
+{
+    const void *const slices[BUFPOOL_LENGTHS] = {m->control, m->states, m->names, m->pool, m->free, m->heads, m->chain, m->rows, m->store};
+    uint64_t nulls = 0;
+    int k;
+    for (k = 0; k < BUFPOOL_LENGTHS; k++) nulls |= (uint64_t)(slices[k] == NULL) << k;
+    return nulls;
+}
+
 static inline void bufpool_dump_fill(struct bufpool_dump_head *head, const struct bufpool_view *v, const struct bufpool_event *event)
 {
     memset(head, 0, sizeof *head);
@@ -173,6 +183,7 @@ static inline void bufpool_dump_fill(struct bufpool_dump_head *head, const struc
     head->event_bytes = sizeof head->event;
     bufpool_dump_lengths(head->lengths, &v->lent);
     memcpy(head->kept, v->kept, sizeof head->kept);
+    head->nulls = bufpool_dump_nulls(&v->lent);
     if (event != NULL) head->event = *event;
 }
 

@@ -1,5 +1,5 @@
 /* damage each FILE           prints a pool with each damage, and writes each to FILE, as a pool of its own: both as bufpool-show prints it
-   damage random FILE COUNT   random damage, printed to nowhere and written to FILE, one pool after the other
+   damage random FILE COUNT   prints pools with random damage, and writes them to FILE, one after the other
    damage bytes FILE COUNT    copies of FILE with random bytes changed: FILE.1, FILE.2 and so on
    damage beyond              lends a slice with a length that its memory does not have: the sanitizer has to stop this one */
 #include <stdlib.h>
@@ -41,10 +41,14 @@ static void link_far(struct bufpool *m) { m->free[2] = INT32_MAX; }
 static void link_low(struct bufpool *m) { m->free[2] = INT32_MIN; }
 static void link_back(struct bufpool *m) { m->free[3] = 2; }
 static void link_early(struct bufpool *m) { m->free[2] = -1; }
-static void no_blocks(struct bufpool *m) { m->control[BUFPOOL_CONTROL_AT_PAGE_SIZE] = 0; }
+static void small_blocks(struct bufpool *m) { m->control[BUFPOOL_CONTROL_AT_PAGE_SIZE] = 3; }
 static void far_blocks(struct bufpool *m) { m->control[BUFPOOL_CONTROL_AT_PAGE_SIZE] = (uint64_t)1 << 63; }
 static void words(struct bufpool *m) { m->states[1] = 1, m->states[3] = UINT32_MAX; }
 static void flushed(struct bufpool *m) { m->control[BUFPOOL_CONTROL_AT_FLUSHED] = 148; }
+static void empty_name(struct bufpool *m) { m->names[BUFPOOL_NAME_WORDS * 2 + BUFPOOL_NAME_AT_BLOCK] = 7; }
+static void no_row(struct bufpool *m) { m->names[BUFPOOL_FILE_AT_FORK] = 2; }
+static void far_head(struct bufpool *m) { m->heads[5] = 4; }
+static void far_page(struct bufpool *m) { m->pool[0] = 1; } /* the log position's high word */
 static void short_control(struct bufpool *m) { LENGTH(m, control, 2); }
 static void no_control(struct bufpool *m) { LENGTH(m, control, 0); }
 static void short_states(struct bufpool *m) { LENGTH(m, states, 1); }
@@ -54,6 +58,18 @@ static void short_pool(struct bufpool *m) { LENGTH(m, pool, 2047); }
 static void short_free(struct bufpool *m) { LENGTH(m, free, 3); }
 static void short_links(struct bufpool *m) { LENGTH(m, heads, 3), LENGTH(m, chain, 3); }
 static void short_rows(struct bufpool *m) { LENGTH(m, rows, 11); }
+
+static void long_control(struct bufpool *m) { LENGTH(m, control, BUFPOOL_CONTROL_WORDS + 1); }
+static void long_names(struct bufpool *m) { LENGTH(m, names, BUFPOOL_NAME_WORDS * BUFPOOL_MAX_BUFFERS + 1); }
+static void long_free(struct bufpool *m) { LENGTH(m, free, BUFPOOL_MAX_BUFFERS + 1); }
+static void long_heads(struct bufpool *m) { LENGTH(m, heads, BUFPOOL_MAX_BUCKETS + 1); }
+static void long_chain(struct bufpool *m) { LENGTH(m, chain, BUFPOOL_MAX_BUFFERS + 1); }
+
+static void long_rows(struct bufpool *m)
+{
+    LENGTH(m, rows, BUFPOOL_ROW_WORDS * (BUFPOOL_MAX_FILES + 1));
+    memset(m->rows + BUFPOOL_ROW_WORDS, 0, BUFPOOL_ROW_WORDS * BUFPOOL_MAX_FILES * sizeof *m->rows);
+}
 
 static void long_states(struct bufpool *m)
 {
@@ -78,6 +94,19 @@ static void null_pages(struct bufpool *m)
     m->pool = NULL;
 }
 
+static void null_store(struct bufpool *m)
+{
+    free(m->store);
+    m->store = NULL;
+}
+
+static void null_rows(struct bufpool *m)
+{
+    free(m->rows);
+    m->rows = NULL;
+    m->rows_len = 0;
+}
+
 static void all_ones(struct bufpool *m)
 {
     memset(m->states, 0xFF, m->states_len * sizeof *m->states);
@@ -90,11 +119,15 @@ static const struct { const char *text; void (*damage)(struct bufpool *m); } cas
     {"sound", nothing}, {"the hand is beyond", hand}, {"the hand is far beyond", far_hand}, {"the free list begins beyond", top},
     {"the free list begins with -2", top_off}, {"the free list begins with a page", top_used}, {"a free link leads far", link_far},
     {"a free link is low", link_low}, {"a free link leads back", link_back}, {"the free list ends early", link_early},
-    {"blocks of 0 bytes", no_blocks}, {"blocks of 2 to the 63 bytes", far_blocks}, {"two state words", words},
+    {"blocks of 3 bytes", small_blocks}, {"blocks of 2 to the 63 bytes", far_blocks}, {"two state words", words},
     {"flushed is beyond inserted", flushed}, {"a short control record", short_control}, {"no control record", no_control},
     {"one state word", short_states}, {"no state word", no_states}, {"names of nine words", short_names}, {"a short pool", short_pool},
     {"three free links", short_free}, {"three heads and chain links", short_links}, {"a row of five words", short_rows},
-    {"1025 state words", long_states}, {"null pointers", null_pointers}, {"no pages", null_pages}, {"all ones", all_ones}};
+    {"1025 state words", long_states}, {"null pointers", null_pointers}, {"no pages", null_pages}, {"all ones", all_ones},
+    {"no store", null_store}, {"no rows, and no pointer", null_rows}, {"an empty buffer has a name", empty_name},
+    {"a page has no row", no_row}, {"a bucket leads far", far_head}, {"a dirty page is beyond the log", far_page},
+    {"six words of the control record", long_control}, {"5121 words of names", long_names}, {"1025 free links", long_free},
+    {"4097 heads", long_heads}, {"1025 chain links", long_chain}};
 
 static void dump(FILE *out, const struct bufpool *m, const char *text, uint32_t pool)
 {
@@ -122,36 +155,38 @@ static void damage_word(struct bufpool *m)
 {
     const uint64_t values[] = {random_below(8), UINT64_MAX - random_below(3), INT32_MAX - (uint64_t)random_below(2), 1024, state};
     uint64_t value = values[random_below(5)];
-    switch (random_below(6)) {
+    switch (random_below(8)) {
     case 0: m->control[random_below(BUFPOOL_CONTROL_WORDS)] = value; break;
     case 1: m->states[random_below((uint32_t)m->states_len)] = (uint32_t)value; break;
     case 2: m->names[random_below((uint32_t)m->names_len)] = (uint32_t)value; break;
     case 3: m->free[random_below((uint32_t)m->free_len)] = (int32_t)value; break;
     case 4: m->rows[random_below((uint32_t)m->rows_len)] = (uint32_t)value; break;
+    case 5: m->heads[random_below((uint32_t)m->heads_len)] = (int32_t)value; break;
+    case 6: m->chain[random_below((uint32_t)m->chain_len)] = (int32_t)value; break;
     default: m->pool[random_below((uint32_t)m->pool_len)] = (uint8_t)value;
     }
 }
 
+/* The last but one has too many rows, and the last has blocks of 0 bytes. */
 static void random_damage(FILE *out, unsigned count)
 {
-    FILE *nowhere = fopen("/dev/null", "w");
     struct bufpool_pinned pinned;
-    see(nowhere != NULL, "/dev/null");
     for (; count > 0; count--) {
         struct bufpool m = some_pool();
         struct bufpool_event event;
-        unsigned words = random_below(6);
+        unsigned words = count > 2 ? random_below(6) : 0;
         for (; words > 0; words--) damage_word(&m);
+        if (count == 2) long_rows(&m);
+        if (count == 1) m.control[BUFPOOL_CONTROL_AT_PAGE_SIZE] = 0;
         pinned.buffer.number = random_below(6);
         pinned.hit = 0;
         pinned.wrote = (int)random_below(2);
         pinned.probes = random_below(30);
         event = bufpool_event_of_pin("", bufpool_name_of(table_file, 5), random_below(8), &pinned);
-        bufpool_print(nowhere, &m);
+        bufpool_print(stdout, &m);
         see(bufpool_dump(out, &m, &event) == 0, "dump");
         give_back(&m);
     }
-    fclose(nowhere);
 }
 
 static void other_bytes(const char *path, unsigned count)

@@ -1,6 +1,7 @@
 /* pools wide       prints a pool of 128 buffers of which one is in use
    pools runs       prints one whose free list is long and has no rising runs, with a name for one file
    pools dump FILE  writes two pools' snapshots, step by step, to one file
+   pools told FILE  writes one pool's, of pages that go and of damage that comes and goes
    pools full       status 0 if a dump on a full device results in -1 */
 #include <stdlib.h>
 
@@ -96,6 +97,94 @@ static void long_sweep(struct day *day)
     pin(day, "till 2", table_file, 1, BUFPOOL_DONE);
 }
 
+static void drop(struct day *day, struct bufpool_file file)
+{
+    see(bufpool_drop_file(&day->m, file) == BUFPOOL_DONE, "drop");
+}
+
+static void extend(struct day *day, struct bufpool_file file)
+{
+    uint32_t block;
+    see(bufpool_extend_file(&day->m, file, &block) == BUFPOOL_DONE, "extend");
+}
+
+/* One buffer. What became of a page is known only where the step before is from right before the sweep. */
+static void pages_go(struct day *day)
+{
+    pin(day, NULL, table_file, 0, BUFPOOL_DONE);
+    write_line(day, 0, 147);
+    unpin(day, 0);
+    note(day, "a page is dirty");
+    drop(day, table_file);
+    pin(day, "its file is dropped: till 1", map_file, 1, BUFPOOL_DONE);
+    unpin(day, 0);
+    drop(day, map_file);
+    extend(day, table_file);
+    pin(day, "that file too: till 2", table_file, 0, BUFPOOL_DONE);
+    write_line(day, 0, 150);
+    note(day, "till 2 writes");
+    unpin(day, 0);
+    extend(day, table_file);
+    pin(day, "two steps in one: till 1", table_file, 1, BUFPOOL_DONE);
+    write_line(day, 0, 160);
+    unpin(day, 0);
+    note(day, "till 1 writes");
+    pin(day, "till 2", table_file, 0, BUFPOOL_DONE);
+    write_line(day, 0, 170);
+    unpin(day, 0);
+    note(day, "till 2 writes");
+    drop(day, table_file);
+    note(day, "its file is dropped");
+}
+
+/* The sweep writes a page back that was loaded and written after the step before: that one's page was clean, and went with its file. */
+static void page_between(struct day *day)
+{
+    extend(day, table_file);
+    extend(day, table_file);
+    pin(day, NULL, table_file, 1, BUFPOOL_DONE);
+    unpin(day, 0);
+    note(day, "a page is clean");
+    drop(day, table_file);
+    extend(day, table_file);
+    extend(day, table_file);
+    pin(day, NULL, table_file, 1, BUFPOOL_DONE);
+    write_line(day, 0, 180);
+    unpin(day, 0);
+    pin(day, "several steps in one: till 1", table_file, 0, BUFPOOL_DONE);
+}
+
+static void damage_comes(struct day *day)
+{
+    day->m.rows[BUFPOOL_ROW_AT_CAPACITY]++;
+    note(day, "a row is damaged");
+    note(day, "and stays so");
+    day->m.rows[BUFPOOL_ROW_AT_CAPACITY]--;
+    day->m.control[BUFPOOL_CONTROL_AT_HAND] = 1;
+    note(day, "the hand instead");
+    day->m.control[BUFPOOL_CONTROL_AT_HAND] = 0;
+    note(day, "all is well");
+    day->m.states[0] ^= 1u << 31;
+    note(day, "a flag is gone");
+    day->m.rows[BUFPOOL_FILE_AT_FORK] = 2;
+    note(day, "a row is another file's");
+    day->m.control[BUFPOOL_CONTROL_AT_PAGE_SIZE] = 3;
+    note(day, "no such blocks");
+    day->m.control[BUFPOOL_CONTROL_AT_PAGE_SIZE] = 5;
+    note(day, "nor these");
+}
+
+static void write_told(const char *path)
+{
+    struct day day = {lend(1, 1, 6), fopen(path, "wb"), 0};
+    see(day.dump != NULL, "a file for the dump");
+    pages_go(&day);
+    page_between(&day);
+    damage_comes(&day);
+    see(fclose(day.dump) == 0, "the dump is closed");
+    give_back(&day.m);
+}
+
 /* The steps of both pools stand one after the other, but for the last, which is the first pool's. */
 static void write_dump(const char *path)
 {
@@ -151,6 +240,8 @@ int main(int argc, char **argv)
 {
     if (argc == 3 && strcmp(argv[1], "dump") == 0) {
         write_dump(argv[2]);
+    } else if (argc == 3 && strcmp(argv[1], "told") == 0) {
+        write_told(argv[2]);
     } else if (argc == 2 && strcmp(argv[1], "wide") == 0) {
         print_wide();
     } else if (argc == 2 && strcmp(argv[1], "runs") == 0) {

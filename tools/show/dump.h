@@ -21,12 +21,19 @@ struct snapshot {
 
 enum reading {
     READ_ONE,
-    READ_END, /* the file ends here, for now */
-    READ_CUT, /* the file ends within a snapshot, for now */
-    READ_BAD  /* what stands here is no snapshot that this program can read */
+    READ_END,   /* the file ends here, for now */
+    READ_CUT,   /* the file ends within a snapshot, for now */
+    READ_BAD,   /* what stands here is no snapshot that this program can read */
+    READ_FAILED /* the system does not let it be read */
 };
 
 /* Reads the next snapshot. Where there is none the file stands as it stood, and why says what is wrong. */
 enum reading dump_read(FILE *dump, struct snapshot *out, char why[BUFPOOL_PAGE_TEXT]);
+
+/* What bufpool_why results in for the pool as it was lent, and its words. */
+uint32_t snapshot_why(const struct snapshot *s, char words[BUFPOOL_WHY_BYTES]);
+
+/* Zeros. Ends the program if there is no memory. */
+void *memory(size_t count, size_t size);
 
 #endif

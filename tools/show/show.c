@@ -1,7 +1,6 @@
 /* bufpool-show: prints pools from the snapshots that tills write with bufpool_dump. --help says how. */
 #define _DEFAULT_SOURCE
 #include <errno.h>
-#include <stdlib.h>
 #include <time.h>
 
 #include "options.h"
@@ -12,27 +11,18 @@ enum { ROUNDS_A_SECOND = 50, MOST_POOLS = 64 };
 /* The two latest snapshots of each pool in the file. */
 struct pool {
     struct snapshot *before, *last;
+    char told[BUFPOOL_WHY_BYTES]; /* see print_step */
 };
 
 struct reader {
     FILE *dump;
-    uint64_t count; /* snapshots read so far, but for ends */
-    int ended;      /* the one read last was an end */
+    uint64_t count, shown; /* snapshots so far, but for ends */
+    int ended;             /* the one read last was an end */
     struct snapshot *next; /* where the next one is read to */
     struct pool pools[MOST_POOLS];
     size_t pools_len;
     char why[BUFPOOL_PAGE_TEXT];
 };
-
-static struct snapshot *new_snapshot(void)
-{
-    struct snapshot *s = calloc(1, sizeof *s);
-    if (s == NULL) {
-        fputs("bufpool-show: no memory\n", stderr);
-        exit(1);
-    }
-    return s;
-}
 
 static struct pool *pool_of(struct reader *r, uint32_t number)
 {
@@ -55,7 +45,7 @@ static struct pool *file_snapshot(struct reader *r, const struct options *o)
     oldest = pool->before;
     pool->before = pool->last;
     pool->last = r->next;
-    r->next = oldest != NULL ? oldest : new_snapshot();
+    r->next = oldest != NULL ? oldest : memory(1, sizeof *r->next);
     return pool;
 }
 
@@ -98,36 +88,47 @@ static enum reading show(struct reader *r, const struct options *o)
     const int each = o->watching || o->from > 0 || o->sweeps;
     struct pool *pool = NULL, *last = NULL;
     enum reading found = READ_END;
-    uint64_t shown = 0;
-    while ((!o->watching || shown < o->watch) && (found = next(r, o, &pool)) == READ_ONE) {
+    while ((!o->watching || r->shown < o->watch) && (found = next(r, o, &pool)) == READ_ONE) {
         if (!wanted(o, pool->last)) continue;
-        if (each) print_step(pool->before, pool->last, o->full);
+        if (each) print_step(pool->before, pool->last, o->full, pool->told);
         last = pool;
-        shown++;
+        r->shown++;
     }
-    if (!each && last != NULL) print_step(last->before, last->last, 1);
+    if (!each && last != NULL) print_step(last->before, last->last, 1, last->told);
     return found;
+}
+
+/* What stopped the reading, or that there was nothing to show, on standard error. Answers the program's status. */
+static int say_end(const struct reader *r, const struct options *o, enum reading found)
+{
+    const int asked = !o->watching || o->watch > 0;
+    if (found == READ_FAILED) {
+        fprintf(stderr, "bufpool-show: %s: %s\n", o->path, r->why);
+    } else if (found == READ_CUT || found == READ_BAD) {
+        fprintf(stderr, "bufpool-show: %s: snapshot %llu is %s\n", o->path, (bufpool_shown)r->count + 1, r->why);
+    } else if (asked && r->count == 0) {
+        fprintf(stderr, "bufpool-show: %s: no snapshot in it\n", o->path);
+    } else if (asked && r->shown == 0) {
+        fprintf(stderr, "bufpool-show: %s: none of %llu snapshots is of those asked for\n", o->path, (bufpool_shown)r->count);
+    } else {
+        return 0;
+    }
+    return 1;
 }
 
 int main(int argc, char **argv)
 {
     const struct options o = options_of(argv);
     static struct reader reader;
-    enum reading found;
+    int status;
     (void)argc;
     reader.dump = fopen(o.path, "rb");
     if (reader.dump == NULL) {
         fprintf(stderr, "bufpool-show: %s: %s\n", o.path, strerror(errno));
         return 1;
     }
-    reader.next = new_snapshot();
-    found = show(&reader, &o);
-    if (found == READ_CUT || found == READ_BAD) {
-        fprintf(stderr, "bufpool-show: %s: snapshot %llu is %s\n", o.path, (bufpool_shown)reader.count + 1, reader.why);
-    } else if (found == READ_END && reader.count == 0 && (!o.watching || o.watch > 0)) {
-        fprintf(stderr, "bufpool-show: %s: no snapshot in it\n", o.path);
-        found = READ_BAD;
-    }
+    reader.next = memory(1, sizeof *reader.next);
+    status = say_end(&reader, &o, show(&reader, &o));
     fclose(reader.dump);
-    return found == READ_CUT || found == READ_BAD || fflush(stdout) != 0 ? 1 : 0;
+    return fflush(stdout) != 0 ? 1 : status;
 }

@@ -1,6 +1,9 @@
 #include "steps.h"
 
-enum { USAGE_LINES = 8 }; /* of buffers of which the usage alone changed, as in a long sweep */
+enum {
+    USAGE_LINES = 8,                              /* of buffers of which the usage alone changed, as in a long sweep */
+    DIRTY_FLAGS = 1 << (23 - 22) | 1 << (28 - 22) /* of a state word's flags, those that a write sets */
+};
 
 /* ", pins 1 -> 2". The first part of a line has a space for the comma. */
 static void part(const char *comma, const char *what, uint64_t from, uint64_t to)
@@ -40,27 +43,34 @@ static void print_same_page(const struct snapshot *before, const struct snapshot
         comma = ", ";
     }
     if (bufpool_state_dirty(was) != bufpool_state_dirty(is)) {
-        printf("%s%s", comma, bufpool_state_dirty(is) ? "clean -> dirty" : "dirty -> clean, written back");
+        printf("%s%s", comma, bufpool_state_dirty(is) ? "clean -> dirty" : "dirty -> clean");
         comma = ", ";
     }
     if (position_of(before, b) != position_of(s, b)) {
         part(comma, "log position", position_of(before, b), position_of(s, b));
         comma = ", ";
     }
-    if (!bufpool_state_sound(is)) printf("%sdamaged: word %08x", comma, is);
+    if ((was ^ is) >> 22 != 0 && (was ^ is) >> 22 != DIRTY_FLAGS) printf("%sstate word 0x%08X -> 0x%08X", comma, was, is);
 }
 
-/* Another page, or none: the old one is evicted for a new one; without a new one it was dropped, or the pool was set up anew. */
+/* What became of a page that is not in the buffer any more. Snapshots have it only of a page that this step's sweep took the buffer from:
+   any other may have been evicted, written back or not, or dropped, or forgotten by a set up. */
+static const char *end_of_page(const struct snapshot *before, const struct snapshot *s, uint64_t b)
+{
+    const int dirty = bufpool_state_dirty(before->states[b]);
+    if (bufpool_state_empty(s->states[b])) return dirty ? "gone, was dirty; empty now" : "gone; empty now";
+    if (step_took(before, s, b)) return s->head.event.pinned.wrote ? "evicted (written back)," : "evicted,";
+    return dirty ? "replaced, was dirty," : "replaced,";
+}
+
+/* Another page, or none. */
 static void print_other_page(const struct snapshot *before, const struct snapshot *s, uint64_t b)
 {
     uint32_t was = before->states[b], is = s->states[b];
     char text[BUFPOOL_PAGE_TEXT];
-    if (!bufpool_state_empty(was)) {
-        printf(" page %s %s", bufpool_page_text(&before->view, b, text), bufpool_state_empty(is) ? "given up, empty now" : "evicted");
-    }
+    if (!bufpool_state_empty(was)) printf(" page %s %s", bufpool_page_text(&before->view, b, text), end_of_page(before, s, b));
     if (bufpool_state_empty(was) && bufpool_state_empty(is)) printf(" empty, and its name or position is another one");
     if (bufpool_state_empty(is)) return;
-    if (!bufpool_state_empty(was)) printf("%s,", bufpool_state_dirty(was) ? " (written back)" : "");
     printf(" page %s loaded: pins %u, usage %u, %s, log position %llu", bufpool_page_text(&s->view, b, text), bufpool_state_pins(is),
            bufpool_state_usage(is), bufpool_state_dirty(is) ? "dirty" : "clean", (bufpool_shown)position_of(s, b));
 }
@@ -110,7 +120,8 @@ static int print_buffer_changes(const struct snapshot *before, const struct snap
 static int print_control_change(const struct snapshot *before, const struct snapshot *s)
 {
     static const struct { const char *what; uint64_t at; } words[] = {
-        {"hand", BUFPOOL_CONTROL_AT_HAND}, {"log inserted", BUFPOOL_CONTROL_AT_INSERTED}, {"log flushed", BUFPOOL_CONTROL_AT_FLUSHED}};
+        {"hand", BUFPOOL_CONTROL_AT_HAND}, {"log inserted", BUFPOOL_CONTROL_AT_INSERTED}, {"log flushed", BUFPOOL_CONTROL_AT_FLUSHED},
+        {"block size", BUFPOOL_CONTROL_AT_PAGE_SIZE}};
     uint64_t was, is;
     size_t k;
     int changed = 0;
@@ -124,17 +135,33 @@ static int print_control_change(const struct snapshot *before, const struct snap
     return changed;
 }
 
+static void print_row_change(const struct snapshot *s, const uint32_t *was, const uint32_t *is)
+{
+    const char *comma = " ";
+    char text[BUFPOOL_PAGE_TEXT];
+    printf("  file %s:", bufpool_file_text(&s->view, is, text));
+    if (was[BUFPOOL_ROW_AT_BLOCKS] != is[BUFPOOL_ROW_AT_BLOCKS]) {
+        part(comma, "blocks", was[BUFPOOL_ROW_AT_BLOCKS], is[BUFPOOL_ROW_AT_BLOCKS]);
+        comma = ", ";
+    }
+    if (was[BUFPOOL_ROW_AT_CAPACITY] != is[BUFPOOL_ROW_AT_CAPACITY]) {
+        part(comma, "capacity", was[BUFPOOL_ROW_AT_CAPACITY], is[BUFPOOL_ROW_AT_CAPACITY]);
+        comma = ", ";
+    }
+    if (memcmp(was, is, BUFPOOL_FILE_WORDS * sizeof *is) != 0) {
+        printf("%sthe row was that of file %s", comma, bufpool_file_text(&s->view, was, text));
+    }
+    putchar('\n');
+}
+
 static int print_file_changes(const struct snapshot *before, const struct snapshot *s)
 {
     uint64_t files = s->view.kept[BUFPOOL_KEPT_ROWS] / BUFPOOL_ROW_WORDS, r;
-    char text[BUFPOOL_PAGE_TEXT];
     int changed = 0;
     for (r = 0; r < files; r++) {
         const uint32_t *was = before->rows + BUFPOOL_ROW_WORDS * r, *is = s->rows + BUFPOOL_ROW_WORDS * r;
         if (memcmp(was, is, BUFPOOL_ROW_WORDS * sizeof *is) == 0) continue;
-        printf("  file %s:", bufpool_file_text(&s->view, is, text));
-        part(" ", "blocks", was[BUFPOOL_ROW_AT_BLOCKS], is[BUFPOOL_ROW_AT_BLOCKS]);
-        printf("%s\n", memcmp(was, is, BUFPOOL_ROW_AT_BLOCKS * sizeof *is) == 0 ? "" : ", and the row was another file's");
+        print_row_change(s, was, is);
         changed = 1;
     }
     return changed;
@@ -146,7 +173,7 @@ static int print_file_changes(const struct snapshot *before, const struct snapsh
 static int comparable(const struct snapshot *before, const struct snapshot *s)
 {
     return before != NULL && memcmp(before->head.lengths, s->head.lengths, sizeof s->head.lengths) == 0
-        && memcmp(before->head.kept, s->head.kept, sizeof s->head.kept) == 0
+        && memcmp(before->head.kept, s->head.kept, sizeof s->head.kept) == 0 && before->head.nulls == s->head.nulls
         && bufpool_view_page_size(&before->view) == bufpool_view_page_size(&s->view);
 }
 
@@ -164,7 +191,7 @@ static void print_changes(const struct snapshot *before, const struct snapshot *
     int changed = print_buffer_changes(before, s, full);
     changed |= print_file_changes(before, s);
     changed |= print_control_change(before, s);
-    printf("%s\n", changed ? "" : same_links(before, s) ? "; nothing changed" : "; links alone changed");
+    printf("%s\n", changed ? "" : same_links(before, s) ? "; no word changed" : "; links alone changed");
 }
 
 /* The till's text. A control character, which would move the terminal, is a dot. */
@@ -195,7 +222,19 @@ static void print_event(const struct snapshot *s)
     putchar('\n');
 }
 
-void print_step(const struct snapshot *before, const struct snapshot *s, int full)
+static void print_reason(const struct snapshot *s, int always, char *told)
+{
+    char words[BUFPOOL_WHY_BYTES] = "";
+    if (snapshot_why(s, words) == BUFPOOL_DONE) {
+        if (told[0] != '\0' && !always) printf("  sound again\n");
+        words[0] = '\0';
+    } else if (always || strcmp(told, words) != 0) {
+        printf("  damaged: %s\n", words);
+    }
+    memcpy(told, words, sizeof words);
+}
+
+void print_step(const struct snapshot *before, const struct snapshot *s, int full, char told[BUFPOOL_WHY_BYTES])
 {
     int compared = comparable(before, s);
     print_event(s);
@@ -205,6 +244,7 @@ void print_step(const struct snapshot *before, const struct snapshot *s, int ful
         printf("  ");
         bufpool_print_view(stdout, &s->view);
     }
+    print_reason(s, full || !compared, told);
     putchar('\n');
     fflush(stdout);
 }

@@ -40,7 +40,8 @@ static int probe(struct sweep *sweep, const struct snapshot *before)
     return 0;
 }
 
-/* Whether a sweep from the snapshot before ends as this pin did. It does not if the till wrote no snapshot right before the pin. */
+/* Whether a sweep from the snapshot before ends as this pin did: with that buffer, and a dirty page in it if one was written back. It does
+   not if the till wrote no snapshot right before the pin. */
 static int follows(const struct snapshot *before, const struct snapshot *s)
 {
     uint64_t probes = probes_of(s), k, at = 0;
@@ -54,7 +55,14 @@ static int follows(const struct snapshot *before, const struct snapshot *s)
         taken = probe(&sweep, before);
     }
     if (s->head.event.refusal == BUFPOOL_ALL_PINNED) return !taken;
-    return taken && k == probes && at == s->head.event.pinned.buffer.number;
+    return taken && k == probes && at == s->head.event.pinned.buffer.number
+        && bufpool_state_dirty(before->states[at]) == (s->head.event.pinned.wrote != 0);
+}
+
+int step_took(const struct snapshot *before, const struct snapshot *s, uint64_t b)
+{
+    const struct bufpool_event *event = &s->head.event;
+    return step_swept(s) && event->refusal == BUFPOOL_DONE && event->pinned.buffer.number == b && follows(before, s);
 }
 
 static void print_probe(const struct sweep *sweep, const struct snapshot *before, const struct snapshot *s, uint64_t k)
@@ -75,7 +83,8 @@ void print_sweep(const struct snapshot *before, const struct snapshot *s, int al
     uint64_t probes = probes_of(s), k;
     struct sweep sweep;
     if (!follows(before, s)) {
-        printf("  sweep: %llu probe%s; there is no snapshot from right before the pin\n", (bufpool_shown)probes, probes == 1 ? "" : "s");
+        printf("  sweep: %llu probe%s%s; there is no snapshot from right before the pin\n", (bufpool_shown)probes, probes == 1 ? "" : "s",
+               s->head.event.pinned.wrote ? ", and a page written back" : "");
         return;
     }
     begin(&sweep, before);
