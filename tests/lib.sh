@@ -20,6 +20,22 @@ check() { # NAME COMMAND [ARGUMENT..]
     if "$@"; then pass "$name"; else fail "$name"; fi
 }
 
+# A command ends with status 0 and writes exactly a text, to standard output.
+writes() { # TEXT COMMAND [ARGUMENT..]
+    local text=$1
+    shift
+    "$@" >"$room/wrote" && diff "$text" "$room/wrote"
+}
+
+# A command refuses: this status, and a line on standard error that has these words.
+refuses() { # STATUS WORDS COMMAND [ARGUMENT..]
+    local status=$1 words=$2 was
+    shift 2
+    "$@" >"$room/wrote" 2>"$room/said"
+    was=$?
+    [ "$was" -eq "$status" ] && grep -qF -- "$words" "$room/said"
+}
+
 # Beside rt ci (GATE, see .ci/run) a test waits until these crates are proved, or rt ci has ended.
 proved_first() { # CRATE..
     local crate
