@@ -130,5 +130,5 @@ int main(int argc, char **argv)
     reader.next = memory(1, sizeof *reader.next);
     status = say_end(&reader, &o, show(&reader, &o));
     fclose(reader.dump);
-    return fflush(stdout) != 0 ? 1 : status;
+    return fflush(stdout) != 0 || ferror(stdout) ? 1 : status;
 }
