@@ -118,15 +118,23 @@ static void *fresh(uint64_t bytes)
     return memset(memory, 0xA5, bytes + 1);
 }
 
+/* The power of two from twice the buffers on. */
+static uint64_t buckets_for(uint32_t buffers)
+{
+    uint64_t buckets = 1;
+    while (buckets < 2 * (uint64_t)buffers) buckets *= 2;
+    return buckets;
+}
+
 void shop_start(struct shop *shop, int fd, uint32_t buffers)
 {
     struct bufpool *m = &shop->pool;
-    uint64_t page, bytes;
+    uint64_t page, bytes, buckets = buckets_for(buffers);
     map_card(shop, fd);
     page = shop->card->page_size;
-    bytes = bufpool_bytes(buffers, buffers, page);
+    bytes = bufpool_bytes(buffers, buckets, page);
     shop->memory = fresh(bytes);
-    if (bufpool_lend(m, shop->memory, bytes, buffers, buffers, page, shop->card->rows, FILES) != BUFPOOL_DONE) {
+    if (bufpool_lend(m, shop->memory, bytes, buffers, buckets, page, shop->card->rows, FILES) != BUFPOOL_DONE) {
         stop("there is no pool of %u buffers with blocks of %llu bytes", buffers, (unsigned long long)page);
     }
     m->store = (uint8_t *)shop->card + page;

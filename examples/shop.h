@@ -2,7 +2,8 @@
 
    The card is one file, mapped whole: a block of the shop's own notes, then the store. A change in the mapping is a change of the
    file. The file rows stand among the notes and are lent from there, so that the block count that an extend raises is in the file
-   with no further step, and the next start finds it. Everything else that is lent is ordinary memory, lost at the end. */
+   with no further step, and the next start finds it. A till that has to outlast a power cut saves them apart, after the store
+   (docs/CARD.md). Everything else that is lent is ordinary memory, lost at the end. */
 #ifndef SHOP_H
 #define SHOP_H
 

@@ -2,6 +2,8 @@
 # What the runs of the folders beside this file share. Each says, from its own folder: . "$(dirname "$0")/../lib.sh"
 # It goes to the top of the repository, makes the temporary folder $room, and counts what is checked.
 set -u
+export LC_ALL=C # tests read what make and compilers say
+ulimit -c 0     # some programs are to fault
 here=$(cd "$(dirname "$0")" && pwd) || exit 2
 cd "$here/../.." || exit 2
 room=$(mktemp -d) || exit 2

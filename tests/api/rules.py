@@ -34,7 +34,9 @@ def main(rules_page, statement, texts):
     wrong = ['not in the statement: %s' % rule for rule in rules if rule not in named]
     wrong += ['no such rule, in the statement: %s' % rule for rule in sorted(named) if rule not in rules + sections]
     for text in texts:
-        cites = re.findall(r'\b[Rr]ules? (\d+\.\d+)', read(text))
+        # 'rule 4.1', 'rules 3.1 to 3.3', 'rules 5.15, 5.16 and 6.1'
+        cites = [rule for run in re.findall(r'\b[Rr]ules? (\d+\.\d+(?:(?:,| and| to| or) \d+\.\d+)*)', read(text))
+                 for rule in re.findall(r'\d+\.\d+', run)]
         wrong += ['no such rule, in %s: %s' % (text, rule) for rule in cites if rule not in rules]
     wrong += ['twice: %s' % rule for rule in set(rules) if rules.count(rule) > 1]
     print('\n'.join(wrong))
