@@ -10,7 +10,7 @@ use Rattle.bufmodel.specs.Sizes.{soundRows}
 
 -- every buffer has a name and a page, and the store is that of the rows
 pub record Stored (m : Memory) : Type 0 where
-  pub page : 8 ≤ size m
+  pub page : 128 ≤ size m
   pub names : length (m .names) ≡ nameWords * buffers m
   pub pool : length (m .pool) ≡ buffers m * size m
   pub rows : soundRows (m .rows) ≡ true

@@ -1,4 +1,4 @@
-// Peek: where a page lies, in the pool if it is held, else in the store.
+// Peek: where a page lies, in the pool if it is held, else in the store, whose block is verified.
 
 ghost use mathlib.Core.Path.{_≡_};
 ghost use Rattle.bufmodel.specs.Memory.{memory};
@@ -6,10 +6,12 @@ ghost use Rattle.bufmodel.specs.Answer.{peekedNumber, peekedWords, peekedOf};
 ghost use Rattle.bufmodel.specs.Calls.{part, peek};
 use bufbooks::lent::refusal;
 use bufmem::page::page_offset;
+use bufmem::seal::passes_block;
 use bufmem::seek::Sought;
 use bufmem::seek::seek;
 use bufmodel::answer::Peeked;
 use bufmodel::control::Control;
+use bufmodel::refusal::CHECKSUM;
 use buftag::lookup::Held;
 use buftag::lookup::look_up;
 use buftag::name::PageName;
@@ -62,6 +64,9 @@ pub fn peek_at(
         Sought::Refused(n) => Peeked::Refused(n),
         Sought::At(g) => {
             let Held::At(buffer) = look_up(heads, chain, names, name) else {
+                if !passes_block(store, g, control.size, name.block) {
+                    return Peeked::Refused(CHECKSUM);
+                }
                 return Peeked::InStore((g * control.size) as u64);
             };
             Peeked::InPool(page_offset(pool, control.size, buffer) as u64)

@@ -1,4 +1,5 @@
 pub mod Rows
 pub mod Place
 pub mod Control
+pub mod Checksum
 pub mod Seek

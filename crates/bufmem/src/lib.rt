@@ -1,12 +1,14 @@
-// The leaves over lent memory: control words, state words, log positions, file rows, blocks of bytes, pages.
+// The leaves over lent memory: control words, state words, log positions, file rows, blocks of bytes, pages, checksums.
 
 pub mod block;
+pub mod checksum;
 pub mod control;
 pub mod flag;
 pub mod page;
 pub mod place;
 pub mod position;
 pub mod rows;
+pub mod seal;
 pub mod seek;
 pub mod state;
 pub mod word;

@@ -5,10 +5,13 @@ ghost use Prim.Native.Nat.{_+_, _*_, _≤_};
 ghost use lib.ListN.{length, take, drop};
 ghost use Rattle.laws.specs.Block.{block, putBlock};
 ghost use Rattle.bufmodel.specs.Position.{position as pagePosition, written};
+ghost use Rattle.bufmodel.specs.Checksum.{sealed};
 use crate::block::copy_block;
 use crate::block::copy_page;
 use crate::position::position_at;
 use crate::position::put_position;
+use crate::seal::seal;
+use buftag::number::BlockNumber;
 use buftag::number::BufferNumber;
 
 // Where a page begins in the pool, in bytes.
@@ -67,12 +70,25 @@ pub fn write_page(
     write_bytes(&mut pool[a..e], from, bytes, position);
 }
 
-// A page goes to place `g` of the store.
-pub fn page_to_store(store: &mut [u8], g: usize, pool: &[u8], buffer: BufferNumber, size: usize)
-    requires { ⌜ (g * size + size ≤ length (now store)) × (buffer .0 * size + size ≤ length (now pool)) ⌝ }
-    ensures { λ _. ⌜ now (store .exit) ≡ putBlock size g (block size (buffer .0) (now (pool .entry))) (now (store .entry)) ⌝ }
+// A page goes to place `g` of the store with the checksum of block `number` of its file.
+pub fn page_to_store(
+    store: &mut [u8],
+    g: usize,
+    pool: &[u8],
+    buffer: BufferNumber,
+    size: usize,
+    number: BlockNumber,
+)
+    requires { ⌜ (128 ≤ size) × (g * size + size ≤ length (now store))
+        × (buffer .0 * size + size ≤ length (now pool)) ⌝ }
+    ensures { λ _.
+        ⌜ now (store .exit)
+        ≡ putBlock size g (sealed (number .0) (block size (buffer .0) (now (pool .entry)))) (now (store .entry)) ⌝ }
 {
     copy_block(store, g, pool, buffer.0, size);
+    let a = g * size;
+    let e = a + size;
+    seal(&mut store[a..e], number);
 }
 
 // A page comes from place `g` of the store: its part of the pool is lent on and filled.

@@ -34,7 +34,7 @@ use Rattle.bufmodel.specs.Memory.{
 use Rattle.bufmodel.specs.Sizes.{sizedFor}
 use Rattle.bufmodel.specs.Moves.{writeBack, writeUpTo, ofFile, releaseUpTo}
 use Rattle.bufmodel.specs.Outcome.{Outcome, Place, place, refusalOf, checked, zeros, one, two, done, outcome}
-use Rattle.bufmodel.specs.Pin.{noRow, namePlaces, heldIn}
+use Rattle.bufmodel.specs.Pin.{noRow, pagePlaces, heldIn}
 
 -- ---- set up: all buffers and chains empty; free list 0, 1, .. N−1; hand 0; both positions as given. Pool, rows and store untouched
 -- n free links, the first of buffer i, each to the next buffer
@@ -103,7 +103,7 @@ unfoldable pub checkpoint : Memory → Outcome
 checkpoint m =
     outcome (checked m []) [] m (done (one (count (buffers m) (λ i. dirty (wordOf m i)))) [] (writeUpTo (buffers m) m))
 
--- ---- peek: the pool's page if held, else the store's block, as 1 or 0 and a byte offset
+-- ---- peek: the pool's page if held, else the store's block if it passes, as 1 or 0 and a byte offset
 unfoldable pub offsetOf : Memory → Found → ℕ
 offsetOf m (found g) = g * size m
 offsetOf m missing = 0
@@ -126,7 +126,7 @@ unfoldable pub part : Outcome → List ℕ
 part o = partAt (o .refusal) o
 
 unfoldable pub peek : Memory → PageName → Outcome
-peek m n = outcome (checked m (namePlaces (m .rows) n [])) [] m (done (partOf m n (heldIn m n)) [] m)
+peek m n = outcome (checked m (pagePlaces m n [])) [] m (done (partOf m n (heldIn m n)) [] m)
 
 -- ---- calls on a file
 -- 13, blocks = capacity

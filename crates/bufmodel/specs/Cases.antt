@@ -1,6 +1,6 @@
 -- The marked cases A to J of document 01 ("Pages on the bench"), and unmarked ones: one list, which one theorem covers.
-use Prim.Native.Nat.{ℕ, _*_}
-use mathlib.Core.Path.{_≡_, refl}
+use Prim.Native.Nat.{ℕ, _*_, _/_, _%_}
+use mathlib.Core.Path.{_≡_, refl, sym, ap, ap₂, _∙_}
 use mathlib.Core.List.{List, [], _∷_, _++_}
 use lib.ListN.{getD, take, drop, replicate}
 use lib.IntN.{ℤ, pos, negsuc}
@@ -54,14 +54,19 @@ abbrev block : ℕ → Call
 block b = Pin (nameOf 1663 5 16384 0 b)
 
 -- The same with two files, a table and its free space map, of capacities 2 and 3. Blocks 0 and 1 of the store are the table's, which has
--- one block yet; 2, 3 and 4 are the map's, which has two. The bytes behind a page's log position tell the block
-abbrev page : ℕ → List ℕ
-page k = replicate 8 0 ++ replicate 1016 k
+-- one block yet; 2, 3 and 4 are the map's, which has two. Two bytes behind a page's checksum, here the first argument, tell the block.
+-- Those at or above the count have checksums of nothing
+abbrev page : ℕ → ℕ → List ℕ
+page s k = replicate 8 0 ++ (s % 256 ∷ s / 256 ∷ k ∷ k ∷ replicate 1012 0)
 
 unfoldable pub twoFiles : Memory
 twoFiles =
     withRows (1663 ∷ 5 ∷ 16384 ∷ 0 ∷ 1 ∷ 2 ∷ 1663 ∷ 5 ∷ 16384 ∷ 1 ∷ 2 ∷ 3 ∷ [])
-    (withStore (page 10 ++ (page 11 ++ (page 12 ++ (page 13 ++ page 14)))) bench)
+    (withStore (page 0 0 ++ (page 11 11 ++ (page 30775 12 ++ (page 51162 13 ++ page 14 14)))) bench)
+
+-- The bench with one byte turned in block 3, which has no checksum
+unfoldable pub damaged : Memory
+damaged = withStore (replicate 3084 0 ++ (1 ∷ replicate 2035 0)) bench
 
 abbrev mapFile : FileName
 mapFile = fileOf 1663 5 16384 1
@@ -71,6 +76,9 @@ mapBlock b = Pin (nameOf 1663 5 16384 1 b)
 
 abbrev mapPeek : ℕ → Call
 mapPeek b = Peek (nameOf 1663 5 16384 1 b)
+
+abbrev peek : ℕ → Call
+peek b = Peek (nameOf 1663 5 16384 0 b)
 
 -- ---- what is seen. These are definitions and not abbreviations, so that the checker computes the memory once for all that is read off it
 -- the memory after set up and these calls
@@ -85,15 +93,15 @@ seen m before calls = answers (after m before) calls
 unfoldable pub bytes : Memory → List Call → ℕ → ℕ → ℕ → List ℕ
 bytes m before buffer from n = step (after m before) (Read buffer from (replicate n 0)) .bytes
 
--- the bytes from 4 to 9 of each of five blocks of the store, after some calls
+-- the bytes from 4 to 12 of each of five blocks of the store, after some calls
 unfoldable pub blocks : Memory → List Call → List (List ℕ)
 blocks m calls =
     let store = after m calls .store in
-    take 6 (drop 4 store)
-    ∷ take 6 (drop 1028 store)
-    ∷ take 6 (drop 2052 store)
-    ∷ take 6 (drop 3076 store)
-    ∷ take 6 (drop 4100 store)
+    take 9 (drop 4 store)
+    ∷ take 9 (drop 1028 store)
+    ∷ take 9 (drop 2052 store)
+    ∷ take 9 (drop 3076 store)
+    ∷ take 9 (drop 4100 store)
     ∷ []
 
 -- calls as C makes them: each one's result and answer, and the control words that it leaves
@@ -149,7 +157,7 @@ write position = Write 0 8 (1 ∷ []) position
 
 -- block 0 written to and unpinned; then its buffer taken by block 3, and from that by block 0 again
 abbrev dirtied : List Call
-dirtied = three ++ (Write 0 8 (77 ∷ 78 ∷ []) 90 ∷ Unpin 0 ∷ [])
+dirtied = three ++ (Write 0 10 (77 ∷ 78 ∷ []) 90 ∷ Unpin 0 ∷ [])
 
 abbrev back : List Call
 back = block 3 ∷ Unpin 0 ∷ block 0 ∷ []
@@ -161,7 +169,7 @@ spread = block 0 ∷ mapBlock 1 ∷ mapBlock 0 ∷ []
 
 abbrev settled : List Call
 settled =
-    Write 1 8 (77 ∷ []) 91 ∷ Flush 1 ∷ Flush 1 ∷ Write 0 8 (78 ∷ []) 90 ∷ Write 2 8 (79 ∷ []) 92 ∷ Checkpoint ∷ Checkpoint ∷ []
+    Write 1 12 (77 ∷ []) 91 ∷ Flush 1 ∷ Flush 1 ∷ Write 0 12 (78 ∷ []) 90 ∷ Write 2 12 (79 ∷ []) 92 ∷ Checkpoint ∷ Checkpoint ∷ []
 
 -- ---- what the definitions give, beside what document 01 says
 pub data Letter : Type 0 where
@@ -190,8 +198,9 @@ linked l g s = record { letter = l; gives = g; says = s }
 abbrev just : ℕ → List (List ℕ)
 just k = (k ∷ []) ∷ []
 
-unfoldable pub cases : List Case
-cases =
+-- document 01's, and others on the bench
+unfoldable pub benchCases : List Case
+benchCases =
     -- Name {16821, 16384, 37721, 0, 7}
     case A (nameBytes (nameOf 16821 16384 37721 0 7) ∷ [])
     ((0xB5 ∷ 0x41 ∷ 0 ∷ 0 ∷ 0 ∷ 0x40 ∷ 0 ∷ 0 ∷ 0x59 ∷ 0x93 ∷ 0 ∷ 0 ∷ 0 ∷ 0 ∷ 0 ∷ 0 ∷ 7 ∷ 0 ∷ 0 ∷ 0 ∷ []) ∷ [])
@@ -224,32 +233,10 @@ cases =
     ∷ linked J (linksAfter bench (unpinned ++ (Drop file ∷ []))) (links (negsuc 0 ∷ pos 0 ∷ pos 1 ∷ []) (pos 2))
     -- A page that is loaded, and the same page held: hit
     ∷ case unmarked (seen bench (block 0 ∷ block 1 ∷ []) (block 2 ∷ block 2 ∷ [])) (at 2 0 ∷ (0 ∷ 2 ∷ 1 ∷ 0 ∷ 0 ∷ []) ∷ [])
-    -- A dirty victim is written back before its buffer is loaded again, a clean one is not; the page comes back with what was written
+    -- A dirty victim is written back before its buffer is loaded again, a clean one is not; the page comes back with what was written,
+    -- and with the checksum that write-back gave it
     ∷ case unmarked (seen bench dirtied back) ((0 ∷ 0 ∷ 0 ∷ 1 ∷ 4 ∷ []) ∷ only 0 ∷ at 0 6 ∷ [])
-    ∷ case unmarked (bytes bench (dirtied ++ back) 0 4 6 ∷ []) ((90 ∷ 0 ∷ 0 ∷ 0 ∷ 77 ∷ 78 ∷ []) ∷ [])
-    -- Two files: the map's pages are read from their places behind the table's full capacity, and flush and checkpoint put them there
-    ∷ case unmarked (bytes twoFiles spread 1 6 4 ∷ bytes twoFiles spread 2 6 4 ∷ [])
-    ((0 ∷ 0 ∷ 13 ∷ 13 ∷ []) ∷ (0 ∷ 0 ∷ 12 ∷ 12 ∷ []) ∷ [])
-    ∷ case unmarked (seen twoFiles spread settled) (only 0 ∷ counted 1 ∷ counted 0 ∷ only 0 ∷ only 0 ∷ counted 2 ∷ counted 0 ∷ [])
-    ∷ case unmarked (blocks twoFiles (spread ++ settled))
-    ((90 ∷ 0 ∷ 0 ∷ 0 ∷ 78 ∷ 10 ∷ [])
-    ∷ (0 ∷ 0 ∷ 0 ∷ 0 ∷ 11 ∷ 11 ∷ [])
-    ∷ (92 ∷ 0 ∷ 0 ∷ 0 ∷ 79 ∷ 12 ∷ [])
-    ∷ (91 ∷ 0 ∷ 0 ∷ 0 ∷ 77 ∷ 13 ∷ [])
-    ∷ (0 ∷ 0 ∷ 0 ∷ 0 ∷ 14 ∷ 14 ∷ [])
-    ∷ [])
-    -- A peek of a page in the pool, and of one in the store: 1 or 0, and the byte offset
-    ∷ case unmarked (seen twoFiles (block 0 ∷ mapBlock 1 ∷ []) (mapPeek 1 ∷ mapPeek 0 ∷ []))
-    ((0 ∷ 1 ∷ 1024 ∷ 0 ∷ 0 ∷ []) ∷ (0 ∷ 0 ∷ 2048 ∷ 0 ∷ 0 ∷ []) ∷ [])
-    -- An extend's block is the next one of its file
-    ∷ case unmarked (seen twoFiles [] (Extend file ∷ Extend mapFile ∷ Extend mapFile ∷ [])) (counted 1 ∷ counted 2 ∷ only 13 ∷ [])
-    ∷ case unmarked (blocks twoFiles (Extend file ∷ Extend mapFile ∷ []))
-    ((0 ∷ 0 ∷ 0 ∷ 0 ∷ 10 ∷ 10 ∷ [])
-    ∷ (0 ∷ 0 ∷ 0 ∷ 0 ∷ 0 ∷ 0 ∷ [])
-    ∷ (0 ∷ 0 ∷ 0 ∷ 0 ∷ 12 ∷ 12 ∷ [])
-    ∷ (0 ∷ 0 ∷ 0 ∷ 0 ∷ 13 ∷ 13 ∷ [])
-    ∷ (0 ∷ 0 ∷ 0 ∷ 0 ∷ 0 ∷ 0 ∷ [])
-    ∷ [])
+    ∷ case unmarked (bytes bench (dirtied ++ back) 0 4 8 ∷ []) ((90 ∷ 0 ∷ 0 ∷ 0 ∷ 141 ∷ 142 ∷ 77 ∷ 78 ∷ []) ∷ [])
     -- From C: the control words are P, hand, top of the free list with −1 as 64 one bits, inserted, flushed
     ∷ case unmarked
     (told bench unpinned (1024 ∷ 2 ∷ 18446744073709551615 ∷ 200 ∷ 150 ∷ [])
@@ -267,16 +254,50 @@ cases =
     ∷ [])
     ∷ []
 
+-- two files
+unfoldable pub fileCases : List Case
+fileCases =
+    -- Two files: the map's pages are read from their places behind the table's full capacity, and flush and checkpoint put them there
+    case unmarked (bytes twoFiles spread 1 8 4 ∷ bytes twoFiles spread 2 8 4 ∷ [])
+    ((218 ∷ 199 ∷ 13 ∷ 13 ∷ []) ∷ (55 ∷ 120 ∷ 12 ∷ 12 ∷ []) ∷ [])
+    ∷ case unmarked (seen twoFiles spread settled) (only 0 ∷ counted 1 ∷ counted 0 ∷ only 0 ∷ only 0 ∷ counted 2 ∷ counted 0 ∷ [])
+    ∷ case unmarked (blocks twoFiles (spread ++ settled))
+    ((90 ∷ 0 ∷ 0 ∷ 0 ∷ 213 ∷ 107 ∷ 0 ∷ 0 ∷ 78 ∷ [])
+    ∷ (0 ∷ 0 ∷ 0 ∷ 0 ∷ 11 ∷ 0 ∷ 11 ∷ 11 ∷ 0 ∷ [])
+    ∷ (92 ∷ 0 ∷ 0 ∷ 0 ∷ 131 ∷ 187 ∷ 12 ∷ 12 ∷ 79 ∷ [])
+    ∷ (91 ∷ 0 ∷ 0 ∷ 0 ∷ 32 ∷ 250 ∷ 13 ∷ 13 ∷ 77 ∷ [])
+    ∷ (0 ∷ 0 ∷ 0 ∷ 0 ∷ 14 ∷ 0 ∷ 14 ∷ 14 ∷ 0 ∷ [])
+    ∷ [])
+    -- A peek of a page in the pool, and of one in the store: 1 or 0, and the byte offset
+    ∷ case unmarked (seen twoFiles (block 0 ∷ mapBlock 1 ∷ []) (mapPeek 1 ∷ mapPeek 0 ∷ []))
+    ((0 ∷ 1 ∷ 1024 ∷ 0 ∷ 0 ∷ []) ∷ (0 ∷ 0 ∷ 2048 ∷ 0 ∷ 0 ∷ []) ∷ [])
+    -- An extend's block is the next one of its file
+    ∷ case unmarked (seen twoFiles [] (Extend file ∷ Extend mapFile ∷ Extend mapFile ∷ [])) (counted 1 ∷ counted 2 ∷ only 13 ∷ [])
+    ∷ case unmarked (blocks twoFiles (Extend file ∷ Extend mapFile ∷ []))
+    (replicate 9 0
+    ∷ replicate 9 0
+    ∷ (0 ∷ 0 ∷ 0 ∷ 0 ∷ 55 ∷ 120 ∷ 12 ∷ 12 ∷ 0 ∷ [])
+    ∷ (0 ∷ 0 ∷ 0 ∷ 0 ∷ 218 ∷ 199 ∷ 13 ∷ 13 ∷ 0 ∷ [])
+    ∷ replicate 9 0
+    ∷ [])
+    ∷ []
+
+-- checksums
+unfoldable pub sumCases : List Case
+sumCases =
+    -- The pool's page keeps its own bytes 8 and 9
+    case unmarked (bytes twoFiles (spread ++ settled) 1 8 2 ∷ []) ((218 ∷ 199 ∷ []) ∷ [])
+    -- A block without its checksum: 17, after 4 and before a victim is sought. A drop takes it out, and an extend's block is of zeros
+    ∷ case unmarked (seen damaged three (block 3 ∷ peek 3 ∷ block 4 ∷ [])) (only 17 ∷ only 17 ∷ only 4 ∷ [])
+    ∷ case unmarked
+    (seen damaged (Drop file ∷ replicate 4 (Extend file)) (block 3 ∷ peek 3 ∷ [])) (at 0 0 ∷ (0 ∷ 1 ∷ 0 ∷ 0 ∷ 0 ∷ []) ∷ [])
+    ∷ []
+
+unfoldable pub cases : List Case
+cases = benchCases ++ (fileCases ++ sumCases)
+
+-- what the definitions give: where this unfolds, they compute
 unfoldable pub given : List Case → List Shown
-given [] = []
-given (c ∷ cs) = c .gives ∷ given cs
-
-unfoldable pub said : List Case → List Shown
-said [] = []
-said (c ∷ cs) = c .says ∷ said cs
-
--- ---- THE CASES
-pub cases-hold : given cases ≡ said cases
 unfolding Rattle.laws.specs.Every.all Rattle.laws.specs.Every.any Rattle.laws.specs.Sum.sum Rattle.laws.specs.Sum.count
     Rattle.laws.specs.Times.times Rattle.laws.specs.Times.without Rattle.laws.specs.First.first Rattle.laws.specs.Block.block
     Rattle.laws.specs.Block.putBlock Rattle.bufhash.specs.Fnv.fnvStep Rattle.buftag.specs.Name.hashOf
@@ -293,7 +314,13 @@ unfolding Rattle.laws.specs.Every.all Rattle.laws.specs.Every.any Rattle.laws
     Rattle.bufmodel.specs.Word.pinMore Rattle.bufmodel.specs.Word.pinLess Rattle.bufmodel.specs.Word.useLess
     Rattle.bufmodel.specs.Word.makeDirty Rattle.bufmodel.specs.Word.makeClean Rattle.bufmodel.specs.Word.loaded
     Rattle.bufmodel.specs.Position.position Rattle.bufmodel.specs.Position.positionBytes
-    Rattle.bufmodel.specs.Position.paste Rattle.bufmodel.specs.Position.written Rattle.bufmodel.specs.Rows.files
+    Rattle.bufmodel.specs.Position.paste Rattle.bufmodel.specs.Position.written
+    Rattle.bufmodel.specs.Checksum.bareFrom Rattle.bufmodel.specs.Checksum.sumIn
+    Rattle.bufmodel.specs.Checksum.mixSum Rattle.bufmodel.specs.Checksum.sumTo Rattle.bufmodel.specs.Checksum.sumOf
+    Rattle.bufmodel.specs.Checksum.wordsIn Rattle.bufmodel.specs.Checksum.foldTo
+    Rattle.bufmodel.specs.Checksum.checksum
+    Rattle.bufmodel.specs.Checksum.allZero Rattle.bufmodel.specs.Checksum.sealed
+    Rattle.bufmodel.specs.Checksum.passes Rattle.bufmodel.specs.Rows.files
     Rattle.bufmodel.specs.Rows.fileAt Rattle.bufmodel.specs.Rows.blocksAt Rattle.bufmodel.specs.Rows.capacityAt
     Rattle.bufmodel.specs.Rows.setBlocks Rattle.bufmodel.specs.Rows.rowOf Rattle.bufmodel.specs.Rows.startOf
     Rattle.bufmodel.specs.Rows.storeBlocks Rattle.bufmodel.specs.Rows.placeIn Rattle.bufmodel.specs.Rows.placeOf
@@ -311,7 +338,8 @@ unfolding Rattle.laws.specs.Every.all Rattle.laws.specs.Every.any Rattle.laws
     Rattle.bufmodel.specs.Outcome.refusalOf Rattle.bufmodel.specs.Outcome.checked
     Rattle.bufmodel.specs.Outcome.outcome Rattle.bufmodel.specs.Pin.noRow Rattle.bufmodel.specs.Pin.noBlock
     Rattle.bufmodel.specs.Pin.countFull Rattle.bufmodel.specs.Pin.noVictim Rattle.bufmodel.specs.Pin.heldIn
-    Rattle.bufmodel.specs.Pin.namePlaces Rattle.bufmodel.specs.Pin.pinPlaces Rattle.bufmodel.specs.Pin.pinHeld
+    Rattle.bufmodel.specs.Pin.sumDiffers Rattle.bufmodel.specs.Pin.namePlaces
+    Rattle.bufmodel.specs.Pin.pagePlaces Rattle.bufmodel.specs.Pin.pinPlaces Rattle.bufmodel.specs.Pin.pinHeld
     Rattle.bufmodel.specs.Pin.pinFree Rattle.bufmodel.specs.Pin.pinVictim Rattle.bufmodel.specs.Pin.pinSwept
     Rattle.bufmodel.specs.Pin.pinNew Rattle.bufmodel.specs.Pin.pinTo Rattle.bufmodel.specs.Pin.pin
     Rattle.bufmodel.specs.Calls.freeLinks Rattle.bufmodel.specs.Calls.fresh Rattle.bufmodel.specs.Calls.setUp
@@ -326,6 +354,40 @@ unfolding Rattle.laws.specs.Every.all Rattle.laws.specs.Every.any Rattle.laws
     Rattle.bufmodel.specs.Step.memoryAfter Rattle.bufmodel.specs.Step.answers
     Rattle.bufmodel.specs.Lent.topOf Rattle.bufmodel.specs.Lent.topWord Rattle.bufmodel.specs.Lent.controlOf
     Rattle.bufmodel.specs.Lent.wordsOf Rattle.bufmodel.specs.Lent.opened Rattle.bufmodel.specs.Lent.closed
-    Rattle.bufmodel.specs.Lent.ended Rattle.bufmodel.specs.Lent.called bench twoFiles after seen bytes blocks results told
-    linksAfter cases given said
-cases-hold = refl
+    Rattle.bufmodel.specs.Lent.ended Rattle.bufmodel.specs.Lent.called bench twoFiles damaged after seen bytes blocks results told linksAfter
+given [] = []
+given (c ∷ cs) = c .gives ∷ given cs
+
+unfoldable pub said : List Case → List Shown
+said [] = []
+said (c ∷ cs) = c .says ∷ said cs
+
+-- ---- THE CASES
+bench-hold : given benchCases ≡ said benchCases
+unfolding benchCases given said
+bench-hold = refl
+
+file-hold : given fileCases ≡ said fileCases
+unfolding fileCases given said
+file-hold = refl
+
+sum-hold : given sumCases ≡ said sumCases
+unfolding sumCases given said
+sum-hold = refl
+
+given-append : (xs ys : List Case) → given (xs ++ ys) ≡ given xs ++ given ys
+unfolding given
+given-append [] ys = refl
+given-append (x ∷ xs) ys = ap (λ (r : List Shown). x .gives ∷ r) (given-append xs ys)
+
+said-append : (xs ys : List Case) → said (xs ++ ys) ≡ said xs ++ said ys
+unfolding said
+said-append [] ys = refl
+said-append (x ∷ xs) ys = ap (λ (r : List Shown). x .says ∷ r) (said-append xs ys)
+
+joined : (xs ys : List Case) → given xs ≡ said xs → given ys ≡ said ys → given (xs ++ ys) ≡ said (xs ++ ys)
+joined xs ys h k = given-append xs ys ∙ ap₂ (λ (a b : List Shown). a ++ b) h k ∙ sym (said-append xs ys)
+
+pub cases-hold : given cases ≡ said cases
+unfolding cases
+cases-hold = joined benchCases (fileCases ++ sumCases) bench-hold (joined fileCases sumCases file-hold sum-hold)

@@ -1,5 +1,6 @@
 pub mod Word
 pub mod Position
+pub mod Checksum
 pub mod Rows
 pub mod Memory
 pub mod Sizes

@@ -16,6 +16,7 @@ use Rattle.buftag.specs.Link.{numberAt, linkOf}
 use Rattle.buftag.specs.Chain.{enterHeads, enterChain, unchainHeads, unchainChain}
 use Rattle.bufmodel.specs.Word.{dirty, loaded, makeClean}
 use Rattle.bufmodel.specs.Position.{position}
+use Rattle.bufmodel.specs.Checksum.{sealed}
 use Rattle.bufmodel.specs.Rows.{placeOf}
 use Rattle.bufmodel.specs.Memory.{
   Memory,
@@ -41,13 +42,14 @@ unfoldable pub putAt : ℕ → List ℕ → List ℕ → Found → List ℕ
 putAt p page store (found g) = putBlock p g page store
 putAt p page store missing = store
 
--- Writing back a dirty page: flushed becomes the larger of itself and the page's log position; then the page goes to its block;
--- both dirty bits clear. A page that isn't dirty stays as it is
+-- Writing back a dirty page: flushed becomes the larger of itself and the page's log position; then the page goes to its block, with its
+-- checksum unless it is all zeros; both dirty bits clear. The pool's page keeps its own bytes 8 and 9. A page that isn't dirty stays as it is
 unfoldable pub writeBack : Memory → ℕ → Memory
 writeBack m i =
     let d = dirty (wordOf m i) in
     withFlushed (cond d (max (m .control .flushed) (position (pageOf m i))) (m .control .flushed))
-    (withStore (cond d (putAt (size m) (pageOf m i) (m .store) (placeOf (m .rows) (nameOf m i))) (m .store))
+    (withStore
+    (cond d (putAt (size m) (sealed (nameOf m i .block .0) (pageOf m i)) (m .store) (placeOf (m .rows) (nameOf m i))) (m .store))
     (withStates (set (m .states) i (cond d (makeClean (wordOf m i)) (wordOf m i))) m))
 
 -- the first k buffers, rising

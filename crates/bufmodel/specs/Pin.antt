@@ -7,6 +7,7 @@ use lib.Dec.{eqb, leb}
 use Rattle.laws.specs.Every.{all}
 use Rattle.laws.specs.Sum.{ind}
 use Rattle.laws.specs.First.{Found, found, missing}
+use Rattle.laws.specs.Block.{block}
 use Rattle.buftag.specs.declared.link.Link.{Link}
 use Rattle.buftag.specs.declared.link.Link.the-variants.{To, End, Off, Bad}
 use Rattle.buftag.specs.declared.lookup.Held.{Held}
@@ -15,8 +16,9 @@ use Rattle.buftag.specs.declared.name.PageName.{PageName}
 use Rattle.buftag.specs.Link.{linkOf}
 use Rattle.buftag.specs.Lookup.{held}
 use Rattle.bufmodel.specs.Word.{pins, pinned, dirty, maxPins, pinMore}
-use Rattle.bufmodel.specs.Rows.{blocksAt, rowOf}
-use Rattle.bufmodel.specs.Memory.{Memory, buffers, wordOf, withStates, withHand}
+use Rattle.bufmodel.specs.Checksum.{passes}
+use Rattle.bufmodel.specs.Rows.{blocksAt, rowOf, placeOf}
+use Rattle.bufmodel.specs.Memory.{Memory, buffers, size, wordOf, withStates, withHand}
 use Rattle.bufmodel.specs.Books.{isFound}
 use Rattle.bufmodel.specs.Sweep.{Swept, sweepAll}
 use Rattle.bufmodel.specs.Moves.{writeBack, release, load}
@@ -30,6 +32,12 @@ noRow r = not (isFound r)
 unfoldable pub noBlock : List ℕ → ℕ → Found → Bool
 noBlock rows b (found r) = leb (blocksAt rows r) b
 noBlock rows b missing = false
+
+-- 17, not held, and the store's block at its place does not pass as this block of its file
+unfoldable pub sumDiffers : Memory → PageName → Found → Held → Bool
+sumDiffers m n (found g) (At b) = false
+sumDiffers m n (found g) Nowhere = not (passes (n .block .0) (block (size m) g (m .store)))
+sumDiffers m n missing h = false
 
 -- 5, held, and its pin count is 262143
 unfoldable pub countFull : Memory → Held → Bool
@@ -50,10 +58,14 @@ namePlaces rows n later =
     let r = rowOf rows (n .file) in
     place 3 (noRow r) ∷ place 4 (noBlock rows (n .block .0) r) ∷ later
 
+-- those of a page that is loaded or handed back
+unfoldable pub pagePlaces : Memory → PageName → List Place → List Place
+pagePlaces m n later = namePlaces (m .rows) n (place 17 (sumDiffers m n (placeOf (m .rows) n) (heldIn m n)) ∷ later)
+
 unfoldable pub pinPlaces : Memory → PageName → List Place
 pinPlaces m n =
     let h = heldIn m n in
-    namePlaces (m .rows) n (place 5 (countFull m h) ∷ place 6 (noVictim m h) ∷ [])
+    pagePlaces m n (place 5 (countFull m h) ∷ place 6 (noVictim m h) ∷ [])
 
 -- ---- what it does where it is accepted
 -- held: pin count + 1, usage + 1 unless 5; probes 0

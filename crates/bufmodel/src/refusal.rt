@@ -1,4 +1,4 @@
-// The refusal numbers, in the order in which the places are checked.
+// The refusal numbers. A page's checksum, 17, is checked behind 4; the others in their order.
 
 // Sizes or rows break a rule.
 pub const SIZES: u32 = 1;
@@ -11,6 +11,9 @@ pub const NO_FILE: u32 = 3;
 
 // The file has no such block.
 pub const NO_BLOCK: u32 = 4;
+
+// The block's checksum differs.
+pub const CHECKSUM: u32 = 17;
 
 // The pin count is the greatest.
 pub const PIN_COUNT: u32 = 5;

@@ -10,7 +10,7 @@ use Rattle.bufmodel.specs.Sizes.{soundRows}
 
 -- buffer i has a name and a page, and the store is that of the rows
 pub record Backed (m : Memory) (i : ℕ) : Type 0 where
-  pub page : 8 ≤ size m
+  pub page : 128 ≤ size m
   pub name : nameWords * i + nameWords ≤ length (m .names)
   pub pool : i * size m + size m ≤ length (m .pool)
   pub rows : soundRows (m .rows) ≡ true

@@ -6,6 +6,7 @@ ghost use Prim.Native.Nat.{_<_, max};
 ghost use lib.ListN.{length};
 ghost use Rattle.laws.specs.Block.{block};
 ghost use Rattle.buftag.specs.Names.{nameAt};
+ghost use Rattle.bufmodel.specs.Checksum.{sealed};
 ghost use Rattle.bufmodel.specs.Rows.{placeOf};
 ghost use Rattle.bufmodel.specs.Memory.{memory};
 ghost use Rattle.bufmodel.specs.Moves.{putAt, writeBack};
@@ -48,7 +49,7 @@ pub fn flushed_to(control: Control, position: u64) -> Control
     after
 }
 
-// A buffer's page goes to its place in the store.
+// A buffer's page goes to its place in the store, with its checksum.
 fn put_page(
     control: Control,
     names: &[u32],
@@ -60,13 +61,15 @@ fn put_page(
     requires { ⌜ Backed (memory control [] (now names) (now pool) [] [] [] (now rows) (now store)) (buffer .0) ⌝ }
     ensures { λ _.
         ⌜ now (store .exit)
-        ≡ putAt (control .size) (block (control .size) (buffer .0) (now (pool .entry))) (now (store .entry))
-        (placeOf (now (rows .entry)) (nameAt (now (names .entry)) (buffer .0))) ⌝ }
+        ≡ putAt (control .size)
+        (sealed (nameAt (now (names .entry)) (buffer .0) .block .0) (block (control .size) (buffer .0) (now (pool .entry))))
+        (now (store .entry)) (placeOf (now (rows .entry)) (nameAt (now (names .entry)) (buffer .0))) ⌝ }
 {
-    let Place::At(g) = place_of(rows, stored(names, buffer)) else {
+    let name = stored(names, buffer);
+    let Place::At(g) = place_of(rows, name) else {
         return;
     };
-    page_to_store(store, g, pool, buffer, control.size);
+    page_to_store(store, g, pool, buffer, control.size, name.block);
 }
 
 // Writes a page back if it is dirty.

@@ -1,4 +1,4 @@
-// Pin: a page that is held has one pin more; another is loaded into a free buffer, or into the victim of a sweep.
+// Pin: a page that is held has one pin more; another is verified and loaded into a free buffer, or into the victim of a sweep.
 
 ghost use mathlib.Core.Path.{_≡_};
 ghost use mathlib.Core.Bool.{true, false};
@@ -18,6 +18,7 @@ use crate::ends::PinnedEnd;
 use crate::ends::pin_refused;
 use crate::victim::pin_swept;
 use bufbooks::lent::refusal;
+use bufmem::seal::passes_block;
 use bufmem::seek::Sought;
 use bufmem::seek::seek;
 use bufmem::state::put_state;
@@ -27,6 +28,7 @@ use bufmem::word::pin_more;
 use bufmem::word::pins_of;
 use bufmodel::answer::Pinned;
 use bufmodel::control::Control;
+use bufmodel::refusal::CHECKSUM;
 use bufmodel::refusal::PIN_COUNT;
 use bufmoves::exchange::load_page;
 use buftag::link::Link;
@@ -185,6 +187,9 @@ pub fn pin_page(
         Sought::Refused(n) => pin_refused(control, n),
         Sought::At(g) => {
             let Held::At(buffer) = look_up(heads, chain, names, name) else {
+                if !passes_block(store, g, control.size, name.block) {
+                    return pin_refused(control, CHECKSUM);
+                }
                 return pin_new(
                     control,
                     states,
