@@ -9,11 +9,12 @@ use lib.ListN.{length}
 use lib.Dec.{eqb, leb, ltb}
 use Rattle.laws.specs.Every.{all, any}
 use Rattle.laws.specs.First.{Found, found, missing}
+use Rattle.laws.specs.Block.{block}
 use Rattle.buftag.specs.declared.lookup.Held.{Held}
 use Rattle.buftag.specs.declared.lookup.Held.the-variants.{At, Nowhere}
 use Rattle.buftag.specs.declared.name.PageName.{PageName}
 use Rattle.bufmodel.specs.Position.{position}
-use Rattle.bufmodel.specs.Rows.{blocksAt, capacityAt, rowOf}
+use Rattle.bufmodel.specs.Rows.{blocksAt, capacityAt, rowOf, placeOf}
 use Rattle.bufmodel.specs.Memory.{Memory, buffers, size, wordOf, pageOf}
 use Rattle.bufmodel.specs.Sizes.{SizedFor}
 use Rattle.bufmodel.specs.Books.{BooksSound}
@@ -21,6 +22,7 @@ use Rattle.bufmodel.specs.Outcome.{Place, place, zeros}
 use Rattle.bufmodel.specs.Pin.{heldIn}
 use Rattle.bufmodel.specs.Step.{Call, Pin, Unpin, Read, Write, Flush, Checkpoint, Peek, Extend, Drop, LogInserted, LogFlushed, step}
 use Rattle.bufmodel.specs.Lent.{Lent, Called, opened}
+use Rattle.shelf.specs.Sums.{fails}
 use Rattle.shelf.specs.Shelf.{firstOf, noFile}
 use Rattle.shelf.specs.Published.{filed}
 use Rattle.shelf.specs.Statement.{own, SetsUp, Pool, calling}
@@ -36,6 +38,12 @@ module _ (m : Memory) where
   blockPast b (found r) = leb (blocksAt (m .rows) r) b
   blockPast b missing = false
 
+  -- 17, not held, the block's checksum differs
+  unfoldable pub sumWrong : PageName → Found → Held → Bool
+  sumWrong n (found g) Nowhere = fails (n .block .0) (block (size m) g (m .store))
+  sumWrong n (found g) (At b) = false
+  sumWrong n missing h = false
+
   -- 5, held, pin count 262143; 6, not held, every buffer pinned
   unfoldable pub pinsFull : Held → Bool
   pinsFull (At b) = eqb (pinCount (b .0)) 262143
@@ -50,14 +58,19 @@ module _ (m : Memory) where
   rowFull (found r) = eqb (blocksAt (m .rows) r) (capacityAt (m .rows) r)
   rowFull missing = false
 
-  unfoldable pub nameChecks : PageName → List Place → List Place
-  nameChecks n later = let r = rowOf (m .rows) (n .file) in place 3 (noFile r) ∷ place 4 (blockPast (n .block .0) r) ∷ later
+  unfoldable pub pageChecks : PageName → List Place → List Place
+  pageChecks n later =
+      let r = rowOf (m .rows) (n .file) in
+      place 3 (noFile r)
+      ∷ place 4 (blockPast (n .block .0) r)
+      ∷ place 17 (sumWrong n (placeOf (m .rows) n) (heldIn m n))
+      ∷ later
 
   unfoldable pub bufferChecks : ℕ → List Place → List Place
   bufferChecks b later = place 7 (leb (buffers m) b) ∷ place 8 (eqb (pinCount b) 0) ∷ later
 
   unfoldable pub table : Call → List Place
-  table (Pin n) = let h = heldIn m n in nameChecks n (place 5 (pinsFull h) ∷ place 6 (allPinned h) ∷ [])
+  table (Pin n) = let h = heldIn m n in pageChecks n (place 5 (pinsFull h) ∷ place 6 (allPinned h) ∷ [])
   table (Unpin b) = bufferChecks b []
   table (Read b from out) = bufferChecks b (place 9 (ltb (size m) (from + length out)) ∷ [])
   table (Write b from bytes at) =
@@ -69,7 +82,7 @@ module _ (m : Memory) where
       ∷ [])
   table (Flush b) = bufferChecks b []
   table Checkpoint = []
-  table (Peek n) = nameChecks n []
+  table (Peek n) = pageChecks n []
   table (Extend f) = let r = rowOf (m .rows) f in place 3 (noFile r) ∷ place 13 (rowFull r) ∷ []
   -- 14, one of its pages pinned
   table (Drop f) =
@@ -92,7 +105,7 @@ pub record Guards (c : Call) (m : Lent) (answer : List ℕ) (r : Called) : Type 
   -- 1, sizes or rows break a rule; 2, not sound
   pub sizes : length answer ≡ 4 → (Fitting m → ⊥) → Refuses 1 (own c) m zeros r
   pub books : length answer ≡ 4 → Fitting m → (BooksSound (opened m) → ⊥) → Refuses 2 (own c) m zeros r
-  -- 3 to 16, checked downwards, and 0 where none refuses
+  -- 3 to 17, checked downwards in the table's order, and 0 where none refuses
   pub number : length answer ≡ 4 → Fitting m → BooksSound (opened m) → r .result ≡ firstOf (table (opened m) c)
   pub refused : length answer ≡ 4 → r .result ≢ 0 → Refuses (r .result) (own c) m zeros r
 

@@ -1,35 +1,27 @@
 -- The statement of demand 3 as a test: of a pool, a set up and a list of calls, the first clause that fails. One test for each clause,
 -- which passes where the clause holds.
-use Prim.Native.Nat.{ℕ, zero, suc, _+_, _-_, _*_}
+use Prim.Native.Nat.{ℕ, zero, suc, _+_}
 use mathlib.Core.Bool.{Bool, true, false, not, _&&_, cond, Bool·beq}
 use mathlib.Core.List.{List, [], _∷_}
 use lib.ListN.{length, getD, take, drop}
 use lib.Dec.{eqb, leb, ltb}
 use Rattle.laws.specs.Every.{all}
-use Rattle.laws.specs.Sum.{count}
 use Rattle.laws.specs.First.{Found, found, missing}
 use Rattle.laws.specs.Block.{block}
-use Rattle.buftag.specs.declared.link.Link.{Link}
-use Rattle.buftag.specs.declared.link.Link.the-variants.{To, End, Off, Bad}
-use Rattle.buftag.specs.declared.lookup.Held.{Held as HeldAt}
-use Rattle.buftag.specs.declared.lookup.Held.the-variants.{At, Nowhere}
-use Rattle.buftag.specs.declared.name.PageName.{PageName}
-use Rattle.buftag.specs.Link.{linkOf}
-use Rattle.bufmodel.specs.Word.{dirty}
 use Rattle.bufmodel.specs.Position.{position}
+use Rattle.bufmodel.specs.Checksum.{bare, bareFrom}
 use Rattle.bufmodel.specs.Rows.{files, blocksAt, rowOf, startOf, storeBlocks, placeOf}
 use Rattle.bufmodel.specs.Memory.{Memory, buffers, size, wordOf, nameOf}
 use Rattle.bufmodel.specs.Sizes.{sizedFor}
 use Rattle.bufmodel.specs.Books.{isFound, sound}
-use Rattle.bufmodel.specs.Sweep.{Swept, sweep}
 use Rattle.bufmodel.specs.Outcome.{Outcome, zeros, one, two}
-use Rattle.bufmodel.specs.Pin.{heldIn}
 use Rattle.bufmodel.specs.Calls.{part}
 use Rattle.bufmodel.specs.Step.{Call, Pin, Unpin, Read, Write, Flush, Checkpoint, Peek, Extend, Drop, LogInserted, LogFlushed}
 use Rattle.bufmodel.specs.Lent.{Lent, Called, answerWords, opened}
-use Rattle.shelf.specs.Shelf.{Shelf, with, firstOf, hasPins, pinnedPages, above, refuses}
+use Rattle.shelf.specs.Sums.{fails}
+use Rattle.shelf.specs.Shelf.{Shelf, firstOf, hasPins, pinnedPages, above, refuses}
 use Rattle.shelf.specs.Ledger.{Ledger, firstLedger, isPlace, bufferIn, ledgerAfter, puts}
-use Rattle.shelf.specs.Published.{Marks, marksOf, withWords, morePins, dirtied, cleaned, emptied, loaded, droppedTo}
+use Rattle.shelf.specs.Published.{marksOf}
 use Rattle.shelf.specs.Statement.{Pool, Made, own, outcomeOf, topWord, freshMarks}
 use Rattle.shelf.specs.Tests.{
   Accepted,
@@ -51,6 +43,7 @@ use Rattle.shelf.specs.Tests.{
   Ordered,
   Others,
   Long,
+  Sums,
   Settled,
   Stored,
   Held,
@@ -58,15 +51,6 @@ use Rattle.shelf.specs.Tests.{
   Control,
   Sizes,
   Books,
-  Probes,
-  Counts,
-  Part,
-  Words,
-  Hand,
-  FreeList,
-  Names,
-  Chains,
-  Idle,
   Verdict,
   Fine,
   Test,
@@ -85,6 +69,7 @@ use Rattle.shelf.specs.Tests.{
   linksTest,
   chainsTest,
 }
+use Rattle.shelf.specs.JudgePublished.{marksAfter, pagesAfter, blocksAfter, saidTests, clockTests, nameTests, pageTests}
 
 -- ---- SetsUp
 unfoldable pub freshTest : Lent → ℕ → Lent → Bool
@@ -134,12 +119,13 @@ module _ (s : Shelf) (o : Outcome) where
   unfoldable pub showsTest : Call → Bool
   showsTest (Pin n) = atPlace (placeOf (s .rows) n) pinRuleTest && sameList (o .bytes) []
   showsTest (Unpin b) = sameList (o .bytes) []
-  showsTest (Read b from out) = atPlace (s .holds b) (λ g. sameList (o .bytes) (take (length out) (drop from (s .bytes g))))
+  showsTest (Read b from out) =
+      atPlace (s .holds b) (λ g. sameList (bareFrom from (o .bytes)) (take (length out) (drop from (bare (s .bytes g)))))
   showsTest (Write b from bytes at) = sameList (o .bytes) bytes
   showsTest (Flush b) = sameList (o .bytes) []
   showsTest Checkpoint = sameList (o .bytes) []
   showsTest (Peek n) =
-      atPlace (placeOf (s .rows) n) (λ g. sameList (take some (part o)) (take some (s .bytes g))) && sameList (o .bytes) []
+      atPlace (placeOf (s .rows) n) (λ g. sameList (bare (take some (part o))) (bare (take some (s .bytes g)))) && sameList (o .bytes) []
   showsTest (Extend f) =
       atPlace (rowOf (s .rows) f) (λ r. eqb (getD (o .answer) 0 0) (blocksAt (s .rows) r)) && sameList (o .bytes) []
   showsTest (Drop f) = sameList (o .bytes) []
@@ -167,7 +153,7 @@ module _ (s : Shelf) (o : Outcome) where
   unfoldable pub settledAll : Bool
   settledAll =
       all (files (s .rows)) (λ r. all (blocksAt (s .rows) r) (λ b. let g = startOf (s .rows) r + b in
-      sameList (start (s .size) g (o .after .store)) (take some (s .bytes g))))
+      sameList (bare (start (s .size) g (o .after .store))) (bare (take some (s .bytes g)))))
 
   unfoldable pub settledTest : Call → Bool
   settledTest (Pin n) = true
@@ -197,15 +183,24 @@ module _ (m : Memory) (l : Ledger) (c : Call) (o : Outcome) (l′ : Ledger) wher
   unfoldable pub storedTest : Bool
   storedTest =
       all (storeBlocks (l .shelf .rows))
-      (λ g. let same = sameList (start (l .shelf .size) g (o .after .store)) (take some (l′ .shelf .bytes g)) in
+      (λ g. let same = sameList (bare (start (l .shelf .size) g (o .after .store))) (bare (take some (l′ .shelf .bytes g))) in
       cond (puts l c (o .answer) (o .refusal) g) same true)
 
   unfoldable pub heldTest : Bool
   heldTest =
       all (buffers (o .after))
       (λ i. let same = ifPlace (placeOf (o .after .rows) (nameOf (o .after) i))
-      (λ g. sameList (start (size (o .after)) i (o .after .pool)) (take some (l′ .shelf .bytes g))) in
+      (λ g. sameList (bare (start (size (o .after)) i (o .after .pool))) (bare (take some (l′ .shelf .bytes g)))) in
       cond (eqb (wordOf (o .after) i) 0) true same)
+
+  -- of the blocks that it puts there
+  unfoldable pub sumsTest : Bool
+  sumsTest =
+      all (buffers m)
+      (λ i. let n = nameOf m i in
+      ifPlace (placeOf (o .after .rows) n)
+      (λ g. let same = Bool·beq (fails (n .block .0) (block (l .shelf .size) g (o .after .store))) (l′ .shelf .bad g) in
+      cond (puts l c (o .answer) (o .refusal) g) same true))
 
   -- what `Neither` and `Six` say follows from `Number`: they stand before it
   unfoldable pub agreesTests : List Test
@@ -226,6 +221,7 @@ module _ (m : Memory) (l : Ledger) (c : Call) (o : Outcome) (l′ : Ledger) wher
       ∷ test Settled (ifDone (o .refusal) (settledTest (l .shelf) o c))
       ∷ test Stored storedTest
       ∷ test Held heldTest
+      ∷ test Sums sumsTest
       ∷ []
 
 -- ---- Left
@@ -240,95 +236,6 @@ leftTests m r l′ =
     ∷ test Sizes (sizedFor (l′ .shelf .size) k)
     ∷ test Books (sound k)
     ∷ []
-
--- ---- Published
-module _ (m : Memory) where
-  abbrev pub sweepOf : Swept
-  sweepOf = sweep (6 * buffers m) (buffers m) 0 0 (m .control .hand) (m .states)
-
-  -- the marks that a call leaves where it is accepted. A pin: the sweep's victim; the free list's top; the buffer that has the page
-  abbrev pub otherWords : (ℕ → ℕ) → Marks
-  otherWords word = withWords word (m .control .hand) (marksOf m)
-
-  unfoldable pub sweptMarks : PageName → Swept → Found → Marks
-  sweptMarks n s (found v) = loaded m n v (emptied v (withWords (λ i. getD (s .words) i 0) (s .hand) (marksOf m)))
-  sweptMarks n s missing = marksOf m
-
-  unfoldable pub newMarks : PageName → Link → Marks
-  newMarks n (To i) = loaded m n i (marksOf m)
-  newMarks n End = sweptMarks n sweepOf (sweepOf .victim)
-  newMarks n Off = marksOf m
-  newMarks n Bad = marksOf m
-
-  unfoldable pub pinMarks : PageName → HeldAt → Marks
-  pinMarks n (At b) = otherWords (with (b .0) (morePins (wordOf m (b .0))) (wordOf m))
-  pinMarks n Nowhere = newMarks n (linkOf (m .control .top))
-
-  unfoldable pub marksAfter : Call → Marks
-  marksAfter (Pin n) = pinMarks n (heldIn m n)
-  marksAfter (Unpin b) = otherWords (with b (wordOf m b - 1) (wordOf m))
-  marksAfter (Read b from out) = otherWords (wordOf m)
-  marksAfter (Write b from bytes at) = otherWords (with b (dirtied (wordOf m b)) (wordOf m))
-  marksAfter (Flush b) = otherWords (with b (cleaned (wordOf m b)) (wordOf m))
-  marksAfter Checkpoint = otherWords (λ i. cleaned (wordOf m i))
-  marksAfter (Peek n) = otherWords (wordOf m)
-  marksAfter (Extend f) = otherWords (wordOf m)
-  marksAfter (Drop f) = droppedTo m f (buffers m)
-  marksAfter (LogInserted p) = otherWords (wordOf m)
-  marksAfter (LogFlushed p) = otherWords (wordOf m)
-
-  -- what it answers
-  module _ (a : List ℕ) where
-    unfoldable pub sweptTest : Swept → Found → Bool
-    sweptTest s (found v) = sameList a (v ∷ 0 ∷ cond (dirty (wordOf m v)) 1 0 ∷ s .probes ∷ [])
-    sweptTest s missing = false
-
-    unfoldable pub newTest : Link → Bool
-    newTest (To i) = sameList a (i ∷ 0 ∷ 0 ∷ 0 ∷ [])
-    newTest End = sweptTest sweepOf (sweepOf .victim)
-    newTest Off = false
-    newTest Bad = false
-
-    unfoldable pub pinTest : HeldAt → Bool
-    pinTest (At b) = sameList a (b .0 ∷ 1 ∷ 0 ∷ 0 ∷ [])
-    pinTest Nowhere = newTest (linkOf (m .control .top))
-
-    unfoldable pub peekTest : PageName → HeldAt → Bool
-    peekTest n (At b) = sameList a (two 1 (b .0 * size m))
-    peekTest n Nowhere = ifPlace (placeOf (m .rows) n) (λ g. sameList a (two 0 (g * size m)))
-
-    unfoldable pub saidTests : Call → List Test
-    saidTests (Pin n) = test Probes (pinTest (heldIn m n)) ∷ []
-    saidTests (Unpin b) = []
-    saidTests (Read b from out) = []
-    saidTests (Write b from bytes at) = []
-    saidTests (Flush b) = test Counts (sameList a (one (cond (dirty (wordOf m b)) 1 0))) ∷ []
-    saidTests Checkpoint = test Counts (sameList a (one (count (buffers m) (λ i. dirty (wordOf m i))))) ∷ []
-    saidTests (Peek n) = test Part (peekTest n (heldIn m n)) ∷ []
-    saidTests (Extend f) = []
-    saidTests (Drop f) = []
-    saidTests (LogInserted p) = []
-    saidTests (LogFlushed p) = []
-
-  -- what it leaves: the clock and the free list; names, chains and pages of empty buffers
-  module _ (o : Outcome) (k : Marks) where
-    unfoldable pub clockTests : List Test
-    clockTests =
-        let now = marksOf (o .after) in
-        test Words (eqb (buffers (o .after)) (buffers m) && wordsTest (buffers m) (length (m .heads)) now k)
-        ∷ test Hand (eqb (now .hand) (k .hand))
-        ∷ test FreeList (linksTest (buffers m) (length (m .heads)) now k)
-        ∷ []
-
-    unfoldable pub nameTests : List Test
-    nameTests =
-        let now = marksOf (o .after) in
-        test Names (namesTest (buffers m) (length (m .heads)) now k)
-        ∷ test Chains (eqb (length (o .after .heads)) (length (m .heads)) && chainsTest (buffers m) (length (m .heads)) now k)
-        ∷ test Idle
-        (all (buffers m) (λ i. let same = sameList (start (size (o .after)) i (o .after .pool)) (start (size m) i (m .pool)) in
-        cond (eqb (wordOf (o .after) i) 0) same true))
-        ∷ []
 
 -- tests of accepted calls alone
 abbrev pub whenDone : ℕ → List Test → List Test
@@ -348,7 +255,9 @@ judgeCalls pool m l (c ∷ cs) =
     failing (agreesTests (opened m) l (c .call) o l′)
     (failing (whenDone (o .refusal) (saidTests (opened m) (o .answer) (c .call)))
     (failing (whenDone (o .refusal) (clockTests (opened m) o k))
-    (failing (leftTests m r l′) (failing (whenDone (o .refusal) (nameTests (opened m) o k)) on))))
+    (failing (leftTests m r l′)
+    (failing (whenDone (o .refusal) (nameTests (opened m) o k))
+    (failing (whenDone (o .refusal) (pageTests (opened m) o (pagesAfter (opened m) (c .call)) (blocksAfter (opened m) (c .call)))) on)))))
 
 -- on a set up and, where it is accepted, a list of calls
 abbrev pub ifAccepted : ℕ → Verdict → Verdict

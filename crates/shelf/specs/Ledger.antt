@@ -1,15 +1,15 @@
 -- The ledger: the shelf, and what the calls so far did to the log and the store. One function for each sentence of document 01.
-use Prim.Native.Nat.{ℕ, zero, suc, _+_, max}
+use Prim.Native.Nat.{ℕ, zero, suc, max}
 use mathlib.Core.Bool.{Bool, false, not, _&&_, _||_, cond}
 use mathlib.Core.List.{List}
 use lib.ListN.{getD}
-use lib.Dec.{eqb, leb, ltb}
+use lib.Dec.{eqb}
 use Rattle.laws.specs.First.{Found, found, missing}
 use Rattle.bufmodel.specs.Position.{position}
-use Rattle.bufmodel.specs.Rows.{capacityAt, rowOf, startOf, storeBlocks, placeOf}
+use Rattle.bufmodel.specs.Rows.{rowOf, storeBlocks, placeOf}
 use Rattle.bufmodel.specs.Memory.{Memory}
 use Rattle.bufmodel.specs.Step.{Call, Pin, Unpin, Read, Write, Flush, Checkpoint, Peek, Extend, Drop, LogInserted, LogFlushed}
-use Rattle.shelf.specs.Shelf.{Shelf, with, firstShelf, nextBlock, shelfAfter}
+use Rattle.shelf.specs.Shelf.{Shelf, with, inRow, firstShelf, nextBlock, shelfAfter}
 
 pub record Ledger : Type 0 where
   pub shelf : Shelf
@@ -30,11 +30,6 @@ firstLedger m p at =
 unfoldable pub isPlace : Found → ℕ → Bool
 isPlace (found h) g = eqb g h
 isPlace missing g = false
-
--- page g is of the file in this row
-unfoldable pub inRow : List ℕ → Found → ℕ → Bool
-inRow rows (found r) g = leb (startOf rows r) g && ltb g (startOf rows r + capacityAt rows r)
-inRow rows missing g = false
 
 -- the parts of a pin's answer: the buffer number, and whether it wrote
 unfoldable pub bufferIn : List ℕ → ℕ

@@ -1,10 +1,13 @@
+pub mod Sums
 pub mod Shelf
 pub mod Ledger
 pub mod Published
 pub mod Statement
 pub mod Guards
 pub mod Numbers
+pub mod Vectors
 pub mod Tests
+pub mod JudgePublished
 pub mod Judge
 pub mod Trial
 pub mod Changes

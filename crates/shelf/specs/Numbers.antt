@@ -21,6 +21,7 @@ use Rattle.buftag.specs.Names.{nameAt, noName}
 use Rattle.buftag.specs.Link.{linkOf}
 use Rattle.bufmodel.specs.Word.{maxPins, pins, usage, dirty, valid, tagValid, justDirtied, permanent, empty, soundWord, pinned, useLess}
 use Rattle.bufmodel.specs.Position.{position, positionBytes}
+use Rattle.bufmodel.specs.Checksum.{bareFrom, sumStarts, sums, mixSum, wordsIn, sumTo, sumOf, foldTo, checksum}
 use Rattle.bufmodel.specs.Rows.{files, fileAt, blocksAt, capacityAt, setBlocks, rowOf, startOf, storeBlocks, placeOf}
 use Rattle.bufmodel.specs.Memory.{Memory, memory, pageOf}
 use Rattle.bufmodel.specs.Sizes.{RowsSound, SizedFor}
@@ -137,6 +138,32 @@ pub record Numbers : Type 0 where
   pub bytes8 : (p : ℕ) → positionBytes p
       ≡ p / 4294967296 % 256 ∷ p / 1099511627776 % 256 ∷ p / 281474976710656 % 256 ∷ p / 72057594037927936 % 256
       ∷ p % 256 ∷ p / 256 % 256 ∷ p / 65536 % 256 ∷ p / 16777216 % 256 ∷ []
+  -- ---- Checksum, as checksum_impl.h computes it
+  -- its own two bytes, 8 and 9 of the page, count as zeros in it; these two are left out where document 02 leaves them out. Bytes from byte
+  -- s of a page on have as many, and the others are as they were
+  pub leftOut : (s k : ℕ) (xs : List ℕ) → (s + k ≡ 8) ⊎ (s + k ≡ 9) → getD (bareFrom s xs) k 0 ≡ 0
+  pub keptIn : (s k : ℕ) (xs : List ℕ) → s + k ≢ 8 → s + k ≢ 9 → getD (bareFrom s xs) k 0 ≡ getD xs k 0
+  pub asMany : (s : ℕ) (xs : List ℕ) → length (bareFrom s xs) ≡ length xs
+  -- 32 sums from the starting words
+  pub starts : (sums ≡ 32) × (sumStarts
+      ≡ 0x5B1F36E9 ∷ 0xB8525960 ∷ 0x02AB50AA ∷ 0x1DE66D2A ∷ 0x79FF467A ∷ 0x9BB9F8A3 ∷ 0x217E7CD2 ∷ 0x83E13D2C
+      ∷ 0xF8D4474F ∷ 0xE39EB970 ∷ 0x42C6AE16 ∷ 0x993216FA ∷ 0x7B093B5D ∷ 0x98DAFF3C ∷ 0xF718902A ∷ 0x0B1C9CDB
+      ∷ 0xE58F764B ∷ 0x187636BC ∷ 0x5D7B3BB1 ∷ 0xE73DE7DE ∷ 0x92BEC979 ∷ 0xCCA6C0B2 ∷ 0x304A0979 ∷ 0x85AA43D4
+      ∷ 0x783125BB ∷ 0x6CA8EAA2 ∷ 0xE407EAC6 ∷ 0x4B5CFC3E ∷ 0x9FBF8C76 ∷ 0x15CA20BE ∷ 0xF2CA9FD3 ∷ 0x959BD756 ∷ [])
+  -- CHECKSUM_COMP: exclusive-or, then the low 32 bits of the product with FNV's prime, exclusive-or the former shifted right by 17
+  pub round : (v s : ℕ) → mixSum v s ≡ bitXor (bitXor v s * 16777619 % 4294967296) (bitXor v s / 131072)
+  -- words are little-endian in bytes
+  pub words : (a b c d : ℕ) (xs : List ℕ)
+      → wordsIn (a ∷ b ∷ c ∷ d ∷ xs) ≡ (a + b * 256 + c * 65536 + d * 16777216) ∷ wordsIn xs
+  -- each row has a word for each sum; then two rounds of zeros
+  pub sumStart : (ws : List ℕ) (j : ℕ) → sumTo ws j 0 ≡ getD sumStarts j 0
+  pub sumRow : (ws : List ℕ) (j i : ℕ) → sumTo ws j (suc i) ≡ mixSum (getD ws (i * 32 + j) 0) (sumTo ws j i)
+  pub sumEnd : (ws : List ℕ) (j : ℕ) → sumOf ws j ≡ mixSum 0 (mixSum 0 (sumTo ws j (length ws / 32)))
+  -- all exclusive-ored together, then the block number, modulo 65,535 and one more: never 0
+  pub noSums : (ws : List ℕ) → foldTo ws 0 ≡ 0
+  pub oneMore : (ws : List ℕ) (j : ℕ) → foldTo ws (suc j) ≡ bitXor (foldTo ws j) (sumOf ws j)
+  pub checksumOf : (b : ℕ) (page : List ℕ)
+      → checksum b page ≡ bitXor (foldTo (wordsIn (bareFrom 0 page)) 32) b % 65535 + 1
   -- ---- Limits
   -- F from 0 to 64. Blocks ≤ capacity; capacities sum to at most 65,536; no two rows have equal first four numbers; fork ≤ 2
   pub rows : (rows : List ℕ)

@@ -1,15 +1,17 @@
 -- Demand 2: each pin's buffer, probe count and state words are those of the published free list and clock sweep; and what every other call
--- leaves of the books and answers. That names, state words and log positions are packed as published: `Numbers`.
+-- leaves of the books, the pages and the store, and answers. That names, state words, log positions and checksums are packed as published:
+-- `Numbers`.
 use Prim.Native.Nat.{ℕ, zero, suc, _+_, _-_, _*_, _^_, _≤_, _<_}
 use mathlib.Core.Path.{_≡_}
 use mathlib.Core.Logic.{_≢_}
 use mathlib.Core.Bool.{Bool, not, _&&_, cond}
-use mathlib.Core.List.{[], _∷_}
-use lib.ListN.{length, getD}
+use mathlib.Core.List.{List, [], _∷_}
+use lib.ListN.{length, getD, replicate}
 use lib.IntN.{ℤ, pos, negsuc}
 use lib.Dec.{eqb}
 use Rattle.laws.specs.Sum.{count}
-use Rattle.laws.specs.First.{found, missing}
+use Rattle.laws.specs.First.{Found, found, missing}
+use Rattle.laws.specs.Block.{block}
 use Rattle.buftag.specs.declared.link.Link.the-variants.{To, End}
 use Rattle.buftag.specs.declared.lookup.Held.the-variants.{At, Nowhere}
 use Rattle.buftag.specs.declared.number.BufferNumber.{BufferNumber}
@@ -19,7 +21,7 @@ use Rattle.buftag.specs.Name.{bucketOf, sameFile}
 use Rattle.buftag.specs.Names.{noName}
 use Rattle.buftag.specs.Link.{numberAt, linkOf, isTo}
 use Rattle.bufmodel.specs.Word.{usage, dirty}
-use Rattle.bufmodel.specs.Rows.{placeOf}
+use Rattle.bufmodel.specs.Rows.{blocksAt, rowOf, startOf, storeBlocks, placeOf}
 use Rattle.bufmodel.specs.Memory.{Memory, buffers, size, wordOf, nameOf, pageOf}
 use Rattle.bufmodel.specs.Sizes.{SizedFor}
 use Rattle.bufmodel.specs.Books.{BooksSound}
@@ -27,7 +29,8 @@ use Rattle.bufmodel.specs.Sweep.{Swept, Sweeps}
 use Rattle.bufmodel.specs.Outcome.{Outcome, one, two}
 use Rattle.bufmodel.specs.Pin.{heldIn}
 use Rattle.bufmodel.specs.Step.{Call, Pin, Unpin, Read, Write, Flush, Checkpoint, Peek, Extend, Drop, LogInserted, LogFlushed, step}
-use Rattle.shelf.specs.Shelf.{with}
+use Rattle.shelf.specs.Sums.{goesOut}
+use Rattle.shelf.specs.Shelf.{with, writtenPage}
 
 -- ---- state words: the pin count is in bits 0 to 17, the usage count in bits 18 to 21; dirty is bit 23, just dirtied bit 28
 -- pin count + 1, usage + 1 unless 5
@@ -123,16 +126,41 @@ module _ (m : Memory) where
   abbrev pub buckets : ℕ
   buckets = length (m .heads)
 
-  -- ---- what an accepted call leaves: as many buffers and buckets, the books so, and the bytes of an empty buffer's page as they were
-  pub record Leaves (o : Outcome) (k : Marks) : Type 0 where
+  -- ---- the store, place by place, as it is, and with another block at a place
+  abbrev pub blocksOf : ℕ → List ℕ
+  blocksOf g = block (size m) g (m .store)
+
+  unfoldable pub putIn : Found → List ℕ → (ℕ → List ℕ) → ℕ → List ℕ
+  putIn (found g) page store = with g page store
+  putIn missing page store = store
+
+  -- buffer i's page written back if it is dirty: in the store it has its checksum. The page in the pool keeps its own two bytes: no page of
+  -- the pool changes but where one is loaded or written to
+  unfoldable pub backed : ℕ → (ℕ → List ℕ) → ℕ → List ℕ
+  backed i store =
+      cond (dirty (wordOf m i)) (putIn (placeOf (m .rows) (nameOf m i)) (goesOut (nameOf m i .block .0) (pageOf m i)) store) store
+
+  -- the buffers below j, rising
+  unfoldable pub backedTo : ℕ → ℕ → List ℕ
+  backedTo zero = blocksOf
+  backedTo (suc j) = backed j (backedTo j)
+
+  -- the next block of the file in a row becomes zeros
+  unfoldable pub extendedBy : Found → ℕ → List ℕ
+  extendedBy (found r) = with (startOf (m .rows) r + blocksAt (m .rows) r) (replicate (size m) 0) blocksOf
+  extendedBy missing = blocksOf
+
+  -- ---- what an accepted call leaves: as many buffers and buckets, the books so, the pages and the blocks of the store so
+  pub record Leaves (o : Outcome) (k : Marks) (page store : ℕ → List ℕ) : Type 0 where
     pub many : buffers (o .after) ≡ buffers m
     pub wide : length (o .after .heads) ≡ buckets
     pub alike : Alike (buffers m) buckets (marksOf (o .after)) k
-    pub idle : (i : ℕ) → i < buffers m → wordOf (o .after) i ≡ 0 → pageOf (o .after) i ≡ pageOf m i
+    pub pages : (i : ℕ) → i < buffers m → pageOf (o .after) i ≡ page i
+    pub blocks : (g : ℕ) → g < storeBlocks (m .rows) → block (size m) g (o .after .store) ≡ store g
 
-  -- other words and nothing else
-  abbrev pub Words : Outcome → (ℕ → ℕ) → Type 0
-  Words o word = Leaves o (withWords word (m .control .hand) (marksOf m))
+  -- other words, other blocks in the store, and nothing else
+  abbrev pub Words : Outcome → (ℕ → ℕ) → (ℕ → List ℕ) → Type 0
+  Words o word = Leaves o (withWords word (m .control .hand) (marksOf m)) (pageOf m)
 
   -- ---- A pin's probes are the buffers that its sweep looks at, each time counted
   module _ (n : PageName) where
@@ -143,20 +171,23 @@ module _ (m : Memory) where
     pub data Probes (o : Outcome) : ℕ → Type 0 where
       -- none on a hit: the buffer that has the page; hit, nothing written
       hit : {b : BufferNumber} → heldIn m n ≡ At b → o .refusal ≡ 0 → o .answer ≡ b .0 ∷ 1 ∷ 0 ∷ 0 ∷ []
-          → Words o (with (b .0) (morePins (wordOf m (b .0))) (wordOf m))
+          → Words o (with (b .0) (morePins (wordOf m (b .0))) (wordOf m)) blocksOf
           → Probes o 0
-      -- or from the free list: its top; loaded, nothing written
-      free : {i : ℕ} → heldIn m n ≡ Nowhere → linkOf (m .control .top) ≡ To i → o .refusal ≡ 0 → o .answer ≡ i ∷ 0 ∷ 0 ∷ 0 ∷ []
-          → Leaves o (loaded i (marksOf m))
+      -- or from the free list: its top; loaded from the store, nothing written
+      free : {i g : ℕ} → heldIn m n ≡ Nowhere → linkOf (m .control .top) ≡ To i → o .refusal ≡ 0 → o .answer ≡ i ∷ 0 ∷ 0 ∷ 0 ∷ []
+          → placeOf (m .rows) n ≡ found g
+          → Leaves o (loaded i (marksOf m)) (with i (blocksOf g) (pageOf m)) blocksOf
           → Probes o 0
       -- or at a refusal before a victim is sought
       early : o .refusal ≢ 0 → o .refusal ≢ 6 → Probes o 0
       -- those of a sweep that gave the buffer, and left words and hand; loaded, and written if the victim was dirty
-      taken : {s : Swept} {v : ℕ} → heldIn m n ≡ Nowhere → linkOf (m .control .top) ≡ End → o .refusal ≡ 0
+      taken : {s : Swept} {v g : ℕ} → heldIn m n ≡ Nowhere → linkOf (m .control .top) ≡ End → o .refusal ≡ 0
           → Sweeps (buffers m) 0 (m .control .hand) (m .states) s
           → s .victim ≡ found v
           → o .answer ≡ v ∷ 0 ∷ cond (dirty (wordOf m v)) 1 0 ∷ s .probes ∷ []
+          → placeOf (m .rows) n ≡ found g
           → Leaves o (loaded v (emptied v (withWords (λ i. getD (s .words) i 0) (s .hand) (marksOf m))))
+          (with v (blocksOf g) (pageOf m)) (backed v blocksOf)
           → Probes o (s .probes)
       -- those of a sweep that found all pinned
       stuck : {s : Swept} → heldIn m n ≡ Nowhere → linkOf (m .control .top) ≡ End → o .refusal ≡ 6
@@ -190,16 +221,21 @@ module _ (m : Memory) where
   -- ---- what each call leaves where it is accepted; the count that flush and checkpoint wrote; a pin's is above
   abbrev pub Accepts : Call → Outcome → Type 0
   Accepts (Pin n) o = Unit {0}
-  Accepts (Unpin b) o = Words o (with b (wordOf m b - 1) (wordOf m))
-  Accepts (Read b from out) o = Words o (wordOf m)
-  Accepts (Write b from bytes at) o = Words o (with b (dirtied (wordOf m b)) (wordOf m))
-  Accepts (Flush b) o = Words o (with b (cleaned (wordOf m b)) (wordOf m)) × (o .answer ≡ one (cond (dirty (wordOf m b)) 1 0))
-  Accepts Checkpoint o = Words o (λ i. cleaned (wordOf m i)) × (o .answer ≡ one (count (buffers m) (λ i. dirty (wordOf m i))))
-  Accepts (Peek n) o = Words o (wordOf m) × Peeks n o
-  Accepts (Extend f) o = Words o (wordOf m)
-  Accepts (Drop f) o = Leaves o (droppedTo f (buffers m))
-  Accepts (LogInserted p) o = Words o (wordOf m)
-  Accepts (LogFlushed p) o = Words o (wordOf m)
+  Accepts (Unpin b) o = Words o (with b (wordOf m b - 1) (wordOf m)) blocksOf
+  Accepts (Read b from out) o = Words o (wordOf m) blocksOf
+  Accepts (Write b from bytes at) o =
+      Leaves o (withWords (with b (dirtied (wordOf m b)) (wordOf m)) (m .control .hand) (marksOf m))
+      (with b (writtenPage at from bytes (pageOf m b)) (pageOf m)) blocksOf
+  Accepts (Flush b) o =
+      Words o (with b (cleaned (wordOf m b)) (wordOf m)) (backed b blocksOf) × (o .answer ≡ one (cond (dirty (wordOf m b)) 1 0))
+  Accepts Checkpoint o =
+      Words o (λ i. cleaned (wordOf m i)) (backedTo (buffers m))
+      × (o .answer ≡ one (count (buffers m) (λ i. dirty (wordOf m i))))
+  Accepts (Peek n) o = Words o (wordOf m) blocksOf × Peeks n o
+  Accepts (Extend f) o = Words o (wordOf m) (extendedBy (rowOf (m .rows) f))
+  Accepts (Drop f) o = Leaves o (droppedTo f (buffers m)) (pageOf m) blocksOf
+  Accepts (LogInserted p) o = Words o (wordOf m) blocksOf
+  Accepts (LogFlushed p) o = Words o (wordOf m) blocksOf
 
   pub record Published (c : Call) (o : Outcome) : Type 0 where
     pub sought : (n : PageName) → c ≡ Pin n → Sought n o

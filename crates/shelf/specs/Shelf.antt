@@ -1,6 +1,6 @@
 -- The plain shelf: document 01's term for what a pool of pages is, without buffers, books or a store to write back to.
 -- A page is known by its place, the index of its block in the store. The shelf's checks, their order and a written page are its own words;
--- what it shares with the pool is which row and place a name has, and where rows, blocks and log positions lie.
+-- what it shares with the pool is which row and place a name has, where rows, blocks and log positions lie, and the checksum.
 use Prim.Native.Nat.{ℕ, suc, _+_, _-_}
 use mathlib.Core.Bool.{Bool, true, false, not, _&&_, _||_, cond}
 use mathlib.Core.List.{List, [], _∷_, _++_}
@@ -8,17 +8,19 @@ use lib.ListN.{length, take, drop, replicate}
 use lib.Dec.{eqb, leb, ltb}
 use Rattle.laws.specs.Every.{any}
 use Rattle.laws.specs.Sum.{count}
-use Rattle.laws.specs.First.{Found, found, missing}
+use Rattle.laws.specs.First.{Found, found, missing, first}
 use Rattle.laws.specs.Block.{block}
 use Rattle.buftag.specs.declared.name.PageName.{PageName}
 use Rattle.bufmodel.specs.Position.{position, positionBytes}
-use Rattle.bufmodel.specs.Rows.{blocksAt, capacityAt, setBlocks, rowOf, startOf, storeBlocks, placeOf}
+use Rattle.bufmodel.specs.Rows.{files, blocksAt, capacityAt, setBlocks, rowOf, startOf, storeBlocks, placeOf}
 use Rattle.bufmodel.specs.Memory.{Memory, buffers}
 use Rattle.bufmodel.specs.Books.{isFound}
 use Rattle.bufmodel.specs.Outcome.{Place, place}
 use Rattle.bufmodel.specs.Step.{Call, Pin, Unpin, Read, Write, Flush, Checkpoint, Peek, Extend, Drop, LogInserted, LogFlushed}
+use Rattle.shelf.specs.Sums.{fails}
 
--- N, P, inserted, rows; for each block its P bytes; for each page a pin count; for some buffer numbers the page held there
+-- N, P, inserted, rows; for each block its P bytes, and whether it counts as bad; for each page a pin count; for some buffer numbers the
+-- page held there
 pub record Shelf : Type 0 where
   pub buffers : ℕ
   pub size : ℕ
@@ -27,10 +29,26 @@ pub record Shelf : Type 0 where
   pub bytes : ℕ → List ℕ
   pub counts : ℕ → ℕ
   pub holds : ℕ → Found
+  pub bad : ℕ → Bool
 
 -- a function with another value at one place
 abbrev pub with : {A : Type 0} → ℕ → A → (ℕ → A) → ℕ → A
 with k v f j = cond (eqb j k) v (f j)
+
+-- ---- blocks that came in bad
+-- the file of a block at place g below its block count
+unfoldable pub fileWith : List ℕ → ℕ → Found
+fileWith rows g = first (files rows) (λ r. leb (startOf rows r) g && ltb g (startOf rows r + blocksAt rows r))
+
+-- a block below its file's block count at set-up that came in bad; g - start is its number in the file
+unfoldable pub badIn : ℕ → List ℕ → List ℕ → ℕ → Found → Bool
+badIn p rows store g (found r) = fails (g - startOf rows r) (block p g store)
+badIn p rows store g missing = false
+
+-- page g is of the file in this row
+unfoldable pub inRow : List ℕ → Found → ℕ → Bool
+inRow rows (found r) g = leb (startOf rows r) g && ltb g (startOf rows r + capacityAt rows r)
+inRow rows missing g = false
 
 -- it starts from the rows, store and log position at set-up, no pins
 unfoldable pub firstShelf : Memory → ℕ → ℕ → Shelf
@@ -43,6 +61,7 @@ firstShelf m p at =
       bytes = λ g. block p g (m .store);
       counts = λ g. 0;
       holds = λ b. missing;
+      bad = λ g. badIn p (m .rows) (m .store) g (fileWith (m .rows) g);
     }
 
 -- checked downwards: the first place that refuses gives its number
@@ -69,6 +88,11 @@ module _ (s : Shelf) where
   unfoldable pub noPage : ℕ → Found → Bool
   noPage b (found r) = leb (blocksAt (s .rows) r) b
   noPage b missing = false
+
+  -- 17, a bad block
+  unfoldable pub isBad : Found → Bool
+  isBad (found g) = s .bad g
+  isBad missing = false
 
   -- 5 if the count is 262143; 6 if the count is 0 and N pages have pins
   unfoldable pub countFull : Found → Bool
@@ -98,14 +122,14 @@ module _ (s : Shelf) where
   filePinned (found r) = any (blocksAt (s .rows) r) (λ b. hasPins (startOf (s .rows) r + b))
   filePinned missing = false
 
-  -- a name's two places; those of a pin above the victim's
-  unfoldable pub nameFirst : PageName → List Place → List Place
-  nameFirst n later =
+  -- a page's three places; those of a pin above the victim's
+  unfoldable pub pageFirst : PageName → List Place → List Place
+  pageFirst n later =
       let r = rowOf (s .rows) (n .file) in
-      place 3 (noFile r) ∷ place 4 (noPage (n .block .0) r) ∷ later
+      place 3 (noFile r) ∷ place 4 (noPage (n .block .0) r) ∷ place 17 (isBad (placeOf (s .rows) n)) ∷ later
 
   unfoldable pub above : PageName → List Place
-  above n = nameFirst n (place 5 (countFull (placeOf (s .rows) n)) ∷ [])
+  above n = pageFirst n (place 5 (countFull (placeOf (s .rows) n)) ∷ [])
 
   unfoldable pub places : Call → List Place
   places (Pin n) = above n ++ (place 6 (noBuffer (placeOf (s .rows) n)) ∷ [])
@@ -120,7 +144,7 @@ module _ (s : Shelf) where
       ∷ [])
   places (Flush b) = numberPlaces b []
   places Checkpoint = []
-  places (Peek n) = nameFirst n []
+  places (Peek n) = pageFirst n []
   places (Extend f) = let r = rowOf (s .rows) f in place 3 (noFile r) ∷ place 13 (noRoom r) ∷ []
   places (Drop f) = let r = rowOf (s .rows) f in place 3 (noFile r) ∷ place 14 (filePinned r) ∷ []
   places (LogInserted p) = place 15 (ltb p (s .inserted)) ∷ []
@@ -131,10 +155,19 @@ module _ (s : Shelf) where
   refuses c = firstOf (places c)
 
 -- ---- what an accepted call does
--- the shelf with other counts and held pages, with other bytes, with other rows, with another position
+-- the shelf with other counts and held pages, with other bytes, with other rows, with another position, with other bad blocks
 abbrev pub withPins : (ℕ → ℕ) → (ℕ → Found) → Shelf → Shelf
 withPins c h s =
-    record { buffers = s .buffers; size = s .size; inserted = s .inserted; rows = s .rows; bytes = s .bytes; counts = c; holds = h }
+    record {
+      buffers = s .buffers;
+      size = s .size;
+      inserted = s .inserted;
+      rows = s .rows;
+      bytes = s .bytes;
+      counts = c;
+      holds = h;
+      bad = s .bad;
+    }
 
 abbrev pub withBytes : (ℕ → List ℕ) → Shelf → Shelf
 withBytes x s =
@@ -146,6 +179,7 @@ withBytes x s =
       bytes = x;
       counts = s .counts;
       holds = s .holds;
+      bad = s .bad;
     }
 
 abbrev pub withRows : List ℕ → Shelf → Shelf
@@ -158,11 +192,34 @@ withRows x s =
       bytes = s .bytes;
       counts = s .counts;
       holds = s .holds;
+      bad = s .bad;
     }
 
 abbrev pub withInserted : ℕ → Shelf → Shelf
 withInserted x s =
-    record { buffers = s .buffers; size = s .size; inserted = x; rows = s .rows; bytes = s .bytes; counts = s .counts; holds = s .holds }
+    record {
+      buffers = s .buffers;
+      size = s .size;
+      inserted = x;
+      rows = s .rows;
+      bytes = s .bytes;
+      counts = s .counts;
+      holds = s .holds;
+      bad = s .bad;
+    }
+
+abbrev pub withBad : (ℕ → Bool) → Shelf → Shelf
+withBad x s =
+    record {
+      buffers = s .buffers;
+      size = s .size;
+      inserted = s .inserted;
+      rows = s .rows;
+      bytes = s .bytes;
+      counts = s .counts;
+      holds = s .holds;
+      bad = x;
+    }
 
 -- a pin that got buffer number b: count + 1, and b holds the page
 unfoldable pub pinnedAt : Shelf → ℕ → Found → Shelf
@@ -192,8 +249,9 @@ extendedAt s (found r) =
     withBytes (with (nextBlock s r) (replicate (s .size) 0) (s .bytes)) (withRows (setBlocks (s .rows) r (suc (blocksAt (s .rows) r))) s)
 extendedAt s missing = s
 
+-- a dropped file's blocks are bad no more
 unfoldable pub droppedAt : Shelf → Found → Shelf
-droppedAt s (found r) = withRows (setBlocks (s .rows) r 0) s
+droppedAt s (found r) = withBad (λ g. not (inRow (s .rows) (found r) g) && s .bad g) (withRows (setBlocks (s .rows) r 0) s)
 droppedAt s missing = s
 
 -- the shelf after an accepted call; at a pin, b is the buffer number that the program answered

@@ -15,6 +15,7 @@ use Rattle.buftag.specs.declared.name.PageName.{PageName}
 use Rattle.buftag.specs.Name.{FitsFile, Fits}
 use Rattle.buftag.specs.Names.{noName}
 use Rattle.bufmodel.specs.Position.{position}
+use Rattle.bufmodel.specs.Checksum.{bare, bareFrom}
 use Rattle.bufmodel.specs.Rows.{files, blocksAt, rowOf, startOf, storeBlocks, placeOf}
 use Rattle.bufmodel.specs.Memory.{Memory, buffers, wordOf, nameOf, pageOf}
 use Rattle.bufmodel.specs.Sizes.{SizedFor}
@@ -23,6 +24,7 @@ use Rattle.bufmodel.specs.Outcome.{Outcome, zeros, one, two}
 use Rattle.bufmodel.specs.Calls.{setUp, part}
 use Rattle.bufmodel.specs.Step.{Call, Pin, Unpin, Read, Write, Flush, Checkpoint, Peek, Extend, Drop, LogInserted, LogFlushed, step}
 use Rattle.bufmodel.specs.Lent.{Lent, Called, answerWords, opened, called}
+use Rattle.shelf.specs.Sums.{fails}
 use Rattle.shelf.specs.Shelf.{Shelf, firstOf, hasPins, pinnedPages, above, refuses}
 use Rattle.shelf.specs.Ledger.{Ledger, firstLedger, bufferIn, ledgerAfter, puts}
 use Rattle.shelf.specs.Published.{Marks, marksOf, listEnd, Alike, Published}
@@ -86,7 +88,8 @@ Answers o (Drop f) = o .answer ≡ zeros
 Answers o (LogInserted p) = o .answer ≡ zeros
 Answers o (LogFlushed p) = o .answer ≡ zeros
 
--- ---- what an accepted call shows is the shelf's
+-- ---- what an accepted call shows is the shelf's. Bytes 8 and 9 of a page are left out when reads, peeks and store are compared with the
+-- shelf, and nowhere else; what they are is demand 2's
 module _ (s : Shelf) (o : Outcome) where
   -- Its buffer number is the program's: if the page had pins, the number already holding it, else one below N that holds none
   pub record PinRule (g : ℕ) : Type 0 where
@@ -98,12 +101,13 @@ module _ (s : Shelf) (o : Outcome) where
   Shows (Pin n) = (g : ℕ) × (placeOf (s .rows) n ≡ found g) × PinRule g × (o .bytes ≡ [])
   Shows (Unpin b) = o .bytes ≡ []
   -- the bytes that a read fills
-  Shows (Read b from out) = (g : ℕ) × (s .holds b ≡ found g) × (o .bytes ≡ take (length out) (drop from (s .bytes g)))
+  Shows (Read b from out) =
+      (g : ℕ) × (s .holds b ≡ found g) × (bareFrom from (o .bytes) ≡ take (length out) (drop from (bare (s .bytes g))))
   Shows (Write b from bytes at) = o .bytes ≡ bytes
   Shows (Flush b) = o .bytes ≡ []
   Shows Checkpoint = o .bytes ≡ []
   -- or a peek hands back
-  Shows (Peek n) = (g : ℕ) × (placeOf (s .rows) n ≡ found g) × (part o ≡ s .bytes g) × (o .bytes ≡ [])
+  Shows (Peek n) = (g : ℕ) × (placeOf (s .rows) n ≡ found g) × (bare (part o) ≡ bare (s .bytes g)) × (o .bytes ≡ [])
   -- an extend's block number
   Shows (Extend f) = (r : ℕ) × (rowOf (s .rows) f ≡ found r) × (getD (o .answer) 0 0 ≡ blocksAt (s .rows) r) × (o .bytes ≡ [])
   Shows (Drop f) = o .bytes ≡ []
@@ -141,12 +145,16 @@ pub record Agrees (m : Memory) (l : Ledger) (c : Call) (o : Outcome) (l′ : Led
   pub long : length (o .after .store) ≡ length (m .store)
   -- the blocks that it puts there, and the page of each buffer in use, are the shelf's
   pub stored : (g : ℕ) → g < storeBlocks (l .shelf .rows) → puts l c (o .answer) (o .refusal) g ≡ true
-      → block (l .shelf .size) g (o .after .store) ≡ l′ .shelf .bytes g
+      → bare (block (l .shelf .size) g (o .after .store)) ≡ bare (l′ .shelf .bytes g)
   pub held : (i g : ℕ) → i < buffers (o .after) → wordOf (o .after) i ≢ 0 → placeOf (o .after .rows) (nameOf (o .after) i) ≡ found g
-      → pageOf (o .after) i ≡ l′ .shelf .bytes g
+      → bare (pageOf (o .after) i) ≡ bare (l′ .shelf .bytes g)
+  -- a block of the store below its file's block count fails its checksum exactly if it came in bad
+  pub sums : (n : PageName) (g : ℕ) → placeOf (o .after .rows) n ≡ found g
+      → fails (n .block .0) (block (l .shelf .size) g (o .after .store)) ≡ l′ .shelf .bad g
   -- after an accepted checkpoint also, in the store, every byte of each block below its file's block count
   pub settled : c ≡ Checkpoint → o .refusal ≡ 0 → (r b : ℕ) → r < files (l .shelf .rows) → b < blocksAt (l .shelf .rows) r
-      → block (l .shelf .size) (startOf (l .shelf .rows) r + b) (o .after .store) ≡ l .shelf .bytes (startOf (l .shelf .rows) r + b)
+      → let g = startOf (l .shelf .rows) r + b in
+      bare (block (l .shelf .size) g (o .after .store)) ≡ bare (l .shelf .bytes g)
 
 -- ---- and for the memory as it is lent: m before the call, r what it ended with, l′ the ledger after it
 -- −1 as 64 one bits

@@ -53,7 +53,7 @@ use Rattle.shelf.specs.Tests.{
   Words,
   Hand,
   FreeList,
-  Idle,
+  Pages,
 }
 use Rattle.shelf.specs.Trial.{size, log, sales, stock, pin, peek, write, read, readPosition, unpinned, exchange, Wrong, wrong}
 use Rattle.shelf.specs.Changes.{
@@ -262,7 +262,7 @@ wrongCalls =
     -- a drop leaves its buffers in their chains
     ∷ wrong (drops (λ m c o. leaving (withHeads (m .heads)) o)) 1 (pin sales 0 ∷ Unpin 0 ∷ Drop sales ∷ []) Books
     -- a drop clears its buffers' pages
-    ∷ wrong (drops (λ m c o. leaving (λ k. withPool (map (λ b. 0) (k .pool)) k) o)) 1 (pin sales 0 ∷ Unpin 0 ∷ Drop sales ∷ []) Idle
+    ∷ wrong (drops (λ m c o. leaving (λ k. withPool (map (λ b. 0) (k .pool)) k) o)) 1 (pin sales 0 ∷ Unpin 0 ∷ Drop sales ∷ []) Pages
     -- an extend adds two blocks
     ∷ wrong (extends (λ m c o. leaving (λ k. step k (Extend sales) .after) o)) 2 (Drop sales ∷ Extend sales ∷ []) Rows
     -- an extend loads the new page

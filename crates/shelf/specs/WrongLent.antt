@@ -43,7 +43,7 @@ use Rattle.shelf.specs.Tests.{
   Hand,
   FreeList,
   Chains,
-  Idle,
+  Pages,
 }
 use Rattle.shelf.specs.Trial.{size, log, bench, sales, pin, slice, Wrong, wrong, wrongSetUp}
 use Rattle.shelf.specs.Changes.{
@@ -100,7 +100,7 @@ wrongLent =
     -- there is a buffer more
     ∷ wrong (calls (λ m c o. leaving (λ k. withStates (k .states ++ (0 ∷ [])) k) o)) 1 (Checkpoint ∷ []) Words
     -- an empty buffer's page is written over
-    ∷ wrong (calls (λ m c o. leaving (λ k. withPool (set (k .pool) 0 1) k) o)) 1 (Checkpoint ∷ []) Idle
+    ∷ wrong (calls (λ m c o. leaving (λ k. withPool (set (k .pool) 0 1) k) o)) 1 (Checkpoint ∷ []) Pages
     -- the control record gets a sixth word
     ∷ wrong (leaves (λ m. withControlWords (m .control ++ (0 ∷ [])) m)) 1 (Checkpoint ∷ []) Control
     -- hand and top are exchanged in the control record
