@@ -110,3 +110,12 @@ permitted-sized s = lt-ltb _ _ (s .permitted)
 
 pub sized-page : {p : ℕ} {m : Memory} → SizedFor p m → (8 ≤ p) × (p ≤ 32768)
 sized-page s = permitted-fits (permitted-sized s)
+
+-- a page has a row of words at least
+pub sized-least : {p : ℕ} {m : Memory} → SizedFor p m → 1024 ≤ p
+sized-least {p} s =
+    ⊎-elim (λ e. omega arith)
+    (⊎-elim (λ e. omega arith)
+    (⊎-elim (λ e. omega arith)
+    (⊎-elim (λ e. omega arith) (⊎-elim (λ e. omega arith) (λ e. omega arith)))))
+    (permitted-says p .holds (permitted-sized s))
