@@ -2,6 +2,7 @@
 -- parts of a memory: places and outcomes, positions, rows, words
 pub mod OutcomeLaws
 pub mod PositionLaws
+pub mod WordsLaws
 pub mod RowsLaws
 pub mod WordLaws
 -- memory that passes the places 1 and 2, and which buffer has a page there
