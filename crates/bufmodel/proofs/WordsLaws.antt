@@ -41,8 +41,12 @@ length-words [] = refl
 -- words of equal bytes
 pub word-same : (xs ys : List ℕ) (at : ℕ) → ((k : ℕ) → at ≤ k → k < at + 4 → getD xs k 0 ≡ getD ys k 0) → wordAt xs at ≡ wordAt ys at
 word-same xs ys at h =
-    rw (h at (omega arith) (omega arith), h (at + 1) (omega arith) (omega arith), h (at + 2) (omega arith) (omega arith),
-    h (at + 3) (omega arith) (omega arith)) refl
+    rw (
+      h at (omega arith) (omega arith),
+      h (at + 1) (omega arith) (omega arith),
+      h (at + 2) (omega arith) (omega arith),
+      h (at + 3) (omega arith) (omega arith),
+    ) refl
 
 -- ---- bytes 8 and 9
 zero-both : (b : Bool) → _≡_ {A = ℕ} (cond b 0 0) 0

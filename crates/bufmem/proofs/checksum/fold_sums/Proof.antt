@@ -1,10 +1,8 @@
 use native.Mathlib.Omega.{arith}
 use borrow.Author.Needs.{needs}
 use mathlib.Core.Path.{_≡_, refl, ap, ap₂, _∙_}
-use Prim.Native.Nat.{ℕ, _≤_, _-_}
+use Prim.Native.Nat.{_≤_, _-_}
 use lib.Bits.{bitXor}
-use lib.ListN.{getD}
-use Rattle.laws.proofs.Tests.{at-end}
 use Rattle.bufmodel.specs.Checksum.{mixSum}
 use Rattle.bufmem.specs.Checksum.{foldAll}
 use Rattle.bufmem.proofs.ChecksumLaws.{fold-more}

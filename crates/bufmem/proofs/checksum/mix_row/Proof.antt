@@ -1,7 +1,6 @@
 use borrow.Author.Needs.{needs}
 use borrow.Author.Count.{below-more}
-use denote.Ref.{now}
-use mathlib.Core.Path.{_≡_, refl, sym, ap, ap₂, _∙_}
+use mathlib.Core.Path.{_≡_, refl, ap₂, _∙_}
 use native.Mathlib.Omega.{arith}
 use Prim.Native.Nat.{ℕ, _+_, _*_, _-_, _≤_, _<_}
 use lib.ListN.{length, getD, length-set}
@@ -37,6 +36,9 @@ add-word-at c = search needs
 word-at-requires : tie.Need-word-at-requires Inv-loop μ-loop
 word-at-requires c κs = search needs
 
+cast-mix-sum : tie.Need-cast-mix-sum Inv-loop μ-loop
+cast-mix-sum c = search needs
+
 mix-sum-requires : tie.Need-mix-sum-requires Inv-loop μ-loop
 mix-sum-requires c κs = search needs
 
@@ -55,7 +57,7 @@ loop-less c = search needs
 loop-again : tie.Need-loop-again Inv-loop μ-loop
 loop-again c =
     let l = c .before .before .before .before .loop in
-    let new = c .mix-sum .ensures ∙ ap₂ mixSum (c .before .word-at .ensures) (l .inv .3 (l .j) (omega arith)) in (
+    let new = c .mix-sum .ensures ∙ ap₂ mixSum (c .before .word-at .ensures .0) (l .inv .3 (l .j) (omega arith)) in (
       search needs,
       length-set (l .all) (l .j) _ ∙ l .inv .1,
       below-more _ (l .j) (λ k m. getD-set-other (l .all) (l .j) k _ 0 (omega arith) ∙ l .inv .2 k m)
@@ -78,6 +80,7 @@ mix-row-spec =
     mul-word-at
     add-word-at
     word-at-requires
+    cast-mix-sum
     mix-sum-requires
     mul-all
     slice-write-all

@@ -1,13 +1,15 @@
 use borrow.Author.Needs.{needs}
 use denote.Ref.{now}
-use mathlib.Core.Path.{_≡_, refl, sym, ap, ap₂, _∙_}
+use mathlib.Core.Path.{_≡_, ap, _∙_}
 use native.Mathlib.Omega.{arith}
-use Prim.Native.Nat.{ℕ, _+_, _*_, _/_, _%_, _-_, _≤_, _<_}
+use Prim.Native.Nat.{ℕ, _+_, _*_, _/_, _%_, _-_, _≤_}
 use lib.Bits.{bitXor}
-use lib.ListN.{length, getD}
-use Rattle.bufmodel.specs.Checksum.{bare, checksum, sums, sumTo}
+use lib.ListN.{length}
+use Rattle.laws.proofs.Tests.{at-end}
+use Rattle.bufmodel.specs.Checksum.{bare, checksum, sums}
 use Rattle.bufmem.specs.Checksum.{Summed}
-use Rattle.bufmem.proofs.ChecksumLaws.{summed-start, summed-more, mixed-behind, fold-same, length-bare}
+use Rattle.bufmodel.proofs.WordsLaws.{length-bare}
+use Rattle.bufmem.proofs.ChecksumLaws.{summed-start, summed-more, mixed-behind, fold-same}
 use Rattle.bufmem.proofs.checksum.page_checksum.Statement.{statement}
 use Rattle.bufmem.proofs.checksum.page_checksum.Tie as tie
 
@@ -21,7 +23,9 @@ mix-first-requires : tie.Need-mix-first-requires Inv-loop μ-loop
 mix-first-requires c κs = search needs
 
 loop-holds : tie.Need-loop-holds Inv-loop μ-loop
-loop-holds c = (search needs, search needs, summed-start _ _ (c .mix-first .ensures))
+loop-holds c =
+    let page = now (c .before .before .before .args .page) in
+    (search needs, search needs, summed-start (bare page) _ (omega (arith, length-bare 0 page, c .before .before .before .pre)) (c .mix-first .ensures))
 
 mul-mix-row : tie.Need-mul-mix-row Inv-loop μ-loop
 mul-mix-row c = search needs
@@ -37,10 +41,13 @@ loop-less c = search needs
 
 loop-again : tie.Need-loop-again Inv-loop μ-loop
 loop-again c =
-    let l = c .before .before .before .loop in (
+    let l = c .before .before .before .loop in
+    let page = now (c .before .before .before .before .before .before .before .args .page) in
+    let in-page : l .i * 128 + 128 ≤ length (bare page) = omega (arith, length-bare 0 page, c .before .before .loop-test .taken) in (
       search needs,
       search needs,
-      summed-more (bare _) _ _ (l .i) (l .inv .2) (mixed-behind _ _ _ (l .i * 128) (omega (arith, l .inv .0)) (c .mix-row .ensures)),
+      summed-more (bare page) _ _ (l .i) in-page (l .inv .2)
+          (mixed-behind page _ _ (l .i * 128) (omega (arith, l .inv .0)) (c .mix-row .ensures)),
     )
 
 fold-sums-requires : tie.Need-fold-sums-requires Inv-loop μ-loop
@@ -52,12 +59,14 @@ add-result c = search needs
 returns : tie.Need-returns Inv-loop μ-loop
 unfolding checksum
 returns c =
-    let l = c .before .before .loop in
-    let page = now (c .before .before .before .before .before .before .args .page) in
-    let block = c .before .before .before .before .before .before .args .block in
-    ap (λ (x : ℕ). bitXor x block % 65535 + 1)
-    (c .fold-sums .ensures
-    ∙ fold-same (bare page) _ (l .i) sums (ap (λ (x : ℕ). x / 128) (length-bare 0 page) ∙ omega (arith, l .inv .1, c .before .loop-test .left)) (omega arith) (l .inv .2))
+    let l = c .before .before .before .loop in
+    let a = c .before .before .before .before .before .before .before .args in
+    let page = bare (now (a .page)) in
+    let rows : length page ≡ length (now (a .page)) = length-bare 0 (now (a .page)) in
+    let all : Summed page (length page / 128) (l .sums) =
+    at-end (λ i. Summed page i (l .sums)) (length page / 128) (l .i) (omega (arith, rows, l .inv .1))
+    (omega (arith, rows, c .before .before .loop-test .left)) (l .inv .2) in
+    ap (λ (x : ℕ). bitXor x (a .number .0) % 65535 + 1) (c .before .fold-sums .ensures ∙ fold-same page _ sums (omega arith) all)
 
 pub page-checksum-spec : {M : Type 1} → statement M
 page-checksum-spec =
