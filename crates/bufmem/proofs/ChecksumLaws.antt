@@ -1,14 +1,17 @@
 -- Laws of the rounds over the sums.
 use Prim.Native.Nat.{ℕ, zero, suc, _+_, _*_, _/_, _≤_, _<_}
 use mathlib.Core.Path.{_≡_, refl, sym, ap, ap₂, _∙_}
+use mathlib.Core.Logic.{⊎-elim}
 use mathlib.Core.List.{List}
 use native.Mathlib.Numerals.{add-one}
 use native.Mathlib.Omega.{arith}
-use lib.ListN.{getD, length}
+use lib.ListN.{getD, length, set, length-set}
+use lib.Seq.{getD-set-same, getD-set-other}
 use lib.Bits.{bitXor}
+use Rattle.laws.proofs.Tests.{eq-or-ne}
 use Rattle.bufhash.specs.Bytes.{wordAt}
 use Rattle.bufmodel.specs.Checksum.{mixSum, wordsIn, sumTo, sumOf, foldTo, sums, sumStarts, bare}
-use Rattle.bufmodel.proofs.WordsLaws.{word-in, length-words, word-same, bare-other}
+use Rattle.bufmodel.proofs.WordsLaws.{word-in, length-words, word-same, bare-other, bare-8, bare-9}
 use Rattle.bufmem.specs.Checksum.{Mixed, Summed, foldAll}
 
 pub fold-more : (all : List ℕ) (j : ℕ) → bitXor (foldAll all j) (mixSum 0 (mixSum 0 (getD all j 0))) ≡ foldAll all (j + 1)
@@ -68,7 +71,18 @@ pub mixed-behind : (page before after : List ℕ) (at : ℕ) → 128 ≤ at → 
 mixed-behind page before after at l =
     mixed-same page (bare page) before after at (λ k a b. sym (bare-other page k (omega arith) (omega arith)))
 
--- the first row as it is copied
-pub mixed-first : (row page before after : List ℕ) → ((k : ℕ) → k < 128 → getD row k 0 ≡ getD (bare page) k 0) → Mixed row 0 before after
-    → Mixed (bare page) 0 before after
-mixed-first row page before after e = mixed-same row (bare page) before after 0 (λ k a b. e k b)
+-- the first row, copied, and then its bytes 8 and 9 cleared
+row-byte : (row page : List ℕ) (k : ℕ) → length row ≡ 128 → getD row k 0 ≡ getD page k 0
+    → getD (set (set row 8 0) 9 0) k 0 ≡ getD (bare page) k 0
+row-byte row page k l e =
+    ⊎-elim (λ nine. rw nine (getD-set-same (set row 8 0) 9 0 0 (omega (arith, l, length-set row 8 0)) ∙ sym (bare-9 page)))
+    (λ m.
+    getD-set-other (set row 8 0) 9 k 0 0 m
+    ∙ ⊎-elim (λ eight. rw eight (getD-set-same row 8 0 0 (omega (arith, l)) ∙ sym (bare-8 page)))
+    (λ n. getD-set-other row 8 k 0 0 n ∙ e ∙ sym (bare-other page k n m)) (eq-or-ne k 8))
+    (eq-or-ne k 9)
+
+pub mixed-first : (row page before after : List ℕ) → length row ≡ 128 → ((k : ℕ) → k < 128 → getD row k 0 ≡ getD page k 0)
+    → Mixed (set (set row 8 0) 9 0) 0 before after → Mixed (bare page) 0 before after
+mixed-first row page before after l e =
+    mixed-same (set (set row 8 0) 9 0) (bare page) before after 0 (λ k a b. row-byte row page k l (e k b))

@@ -63,8 +63,9 @@ bare-at s (b ∷ bs) (suc k) =
 
 pub bare-other : (page : List ℕ) (k : ℕ) → k ≢ 8 → k ≢ 9 → getD (bare page) k 0 ≡ getD page k 0
 bare-other page k a b =
-    bare-at 0 page k
-    ∙ ap₂ (λ (x y : Bool). cond (x || y) 0 (getD page k 0)) (ne-eqb (0 + k) 8 (λ e. a (omega arith))) (ne-eqb (0 + k) 9 (λ e. b (omega arith)))
+    let eight : eqb (0 + k) 8 ≡ false = ne-eqb (0 + k) 8 (λ e. a (omega arith)) in
+    let nine : eqb (0 + k) 9 ≡ false = ne-eqb (0 + k) 9 (λ e. b (omega arith)) in
+    bare-at 0 page k ∙ ap₂ (λ (x y : Bool). cond (x || y) 0 (getD page k 0)) eight nine
 
 pub bare-8 : (page : List ℕ) → getD (bare page) 8 0 ≡ 0
 bare-8 page = bare-at 0 page 8

@@ -1,15 +1,10 @@
 use borrow.Author.Needs.{needs}
 use borrow.Author.Count.{below-more}
-use denote.Ref.{now}
-use mathlib.Core.Path.{_≡_, refl, sym, ap, _∙_}
-use mathlib.Core.Logic.{⊎-elim}
+use mathlib.Core.Path.{_≡_, refl, _∙_}
 use native.Mathlib.Omega.{arith}
 use Prim.Native.Nat.{ℕ, _-_, _≤_, _<_}
 use lib.ListN.{length, getD, set, length-set}
 use lib.Seq.{getD-set-same, getD-set-other}
-use Rattle.laws.proofs.Tests.{eq-or-ne}
-use Rattle.bufmodel.specs.Checksum.{bare}
-use Rattle.bufmodel.proofs.WordsLaws.{bare-other, bare-8, bare-9}
 use Rattle.bufmem.proofs.ChecksumLaws.{mixed-first}
 use Rattle.bufmem.proofs.checksum.mix_first.Statement.{statement}
 use Rattle.bufmem.proofs.checksum.mix_first.Tie as tie
@@ -61,22 +56,7 @@ mix-row-requires c κs =
 returns : tie.Need-returns Inv-loop μ-loop
 returns c =
     let l = c .before .before .before .before .loop in
-    let page = now (c .before .before .before .before .before .before .args .page) in
-    let row = l .row in
-    let one = set row 8 0 in
-    let len : length one ≡ 128 = length-set row 8 0 ∙ l .inv .1 in
-    let same : (k : ℕ) → k < 128 → getD (set one 9 0) k 0 ≡ getD (bare page) k 0 =
-    λ k h.
-    ⊎-elim (λ e. ap (λ (x : ℕ). getD (set one 9 0) x 0) e ∙ getD-set-same one 9 0 0 (omega (arith, len)) ∙ sym (bare-9 page)
-    ∙ ap (λ (x : ℕ). getD (bare page) x 0) (sym e))
-    (λ ne.
-    getD-set-other one 9 k 0 0 ne
-    ∙ ⊎-elim
-    (λ e. ap (λ (x : ℕ). getD one x 0) e ∙ getD-set-same row 8 0 0 (omega (arith, l .inv .1)) ∙ sym (bare-8 page)
-    ∙ ap (λ (x : ℕ). getD (bare page) x 0) (sym e))
-    (λ nf. getD-set-other row 8 k 0 0 nf ∙ l .inv .2 k (search needs) ∙ sym (bare-other page k nf ne)) (eq-or-ne k 8))
-    (eq-or-ne k 9) in
-    mixed-first (set one 9 0) page _ _ same (c .mix-row .ensures)
+    mixed-first (l .row) _ _ _ (l .inv .1) (λ k h. l .inv .2 k (search needs)) (c .mix-row .ensures)
 
 pub mix-first-spec : {M : Type 1} → statement M
 mix-first-spec =

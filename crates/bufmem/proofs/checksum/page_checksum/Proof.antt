@@ -24,8 +24,10 @@ mix-first-requires c κs = search needs
 
 loop-holds : tie.Need-loop-holds Inv-loop μ-loop
 loop-holds c =
-    let page = now (c .before .before .before .args .page) in
-    (search needs, search needs, summed-start (bare page) _ (omega (arith, length-bare 0 page, c .before .before .before .pre)) (c .mix-first .ensures))
+    let b = c .before .before .before in
+    let page = now (b .args .page) in
+    let long : 128 ≤ length (bare page) = omega (arith, length-bare 0 page, b .pre) in
+    (search needs, search needs, summed-start (bare page) _ long (c .mix-first .ensures))
 
 mul-mix-row : tie.Need-mul-mix-row Inv-loop μ-loop
 mul-mix-row c = search needs
