@@ -3,6 +3,7 @@
 pub mod OutcomeLaws
 pub mod PositionLaws
 pub mod ChecksumLaws
+pub mod WordsLaws
 pub mod RowsLaws
 pub mod WordLaws
 -- memory that passes the places 1 and 2, and which buffer has a page there

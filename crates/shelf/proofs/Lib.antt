@@ -1,6 +1,7 @@
 -- The proofs of the three demands, each module after those that it uses.
 -- what calls' numbers say of the memory, and its words
 pub mod WithLaws
+pub mod SumsLaws
 pub mod CallKinds
 pub mod ShelfPlaces
 pub mod ShelfSizes

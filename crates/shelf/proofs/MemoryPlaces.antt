@@ -19,7 +19,7 @@ use Rattle.bufmodel.specs.Rows.{blocksAt, rowOf, placeOf}
 use Rattle.bufmodel.specs.Memory.{Memory, buffers, wordOf}
 use Rattle.bufmodel.specs.Sweep.{sweepAll}
 use Rattle.bufmodel.specs.Outcome.{Place, place, refusalOf}
-use Rattle.bufmodel.specs.Pin.{noRow, noBlock, countFull, noVictim, heldIn, namePlaces, pinPlaces}
+use Rattle.bufmodel.specs.Pin.{noRow, noBlock, countFull, noVictim, heldIn, namePlaces, pagePlaces, pinPlaces}
 use Rattle.bufmodel.specs.Calls.{bufferPlaces}
 use Rattle.bufmodel.proofs.WordLaws.{pins-lt}
 use Rattle.bufmodel.proofs.RowsLaws.{place-found, place-is}
@@ -88,17 +88,25 @@ last-six true u e = absurd (omega arith)
 last-six false true e = (refl, refl)
 last-six false false e = absurd (omega arith)
 
+-- a number other than a place's own: it passes, and the number is the later places'
+pub past-place : (j : ℕ) (t : Bool) {k : ℕ} (later : List Place) → refusalOf (place j t ∷ later) ≡ k → k ≢ j
+    → (t ≡ false) × (refusalOf later ≡ k)
+unfolding refusalOf
+past-place j true later e other = absurd (other (sym e))
+past-place j false later e other = (refl, e)
+
 module _ (m : Memory) (n : PageName) where
   -- a number other than 3 and 4: there is such a page, and the number is theirs
   pub pin-found : {k : ℕ} → refusalOf (pinPlaces m n) ≡ k → k ≢ 3 → k ≢ 4 → (g : ℕ) × (placeOf (m .rows) n ≡ found g)
-  unfolding pinPlaces
+  unfolding pinPlaces pagePlaces
   pin-found e three four = let w = name-found (m .rows) n _ e three four in (w .0, w .1)
 
-  pub pin-last : {k : ℕ} (h : Held) → heldIn m n ≡ h → refusalOf (pinPlaces m n) ≡ k → k ≢ 3 → k ≢ 4
+  pub pin-last : {k : ℕ} (h : Held) → heldIn m n ≡ h → refusalOf (pinPlaces m n) ≡ k → k ≢ 3 → k ≢ 4 → k ≢ 17
       → refusalOf (lastPlaces m h) ≡ k
-  unfolding pinPlaces
-  pin-last h q e three four =
-      ap (λ (x : Held). refusalOf (lastPlaces m x)) (sym q) ∙ name-found (m .rows) n _ e three four .2
+  unfolding pinPlaces pagePlaces
+  pin-last h q e three four sum =
+      ap (λ (x : Held). refusalOf (lastPlaces m x)) (sym q)
+      ∙ past-place 17 _ (lastPlaces m (heldIn m n)) (name-found (m .rows) n _ e three four .2) sum .1
 
   -- 6: the page is not held, and every buffer is pinned
   pub pin-stuck : refusalOf (pinPlaces m n) ≡ 6 → (heldIn m n ≡ Nowhere) × ((i : ℕ) → i < buffers m → pinned (wordOf m i) ≡ true)
@@ -106,9 +114,9 @@ module _ (m : Memory) (n : PageName) where
   pin-stuck e = go (heldIn m n) refl
     where
       go : (h : Held) → heldIn m n ≡ h → (heldIn m n ≡ Nowhere) × ((i : ℕ) → i < buffers m → pinned (wordOf m i) ≡ true)
-      go (At b) q = absurd (false≢true (last-six _ _ (pin-last (At b) q e (omega arith) (omega arith)) .1))
+      go (At b) q = absurd (false≢true (last-six _ _ (pin-last (At b) q e (omega arith) (omega arith) (omega arith)) .1))
       go Nowhere q =
-          (q, all-at (λ i. pinned (wordOf m i)) (buffers m) (last-six _ _ (pin-last Nowhere q e (omega arith) (omega arith)) .1))
+          (q, all-at (λ i. pinned (wordOf m i)) (buffers m) (last-six _ _ (pin-last Nowhere q e (omega arith) (omega arith) (omega arith)) .1))
 
 -- ---- an accepted pin
 module _ (m : Memory) (n : PageName) (z : refusalOf (pinPlaces m n) ≡ 0) where
@@ -120,7 +128,7 @@ module _ (m : Memory) (n : PageName) (z : refusalOf (pinPlaces m n) ≡ 0) where
   pub pin-room : (b : BufferNumber) → heldIn m n ≡ At b → pins (wordOf m (b .0)) < maxPins
   unfolding countFull
   pin-room b e =
-      let p = refusal-passed 5 _ _ (omega arith) (pin-last m n (At b) e z (omega arith) (omega arith)) .0 in
+      let p = refusal-passed 5 _ _ (omega arith) (pin-last m n (At b) e z (omega arith) (omega arith) (omega arith)) .0 in
       let ne = eqb-false (pins (wordOf m (b .0))) maxPins p in
       omega (arith, pins-lt (wordOf m (b .0)))
 
@@ -128,7 +136,7 @@ module _ (m : Memory) (n : PageName) (z : refusalOf (pinPlaces m n) ≡ 0) where
   pub pin-open : heldIn m n ≡ Nowhere → (i : ℕ) × (i < buffers m) × (pinned (wordOf m i) ≡ false)
   unfolding noVictim
   pin-open e =
-      let later = refusal-passed 5 _ _ (omega arith) (pin-last m n Nowhere e z (omega arith) (omega arith)) .1 in
+      let later = refusal-passed 5 _ _ (omega arith) (pin-last m n Nowhere e z (omega arith) (omega arith) (omega arith)) .1 in
       all-false-at (λ i. pinned (wordOf m i)) (buffers m) (refusal-passed 6 _ [] (omega arith) later .0)
 
   -- so the sweep finds a victim

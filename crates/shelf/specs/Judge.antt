@@ -253,7 +253,7 @@ judgeCalls pool m l (c ∷ cs) =
     let k = marksAfter (opened m) (c .call) in
     let on = judgeCalls pool (r .lent) l′ cs in
     failing (agreesTests (opened m) l (c .call) o l′)
-    (failing (whenDone (o .refusal) (saidTests (opened m) (o .answer) (c .call)))
+    (failing (whenDone (o .refusal) (saidTests (opened m) (o .answer) (o .bytes) (c .call)))
     (failing (whenDone (o .refusal) (clockTests (opened m) o k))
     (failing (leftTests m r l′)
     (failing (whenDone (o .refusal) (nameTests (opened m) o k))

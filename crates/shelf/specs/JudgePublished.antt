@@ -2,7 +2,7 @@
 use Prim.Native.Nat.{ℕ, _-_, _*_}
 use mathlib.Core.Bool.{Bool, true, false, _&&_, cond}
 use mathlib.Core.List.{List, [], _∷_}
-use lib.ListN.{length, getD, take}
+use lib.ListN.{length, getD, take, drop}
 use lib.Dec.{eqb}
 use Rattle.laws.specs.Every.{all}
 use Rattle.laws.specs.Sum.{count}
@@ -38,6 +38,7 @@ use Rattle.shelf.specs.Published.{
 }
 use Rattle.shelf.specs.Tests.{
   Probes,
+  Bytes,
   Counts,
   Part,
   Words,
@@ -173,18 +174,18 @@ module _ (m : Memory) where
     peekTest n (At b) = sameList a (two 1 (b .0 * size m))
     peekTest n Nowhere = ifPlace (placeOf (m .rows) n) (λ g. sameList a (two 0 (g * size m)))
 
-    unfoldable pub saidTests : Call → List Test
-    saidTests (Pin n) = test Probes (pinTest (heldIn m n)) ∷ []
-    saidTests (Unpin b) = []
-    saidTests (Read b from out) = []
-    saidTests (Write b from bytes at) = []
-    saidTests (Flush b) = test Counts (sameList a (one (cond (dirty (wordOf m b)) 1 0))) ∷ []
-    saidTests Checkpoint = test Counts (sameList a (one (count (buffers m) (λ i. dirty (wordOf m i))))) ∷ []
-    saidTests (Peek n) = test Part (peekTest n (heldIn m n)) ∷ []
-    saidTests (Extend f) = []
-    saidTests (Drop f) = []
-    saidTests (LogInserted p) = []
-    saidTests (LogFlushed p) = []
+    unfoldable pub saidTests : List ℕ → Call → List Test
+    saidTests bytes (Pin n) = test Probes (pinTest (heldIn m n)) ∷ []
+    saidTests bytes (Unpin b) = []
+    saidTests bytes (Read b from out) = test Bytes (sameList bytes (take (length out) (drop from (pageOf m b)))) ∷ []
+    saidTests bytes (Write b from new at) = []
+    saidTests bytes (Flush b) = test Counts (sameList a (one (cond (dirty (wordOf m b)) 1 0))) ∷ []
+    saidTests bytes Checkpoint = test Counts (sameList a (one (count (buffers m) (λ i. dirty (wordOf m i))))) ∷ []
+    saidTests bytes (Peek n) = test Part (peekTest n (heldIn m n)) ∷ []
+    saidTests bytes (Extend f) = []
+    saidTests bytes (Drop f) = []
+    saidTests bytes (LogInserted p) = []
+    saidTests bytes (LogFlushed p) = []
 
   -- what it leaves: the clock and the free list; names and chains; pages and blocks
   module _ (o : Outcome) (k : Marks) where

@@ -6,7 +6,7 @@ use mathlib.Core.Path.{_≡_}
 use mathlib.Core.Logic.{_≢_}
 use mathlib.Core.Bool.{Bool, not, _&&_, cond}
 use mathlib.Core.List.{List, [], _∷_}
-use lib.ListN.{length, getD, replicate}
+use lib.ListN.{length, getD, take, drop, replicate}
 use lib.IntN.{ℤ, pos, negsuc}
 use lib.Dec.{eqb}
 use Rattle.laws.specs.Sum.{count}
@@ -218,11 +218,12 @@ module _ (m : Memory) where
     droppedTo zero = marksOf m
     droppedTo (suc j) = let k = droppedTo j in cond (filed j) (emptied j k) k
 
-  -- ---- what each call leaves where it is accepted; the count that flush and checkpoint wrote; a pin's is above
+  -- ---- what each call leaves where it is accepted; the bytes that a read fills, 8 and 9 among them; the count that flush and checkpoint
+  -- wrote; a pin's is above
   abbrev pub Accepts : Call → Outcome → Type 0
   Accepts (Pin n) o = Unit {0}
   Accepts (Unpin b) o = Words o (with b (wordOf m b - 1) (wordOf m)) blocksOf
-  Accepts (Read b from out) o = Words o (wordOf m) blocksOf
+  Accepts (Read b from out) o = Words o (wordOf m) blocksOf × (o .bytes ≡ take (length out) (drop from (pageOf m b)))
   Accepts (Write b from bytes at) o =
       Leaves o (withWords (with b (dirtied (wordOf m b)) (wordOf m)) (m .control .hand) (marksOf m))
       (with b (writtenPage at from bytes (pageOf m b)) (pageOf m)) blocksOf

@@ -19,9 +19,9 @@ pub data Clause : Type 0 where
   Neither Six Number Answers Shows Blank Kept Rows Inserted Flushed Ordered Others Long Settled Stored Held Sums : Clause
   -- of `Left`; of the opened memory, `Published.same` says what `Same` does
   Same Control Sizes Books : Clause
-  -- of `Published`: what a pin answers, the count written, the part that a peek hands back; then the marks, the pool's pages, the store's
-  -- blocks
-  Probes Counts Part Words Hand FreeList Names Chains Pages Store : Clause
+  -- of `Published`: what a pin answers, the bytes that a read fills, the count written, the part that a peek hands back; then the marks,
+  -- the pool's pages, the store's blocks
+  Probes Bytes Counts Part Words Hand FreeList Names Chains Pages Store : Clause
 
 -- none fails, or the first that does
 pub data Verdict : Type 0 where
