@@ -11,7 +11,8 @@ use lib.Bits.{bitXor}
 use Rattle.laws.proofs.Tests.{eq-or-ne}
 use Rattle.bufhash.specs.Bytes.{wordAt}
 use Rattle.bufmodel.specs.Checksum.{mixSum, wordsIn, sumTo, sumOf, foldTo, sums, sumStarts, bare}
-use Rattle.bufmodel.proofs.WordsLaws.{word-in, length-words, word-same, bare-other, bare-8, bare-9}
+use Rattle.bufmodel.proofs.ChecksumLaws.{bare-other}
+use Rattle.bufmodel.proofs.WordsLaws.{word-in, length-words, word-same, bare-8, bare-9}
 use Rattle.bufmem.specs.Checksum.{Mixed, Summed, foldAll}
 
 pub fold-more : (all : List ℕ) (j : ℕ) → bitXor (foldAll all j) (mixSum 0 (mixSum 0 (getD all j 0))) ≡ foldAll all (j + 1)

@@ -1,17 +1,14 @@
--- Laws of a page's words, and of its bytes 8 and 9 as zeros.
+-- Laws of a page's words, and of its bytes 8 and 9 among them.
 use Prim.Native.Nat.{ℕ, zero, suc, _+_, _*_, _/_, _≤_, _<_}
-use mathlib.Core.Path.{_≡_, refl, sym, ap, ap₂, _∙_}
-use mathlib.Core.Bool.{Bool, true, false, cond, _||_}
-use mathlib.Core.Logic.{_≢_}
+use mathlib.Core.Path.{_≡_, refl, ap, _∙_}
 use mathlib.Core.List.{List, [], _∷_}
 use native.Mathlib.Nat.{add-assoc}
 use native.Mathlib.Omega.{arith}
 use lib.ListN.{getD, length, drop}
 use lib.Seq.{getD-drop}
-use lib.Dec.{eqb}
-use borrow.Author.Tests.{ne-eqb}
 use Rattle.bufhash.specs.Bytes.{wordAt}
-use Rattle.bufmodel.specs.Checksum.{wordsIn, bareFrom, bare}
+use Rattle.bufmodel.specs.Checksum.{wordsIn, bare}
+use Rattle.bufmodel.proofs.ChecksumLaws.{bare-at}
 
 -- ---- the words of a page
 word-drop : (n : ℕ) (bytes : List ℕ) (at : ℕ) → wordAt (drop n bytes) at ≡ wordAt bytes (n + at)
@@ -48,32 +45,9 @@ word-same xs ys at h =
       h (at + 3) (omega arith) (omega arith),
     ) refl
 
--- ---- bytes 8 and 9
-zero-both : (b : Bool) → _≡_ {A = ℕ} (cond b 0 0) 0
-zero-both true = refl
-zero-both false = refl
-
-bare-at : (s : ℕ) (bytes : List ℕ) (k : ℕ) → getD (bareFrom s bytes) k 0 ≡ cond (eqb (s + k) 8 || eqb (s + k) 9) 0 (getD bytes k 0)
-unfolding bareFrom
-bare-at s [] k = sym (zero-both (eqb (s + k) 8 || eqb (s + k) 9))
-bare-at s (b ∷ bs) zero = let e : s ≡ s + 0 = omega arith in ap (λ (x : ℕ). cond (eqb x 8 || eqb x 9) 0 b) e
-bare-at s (b ∷ bs) (suc k) =
-    let e : suc s + k ≡ s + suc k = omega arith in
-    bare-at (suc s) bs k ∙ ap (λ (x : ℕ). cond (eqb x 8 || eqb x 9) 0 (getD bs k 0)) e
-
-pub bare-other : (page : List ℕ) (k : ℕ) → k ≢ 8 → k ≢ 9 → getD (bare page) k 0 ≡ getD page k 0
-bare-other page k a b =
-    let eight : eqb (0 + k) 8 ≡ false = ne-eqb (0 + k) 8 (λ e. a (omega arith)) in
-    let nine : eqb (0 + k) 9 ≡ false = ne-eqb (0 + k) 9 (λ e. b (omega arith)) in
-    bare-at 0 page k ∙ ap₂ (λ (x y : Bool). cond (x || y) 0 (getD page k 0)) eight nine
-
+-- ---- bytes 8 and 9 are zeros among them
 pub bare-8 : (page : List ℕ) → getD (bare page) 8 0 ≡ 0
 bare-8 page = bare-at 0 page 8
 
 pub bare-9 : (page : List ℕ) → getD (bare page) 9 0 ≡ 0
 bare-9 page = bare-at 0 page 9
-
-pub length-bare : (s : ℕ) (bytes : List ℕ) → length (bareFrom s bytes) ≡ length bytes
-unfolding bareFrom
-length-bare s [] = refl
-length-bare s (b ∷ bs) = ap suc (length-bare (suc s) bs)

@@ -1,8 +1,9 @@
-// The pool for programs in C: the twelve calls over lent memory, and the interface's number.
+// The pool for programs in C: the twelve calls over lent memory, a page's checksum, and the interface's number.
 
 pub mod answer;
 pub mod back;
 pub mod buffer;
+pub mod checksum;
 pub mod control;
 pub mod file;
 pub mod interface;

@@ -8,7 +8,7 @@ use lib.ListN.{length}
 use Rattle.laws.proofs.Tests.{at-end}
 use Rattle.bufmodel.specs.Checksum.{bare, checksum, sums}
 use Rattle.bufmem.specs.Checksum.{Summed}
-use Rattle.bufmodel.proofs.WordsLaws.{length-bare}
+use Rattle.bufmodel.proofs.ChecksumLaws.{length-bare}
 use Rattle.bufmem.proofs.ChecksumLaws.{summed-start, summed-more, mixed-behind, fold-same}
 use Rattle.bufmem.proofs.checksum.page_checksum.Statement.{statement}
 use Rattle.bufmem.proofs.checksum.page_checksum.Tie as tie
