@@ -14,7 +14,7 @@ use Rattle.bufmodel.specs.Memory.{Memory, memory, buffers, size, wordOf, nameOf
 use Rattle.bufmodel.specs.Moves.{putAt, writeBack, writeUpTo}
 use Rattle.bufmodel.proofs.GoodLaws.{Good}
 use Rattle.bufmodel.proofs.RowsLaws.{place-in}
-use Rattle.bufmodel.proofs.SizesLaws.{rows-say, sized-page}
+use Rattle.bufmodel.proofs.SizesLaws.{rows-say, sized-least}
 use Rattle.bufmoves.specs.Back.{Backed}
 use Rattle.bufcalls.specs.Checkpoint.{Stored}
 
@@ -26,7 +26,13 @@ bare m = memory (m .control) (m .states) (m .names) (m .pool) [] [] [] (m .rows)
 pub good-stored : (m : Memory) → Good m → Stored (bare m)
 good-stored m g =
     let s = g .sizes in
-    record { page = sized-page s .0; names = s .names; pool = s .pool; rows = rows-say (m .rows) .shown (s .rows); store = s .store }
+    record {
+      page = omega (arith, sized-least s);
+      names = s .names;
+      pool = s .pool;
+      rows = rows-say (m .rows) .shown (s .rows);
+      store = s .store;
+    }
 
 pub stored-backed : (m : Memory) → Stored m → (i : ℕ) → i < buffers m
     → Backed (memory (m .control) [] (m .names) (m .pool) [] [] [] (m .rows) (m .store)) i
@@ -55,9 +61,11 @@ module _ (m : Memory) (s : Stored m) (i : ℕ) (h : i < buffers m) where
   back-store : length (writeBack m i .store) ≡ length (m .store)
   unfolding writeBack
   back-store =
+      let long = length-block (size m) (buffers m) i (m .pool) (s .pool) h in
+      let number = nameOf m i .block .0 in
       length-cond (dirty (wordOf m i)) _ (m .store)
-      (length-putAt (size m) (storeBlocks (m .rows)) (pageOf m i) (m .store) (s .store)
-      (length-block (size m) (buffers m) i (m .pool) (s .pool) h) (placeOf (m .rows) (nameOf m i))
+      (length-putAt (size m) (storeBlocks (m .rows)) (sealed number (pageOf m i)) (m .store) (s .store)
+      (length-sealed number (pageOf m i) (omega (arith, long, s .page)) ∙ long) (placeOf (m .rows) (nameOf m i))
       (λ g e. place-in (m .rows) (rows-say (m .rows) .holds (s .rows)) (nameOf m i) e))
 
   back-states : length (writeBack m i .states) ≡ length (m .states)

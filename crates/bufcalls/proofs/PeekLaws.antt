@@ -3,17 +3,20 @@ use Prim.Native.Nat.{ℕ, zero, suc, _+_, _*_, _^_, _≤_, _<_}
 use native.Mathlib.Nat.{mul-le-mul-right}
 use native.Mathlib.Omega.{arith}
 use mathlib.Core.Path.{_≡_, refl, sym, _∙_}
+use mathlib.Core.Bool.{true, false}
 use mathlib.Core.Logic.{_≢_, ⊎-elim}
 use mathlib.Core.List.{List, []}
 use lib.ListN.{length, take, drop}
 use Rattle.laws.specs.First.{found}
-use Rattle.laws.proofs.Tests.{eq-or-ne}
+use Rattle.laws.specs.Block.{block}
+use Rattle.laws.proofs.Tests.{eq-or-ne, true-or-false}
 use Rattle.laws.proofs.Block.{block-in}
 use Rattle.buftag.specs.declared.name.PageName.{PageName}
 use Rattle.buftag.specs.declared.number.BufferNumber.{BufferNumber}
 use Rattle.buftag.specs.declared.lookup.Held as held
 use Rattle.buftag.specs.Lookup.{lookUp}
 use Rattle.bufmodel.specs.declared.answer.Peeked as peeked
+use Rattle.bufmodel.specs.Checksum.{passes}
 use Rattle.bufmodel.specs.Rows.{storeBlocks, placeOf}
 use Rattle.bufmodel.specs.Memory.{Memory, buffers, size}
 use Rattle.bufmodel.specs.Outcome.{Outcome, checked, done, refused}
@@ -29,7 +32,7 @@ use Rattle.bufmodel.proofs.SizesLaws.{sized-page}
 use Rattle.bufmem.specs.declared.seek.Sought.{Sought}
 use Rattle.bufmem.specs.declared.seek.Sought.the-variants.{At, Refused}
 use Rattle.bufmem.specs.Seek.{sought}
-use Rattle.bufmem.proofs.SeekLaws.{name-refused, name-at, looked-up}
+use Rattle.bufmem.proofs.SeekLaws.{name-at, page-refused, page-held, page-passes, page-differs, looked-up}
 
 -- ---- what the code answers
 module _ (m : Memory) (n : PageName) where
@@ -43,26 +46,44 @@ module _ (m : Memory) (n : PageName) where
   module _ (g : Good m) where
     late : {k : ℕ} → sought (m .rows) n ≡ Refused k → (k ≢ 0) × (peek m n ≡ refused k [] m)
     unfolding peek
-    late e = let p = name-refused (m .rows) n [] e in (p .0, end-own m _ [] _ g (p .1) (p .0))
+    late e = let p = page-refused m n [] e in (p .0, end-own m _ [] _ g (p .1) (p .0))
 
     pub peek-refused : {k : ℕ} → sought (m .rows) n ≡ Refused k
         → peeked.the-variants.Refused k ≡ peekedOf (peek m n)
     peek-refused e = let p = late e in peeked-refused (p .0) (p .1)
 
-    peek-done : {at : ℕ} → sought (m .rows) n ≡ At at → peek m n ≡ done (partOf m n (heldIn m n)) [] m
-    unfolding peek
-    peek-done e = end-done m _ [] _ g (name-at (m .rows) n [] e .1 ∙ refusal-none)
-
     module _ {at : ℕ} (e : sought (m .rows) n ≡ At at) where
+      -- held, or not held and the block passes
+      done-held : {b : BufferNumber} → heldIn m n ≡ held.the-variants.At b → peek m n ≡ done (partOf m n (heldIn m n)) [] m
+      unfolding peek
+      done-held h = end-done m _ [] _ g (page-held m n [] e h ∙ refusal-none)
+
+      done-passed : heldIn m n ≡ held.the-variants.Nowhere → passes (n .block .0) (block (size m) at (m .store)) ≡ true
+          → peek m n ≡ done (partOf m n (heldIn m n)) [] m
+      unfolding peek
+      done-passed h t = end-done m _ [] _ g (page-passes m n [] e h t ∙ refusal-none)
+
+      -- or it does not
+      differs : heldIn m n ≡ held.the-variants.Nowhere → passes (n .block .0) (block (size m) at (m .store)) ≡ false
+          → peek m n ≡ refused 17 [] m
+      unfolding peek
+      differs h t = end-own m _ [] _ g (page-differs m n [] e h t) (omega arith)
+
       pub peek-pool : {b : BufferNumber} → lookUp (m .heads) (m .chain) (m .names) n ≡ held.the-variants.At b
           → peeked.the-variants.InPool (b .0 * size m) ≡ peekedOf (peek m n)
       unfolding partOf peekedAt
-      peek-pool h = rw (peek-done e, sym (looked-up m g n) ∙ h)
+      peek-pool h = let q = sym (looked-up m g n) ∙ h in rw (done-held q, q)
+
+      pub peek-differs : lookUp (m .heads) (m .chain) (m .names) n ≡ held.the-variants.Nowhere
+          → passes (n .block .0) (block (size m) at (m .store)) ≡ false
+          → peeked.the-variants.Refused 17 ≡ peekedOf (peek m n)
+      peek-differs h t = peeked-refused (omega arith) (differs (sym (looked-up m g n) ∙ h) t)
 
       pub peek-store : lookUp (m .heads) (m .chain) (m .names) n ≡ held.the-variants.Nowhere
+          → passes (n .block .0) (block (size m) at (m .store)) ≡ true
           → peeked.the-variants.InStore (at * size m) ≡ peekedOf (peek m n)
       unfolding partOf peekedAt offsetOf
-      peek-store h = rw (peek-done e, sym (looked-up m g n) ∙ h, name-at (m .rows) n [] e .0)
+      peek-store h t = let q = sym (looked-up m g n) ∙ h in rw (done-passed q t, q, name-at (m .rows) n [] e .0)
 
     -- ---- the offsets fit, and a held page is within the pool
     pub place-small : {at : ℕ} → sought (m .rows) n ≡ At at → at * size m < 2 ^ 64
@@ -102,7 +123,16 @@ module _ (m : Memory) where
 
     tells-sought : Good m → (s : Sought) → sought (m .rows) n ≡ s → Tells (peek m n)
     tells-sought g (Refused k) e = let p = late m n g e in rw (p .1) (tells-refused k (p .0))
-    tells-sought g (At at) e = rw (peek-done m n g e) (tells-held g (name-at (m .rows) n [] e .0) (heldIn m n) refl)
+    tells-sought g (At at) e = go (heldIn m n) refl
+      where
+        place = name-at (m .rows) n [] e .0
+        go : (h : held.Held) → heldIn m n ≡ h → Tells (peek m n)
+        go (held.the-variants.At b) q = rw (done-held m n g e q) (tells-held g place (heldIn m n) refl)
+        go held.the-variants.Nowhere q =
+            ⊎-elim
+            (λ t. rw (done-passed m n g e q t) (tells-held g place (heldIn m n) refl))
+            (λ f. rw (differs m n g e q f) (tells-refused 17 (omega arith)))
+            (true-or-false (passes (n .block .0) (block (size m) at (m .store))))
 
     tells : Tells (peek m n)
     tells =

@@ -10,6 +10,7 @@ use Rattle.buftag.specs.Names.{nameAt}
 use Rattle.bufmodel.specs.declared.control.Control.{Control}
 use Rattle.bufmodel.specs.Word.{dirty, makeClean}
 use Rattle.bufmodel.specs.Position.{position}
+use Rattle.bufmodel.specs.Checksum.{sealed}
 use Rattle.bufmodel.specs.Rows.{placeOf}
 use Rattle.bufmodel.specs.Memory.{Memory, memory}
 use Rattle.bufmodel.specs.Moves.{putAt, writeBack}
@@ -27,7 +28,7 @@ module _ (c : Control) (states names pool rows store : List ℕ) (i : ℕ) where
   pub back-dirty : {w : ℕ} → w ≡ getD states i 0 → dirty w ≡ true → {c′ : Control} {p s : ℕ} {to on : List ℕ}
       → p ≡ position (block (c .size) i pool)
       → c′ ≡ record { size = c .size; hand = c .hand; top = c .top; inserted = c .inserted; flushed = max (c .flushed) p }
-      → to ≡ putAt (c .size) (block (c .size) i pool) store (placeOf rows (nameAt names i))
+      → to ≡ putAt (c .size) (sealed (nameAt names i .block .0) (block (c .size) i pool)) store (placeOf rows (nameAt names i))
       → s ≡ makeClean w
       → on ≡ set states i s
       → memory c′ on names pool [] [] [] rows to ≡ writeBack before i

@@ -14,7 +14,7 @@ use Rattle.bufmodel.specs.Rows.{placeOf, storeBlocks}
 use Rattle.bufmodel.specs.Memory.{Memory, memory, buffers, size}
 use Rattle.bufmodel.specs.Books.{emptyAt}
 use Rattle.bufmodel.specs.Moves.{writeBack, release, loadAt}
-use Rattle.bufmodel.proofs.SizesLaws.{rows-say, sized-page}
+use Rattle.bufmodel.proofs.SizesLaws.{rows-say, sized-least}
 use Rattle.bufmodel.proofs.RowsLaws.{place-in}
 use Rattle.bufmodel.proofs.HeldLaws.{full-used}
 use Rattle.bufmodel.proofs.GoodLaws.{Good}
@@ -79,7 +79,7 @@ module _ (m : Memory) (k : Good m) (i : ℕ) (l : i < buffers m) where
   good-backed =
       let s = k .sizes in
       record {
-        page = sized-page s .0;
+        page = omega (arith, sized-least s);
         name = omega (arith, s .names);
         pool = page-in;
         rows = rows-say (m .rows) .shown (s .rows);

@@ -47,7 +47,7 @@ clean-held w few =
 abbrev backOf : Memory → ℕ → ℕ → Memory
 backOf m i g =
     like m (m .control .hand) (m .control .inserted) (max (m .control .flushed) (position (pageOf m i)))
-    (set (m .states) i (makeClean (wordOf m i))) (m .pool) (putBlock (size m) g (pageOf m i) (m .store))
+    (set (m .states) i (makeClean (wordOf m i))) (m .pool) (putBlock (size m) g (sealed (nameOf m i .block .0) (pageOf m i)) (m .store))
 
 back-dirty : (m : Memory) (i g : ℕ) → placeOf (m .rows) (nameOf m i) ≡ found g → dirty (wordOf m i) ≡ true
     → writeBack m i ≡ backOf m i g
@@ -72,10 +72,13 @@ module _ (m : Memory) (k : Good m) (i : ℕ) (l : i < buffers m) (full : emptyAt
   own = getD-set-same (m .states) i (makeClean w) 0 l
 
   module _ (g : ℕ) (place : placeOf (m .rows) (nameOf m i) ≡ found g) (marked : dirty w ≡ true) where
-    long : length (putBlock (size m) g (pageOf m i) (m .store)) ≡ length (m .store)
+    long : length (putBlock (size m) g (sealed (nameOf m i .block .0) (pageOf m i)) (m .store)) ≡ length (m .store)
     long =
-        length-putBlock (size m) (storeBlocks (m .rows)) (pageOf m i) (m .store) (k .sizes .store)
-        (length-block (size m) (buffers m) i (m .pool) (k .sizes .pool) l) g (place-in (m .rows) (k .sizes .rows) (nameOf m i) place)
+        let number = nameOf m i .block .0 in
+        let own = length-block (size m) (buffers m) i (m .pool) (k .sizes .pool) l in
+        length-putBlock (size m) (storeBlocks (m .rows)) (sealed number (pageOf m i)) (m .store) (k .sizes .store)
+        (length-sealed number (pageOf m i) (omega (arith, own, sized-least (k .sizes))) ∙ own) g
+        (place-in (m .rows) (k .sizes .rows) (nameOf m i) place)
 
     kept-good : Good (backOf m i g)
     unfolding emptyAt

@@ -42,6 +42,7 @@ page-to-store-requires c κs =
     let e = sym (place p) ∙ ap foundPlace (c .before .before .g .given .1) in
     let r = rows-say (now (s .args .rows)) .holds (s .pre .rows) in
     let g = c .before .before .g .given .0 .0 in (
+      s .pre .page,
       block-in (s .args .control .size) _ g (now (s .args .store)) (s .pre .store) (place-in (now (s .args .rows)) r _ e),
       s .pre .pool,
     )
