@@ -1,5 +1,6 @@
 pub mod WordLaws
 pub mod PositionLaws
+pub mod SealLaws
 pub mod RowsLaws
 pub mod PlaceLaws
 pub mod SeekLaws
