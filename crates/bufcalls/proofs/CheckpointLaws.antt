@@ -9,10 +9,12 @@ use lib.ListN.{length, length-set}
 use Rattle.laws.specs.First.{Found, found, missing}
 use Rattle.laws.proofs.Block.{block-in, length-block, length-putBlock}
 use Rattle.bufmodel.specs.Word.{dirty}
+use Rattle.bufmodel.specs.Checksum.{sealed}
 use Rattle.bufmodel.specs.Rows.{storeBlocks, placeOf}
 use Rattle.bufmodel.specs.Memory.{Memory, memory, buffers, size, wordOf, nameOf, pageOf}
 use Rattle.bufmodel.specs.Moves.{putAt, writeBack, writeUpTo}
 use Rattle.bufmodel.proofs.GoodLaws.{Good}
+use Rattle.bufmodel.proofs.ChecksumLaws.{length-sealed}
 use Rattle.bufmodel.proofs.RowsLaws.{place-in}
 use Rattle.bufmodel.proofs.SizesLaws.{rows-say, sized-least}
 use Rattle.bufmoves.specs.Back.{Backed}

@@ -15,12 +15,15 @@ use Rattle.laws.proofs.Tests.{and-left, eq-or-ne, true-or-false, never}
 use Rattle.laws.proofs.Block.{length-block, length-putBlock}
 use Rattle.bufmodel.specs.Word.{pins, usage, pack, maxUsage, empty, dirty, cleanFlags, soundFlags, soundWord, makeClean}
 use Rattle.bufmodel.specs.Position.{position}
+use Rattle.bufmodel.specs.Checksum.{sealed}
 use Rattle.bufmodel.specs.Rows.{placeOf, storeBlocks}
 use Rattle.bufmodel.specs.Memory.{Memory, buffers, size, wordOf, nameOf, pageOf, withStates}
 use Rattle.bufmodel.specs.Books.{emptyAt}
 use Rattle.bufmodel.specs.Moves.{putAt, writeBack}
 use Rattle.bufmodel.proofs.WordLaws.{flags-pack, usage-pack, pins-lt, usage-lt, Held, held-by, held-sound, held-lt, dirty-is}
+use Rattle.bufmodel.proofs.ChecksumLaws.{length-sealed}
 use Rattle.bufmodel.proofs.RowsLaws.{place-in}
+use Rattle.bufmodel.proofs.SizesLaws.{sized-least}
 use Rattle.bufmodel.proofs.GoodLaws.{Good}
 use Rattle.bufmodel.proofs.LikeLaws.{like, like-good}
 
