@@ -1,8 +1,12 @@
 use borrow.Author.Needs.{needs}
 use denote.Ref.{now}
-use mathlib.Core.Path.{_≡_, sym, _∙_, ap}
+use mathlib.Core.Path.{_≡_, sym, _∙_, ap, ap₂}
+use Rattle.laws.specs.First.{Found}
+use Rattle.laws.specs.Block.{block}
 use Rattle.laws.proofs.Block.{block-in}
+use Rattle.buftag.specs.declared.name.PageName.{PageName}
 use Rattle.buftag.specs.Names.{nameAt}
+use Rattle.bufmodel.specs.Checksum.{sealed}
 use Rattle.bufmodel.specs.Rows.{placeOf}
 use Rattle.bufmodel.specs.Moves.{putAt}
 use Rattle.bufmodel.proofs.RowsLaws.{place-in}
@@ -58,7 +62,10 @@ returns-2 c =
     let p = d .before .before .before .before in
     let a = p .before .before .before .before .before .before .args in
     let e = sym (place p) ∙ ap foundPlace (d .before .before .g .given .1) in
-    b .page-to-store .ensures ∙ ap (putAt (a .control .size) _ (now (a .store))) (sym e)
+    let page = block (a .control .size) (a .buffer .0) (now (a .pool)) in
+    let name = p .before .stored .ensures in
+    b .page-to-store .ensures
+    ∙ ap₂ (λ (n : PageName) (f : Found). putAt (a .control .size) (sealed (n .block .0) page) (now (a .store)) f) name (sym e)
 
 pub put-page-spec : {M : Type 1} → statement M
 put-page-spec =
