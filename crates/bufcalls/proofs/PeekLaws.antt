@@ -28,7 +28,7 @@ use Rattle.bufmodel.proofs.GoodLaws.{Good, passed-good}
 use Rattle.bufmodel.proofs.AnswerLaws.{end-first, end-own, end-done, peeked-refused}
 use Rattle.bufmodel.proofs.HeldLaws.{held-at}
 use Rattle.bufmodel.proofs.RowsLaws.{place-in}
-use Rattle.bufmodel.proofs.SizesLaws.{sized-page}
+use Rattle.bufmodel.proofs.SizesLaws.{sized-page, sized-least}
 use Rattle.bufmem.specs.declared.seek.Sought.{Sought}
 use Rattle.bufmem.specs.declared.seek.Sought.the-variants.{At, Refused}
 use Rattle.bufmem.specs.Seek.{sought}
@@ -92,6 +92,12 @@ module _ (m : Memory) (n : PageName) where
         let most : at ≤ 65536 = omega (arith, g .sizes .rows .room) in
         omega (arith, sized-page (g .sizes) .1, mul-le-mul-right (size m) most)
 
+    -- so is the block in the store
+    pub store-in : {at : ℕ} → sought (m .rows) n ≡ At at → (128 ≤ size m) × (at * size m + size m ≤ length (m .store))
+    store-in {at} e =
+        let l = place-in (m .rows) (g .sizes .rows) n (name-at (m .rows) n [] e .0) in
+        (omega (arith, sized-least (g .sizes)), block-in (size m) (storeBlocks (m .rows)) at (m .store) (g .sizes .store) l)
+
     pub buffer-in : {b : BufferNumber} → lookUp (m .heads) (m .chain) (m .names) n ≡ held.the-variants.At b
         → b .0 * size m + size m ≤ length (m .pool)
     buffer-in {b} h = block-in (size m) (buffers m) (b .0) (m .pool) (g .sizes .pool) (held-at m n b (sym (looked-up m g n) ∙ h) .0)
@@ -125,12 +131,14 @@ module _ (m : Memory) where
     tells-sought g (Refused k) e = let p = late m n g e in rw (p .1) (tells-refused k (p .0))
     tells-sought g (At at) e = go (heldIn m n) refl
       where
-        place = name-at (m .rows) n [] e .0
+        page : (h : held.Held) → heldIn m n ≡ h → Tells (done (partOf m n h) [] m)
+        page = tells-held g (name-at (m .rows) n [] e .0)
+
         go : (h : held.Held) → heldIn m n ≡ h → Tells (peek m n)
-        go (held.the-variants.At b) q = rw (done-held m n g e q) (tells-held g place (heldIn m n) refl)
+        go (held.the-variants.At b) q = rw (done-held m n g e q) (page (heldIn m n) refl)
         go held.the-variants.Nowhere q =
             ⊎-elim
-            (λ t. rw (done-passed m n g e q t) (tells-held g place (heldIn m n) refl))
+            (λ t. rw (done-passed m n g e q t) (page (heldIn m n) refl))
             (λ f. rw (differs m n g e q f) (tells-refused 17 (omega arith)))
             (true-or-false (passes (n .block .0) (block (size m) at (m .store))))
 

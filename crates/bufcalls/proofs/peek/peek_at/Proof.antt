@@ -1,4 +1,5 @@
 use borrow.Author.Needs.{needs}
+use borrow.Author.Tests.{not-true, not-false}
 use native.Mathlib.Omega.{arith}
 use denote.Ref.{now}
 use mathlib.Core.Path.{_≡_, sym, _∙_, ap}
@@ -12,7 +13,16 @@ use Rattle.bufmodel.proofs.SizesLaws.{rows-say}
 use Rattle.bufmodel.proofs.AnsweredLaws.{answered, peek-answers}
 use Rattle.bufmem.specs.declared.seek.Sought.the-variants.{At}
 use Rattle.bufmem.specs.Seek.{sought}
-use Rattle.bufcalls.proofs.PeekLaws.{peek-early, peek-refused, peek-pool, peek-store, place-small, buffer-in}
+use Rattle.bufcalls.proofs.PeekLaws.{
+  peek-early,
+  peek-refused,
+  peek-pool,
+  peek-differs,
+  peek-store,
+  place-small,
+  buffer-in,
+  store-in,
+}
 use Rattle.bufcalls.proofs.peek.peek_at.Statement.{statement}
 use Rattle.bufcalls.proofs.peek.peek_at.Tie as tie
 
@@ -72,30 +82,53 @@ enum-known-buffer c = search needs
 enum-told : tie.Need-enum-told
 enum-told c = search needs
 
-mul-t19 : tie.Need-mul-t19
-mul-t19 c =
-    let k = c .before .before .before .before in
-    record { fits = place-small (lent (start (passed k))) (name k) (good (passed k)) (placed k) }
+-- no buffer holds it
+nowhere : (c : tie.After-enum-told)
+    → let k = c .before .before .before in
+    let m = lent (start (passed k)) in
+    lookUp (m .heads) (m .chain) (m .names) (name k) ≡ held.the-variants.Nowhere
+nowhere c = sym (c .before .before .look-up .ensures) ∙ c .enum-told .given .1
+
+passes-block-requires : tie.Need-passes-block-requires
+passes-block-requires c κs =
+    let k = c .before .before .before in
+    store-in (lent (start (passed k))) (name k) (good (passed k)) (placed k)
 
 returns-2 : tie.Need-returns-2
 returns-2 c =
-    let k = c .before .before .before .before in
-    let h = sym (c .before .before .before .look-up .ensures) ∙ c .before .enum-told .given .1 in
-    answered (peek-answers _ _) (peek-store (lent (start (passed k))) (name k) (good (passed k)) (placed k) h)
+    let e = c .before .before in
+    let k = e .before .before .before in
+    answered (peek-answers _ _)
+    (peek-differs (lent (start (passed k))) (name k) (good (passed k)) (placed k) (nowhere e)
+    (sym (c .before .passes-block .ensures) ∙ not-true _ (c .if2 .taken)))
+
+mul-t21 : tie.Need-mul-t21
+mul-t21 c =
+    let k = c .before .before .before .before .before .before in
+    record { fits = place-small (lent (start (passed k))) (name k) (good (passed k)) (placed k) }
+
+returns-3 : tie.Need-returns-3
+returns-3 c =
+    let b = c .before .before in
+    let e = b .before in
+    let k = e .before .before .before in
+    answered (peek-answers _ _)
+    (peek-store (lent (start (passed k))) (name k) (good (passed k)) (placed k) (nowhere e)
+    (sym (b .passes-block .ensures) ∙ not-false _ (c .before .if2 .left)))
 
 page-offset-requires : tie.Need-page-offset-requires
 page-offset-requires c κs =
     let k = c .before .before .before .before in
     buffer-in (lent (start (passed k))) (name k) (good (passed k)) (found c)
 
-returns-3 : tie.Need-returns-3
-returns-3 c =
+returns-4 : tie.Need-returns-4
+returns-4 c =
     let e = c .before .before .before .before in
     let h = sym (c .before .before .before .seek .ensures) ∙ c .before .sought .given .1 in
     answered (peek-answers _ _) (peek-refused (lent (start e)) (start e .args .name) (good e) h)
 
-returns-4 : tie.Need-returns-4
-returns-4 c =
+returns-5 : tie.Need-returns-5
+returns-5 c =
     let k = c .before .before .before .before .before in
     answered (peek-answers _ _)
     (ap InPool (c .page-offset .ensures) ∙ peek-pool (lent (start (passed k))) (name k) (good (passed k)) (placed k) (found (c .before)))
@@ -112,8 +145,10 @@ peek-at-spec =
     look-up-requires
     enum-known-buffer
     enum-told
-    mul-t19
+    passes-block-requires
     returns-2
-    page-offset-requires
+    mul-t21
     returns-3
-    returns-4)
+    page-offset-requires
+    returns-4
+    returns-5)
