@@ -4,24 +4,27 @@ use mathlib.Core.Path.{_≡_, refl, sym, ap, ap₂, _∙_, subst}
 use mathlib.Core.Bool.{Bool, true, false, not, _&&_, cond, and-false}
 use mathlib.Core.Logic.{_⊎_, inl, inr, ⊎-elim}
 use native.Mathlib.Omega.{arith}
+use borrow.Author.Tests.{not-true}
+use Rattle.laws.specs.Block.{block}
+use Rattle.bufmodel.specs.Checksum.{passes}
 use Rattle.laws.specs.First.{Found, found, missing}
-use Rattle.laws.proofs.Tests.{never, true-or-false}
+use Rattle.laws.proofs.Tests.{never, true-or-false, and-left, and-right}
 use Rattle.laws.proofs.First.{found-missing}
 use Rattle.buftag.specs.declared.name.FileName.{FileName}
 use Rattle.buftag.specs.declared.name.PageName.{PageName}
 use Rattle.bufmodel.specs.Word.{pins, pinned, dirty, empty}
 use Rattle.bufmodel.specs.Rows.{setBlocks, rowOf, placeOf}
-use Rattle.bufmodel.specs.Memory.{Memory, buffers, wordOf, nameOf, withRows}
+use Rattle.bufmodel.specs.Memory.{size, Memory, buffers, wordOf, nameOf, withRows}
 use Rattle.bufmodel.specs.Books.{emptyAt}
 use Rattle.bufmodel.specs.Moves.{ofFile}
 use Rattle.bufmodel.proofs.WordLaws.{zero-unpinned, unpinned-none, Held}
 use Rattle.bufmodel.proofs.HeldLaws.{pinned-full}
 use Rattle.bufmodel.proofs.RowsLaws.{row-found, place-same, place-other, place-gone, store-set}
 use Rattle.bufmodel.proofs.DropLaws.{of-says, onto, Released, left-other, cleared-good}
-use Rattle.shelf.specs.Ledger.{inRow}
+use Rattle.shelf.specs.Shelf.{inRow}
 use Rattle.shelf.proofs.Kept.{View, Has, Nobody, Same, Kept}
 use Rattle.shelf.proofs.KeptLaws.{some-or-none}
-use Rattle.shelf.proofs.FilePages.{of-row}
+use Rattle.shelf.proofs.FilePages.{in-row, of-row}
 
 -- a page that is looked at only where a test holds
 only-if : (t : Bool) {a b : Found} → (t ≡ true → a ≡ b) → cond t a missing ≡ cond t b missing
@@ -38,6 +41,7 @@ droppedView m v r =
       bytes = v .bytes;
       counts = v .counts;
       holds = v .holds;
+      bad = λ g. not (inRow (m .rows) (found r) g) && v .bad g;
       dirty = λ g. not (inRow (m .rows) (found r) g) && v .dirty g;
       last = v .last;
       put = v .put;
@@ -104,7 +108,40 @@ module _ (m : Memory) (v : View) (k : Kept m v) (f : FileName) (r : ℕ) (e : ro
           marked = ap (λ (t : Bool). not t && v .dirty g) (sym (of-row m v k f r e i g b) ∙ ne) ∙ s .marked ∙ ap dirty (sym w);
           last = s .last;
           clean = λ q. s .clean (ap dirty (sym w) ∙ q);
+          fine = ap (λ (t : Bool). not (inRow (m .rows) (found r) g) && t) (s .fine) ∙ and-false (not (inRow (m .rows) (found r) g));
         }
+
+    -- ---- a page that there is afterwards is of another row
+    other-row : (n : PageName) (g : ℕ) → placeOf (setBlocks (m .rows) r 0) n ≡ found g
+        → (placeOf (m .rows) n ≡ found g) × (inRow (m .rows) (found r) g ≡ false)
+    other-row n g q =
+        let other : rowOf (m .rows) (n .file) ≡ found r → ⊥ = λ z. found-missing (sym q ∙ place-gone (m .rows) r 0 n refl z) in
+        let p : placeOf (m .rows) n ≡ found g = sym (place-other (m .rows) r 0 n other) ∙ q in
+        (
+          p,
+          ⊎-elim
+              (λ t. absurd (other (ap (rowOf (m .rows)) (in-row (m .rows) (k .good .sizes .rows) f r e n g p .holds t) ∙ e)))
+              (λ z. z) (true-or-false (inRow (m .rows) (found r) g)),
+        )
+
+    dropped-passed : (n : PageName) (g : ℕ) → placeOf (setBlocks (m .rows) r 0) n ≡ found g
+        → (not (inRow (m .rows) (found r) g) && v .bad g) ≡ not (passes (n .block .0) (block (size m) g (m .store)))
+    dropped-passed n g q =
+        let w = other-row n g q in
+        ap (λ (t : Bool). not t && v .bad g) (w .1) ∙ k .passed n g (w .0)
+
+    dropped-known : (g : ℕ) → (not (inRow (m .rows) (found r) g) && v .bad g) ≡ true
+        → (n : PageName) × (placeOf (setBlocks (m .rows) r 0) n ≡ found g)
+    dropped-known g t =
+        let out = not-true _ (and-left (not (inRow (m .rows) (found r) g)) _ t) in
+        let w = k .known g (and-right (not (inRow (m .rows) (found r) g)) _ t) in
+        (
+          w .0,
+          place-other (m .rows) r 0 (w .0) (λ z.
+              never (in-row (m .rows) (k .good .sizes .rows) f r e (w .0) g (w .1) .shown
+              (sym (row-found (m .rows) (w .0 .file) z .1) ∙ row-found (m .rows) f e .1)) out)
+              ∙ w .1,
+        )
 
     -- ---- a page that no buffer has
     dropped-stored : (n : PageName) (g : ℕ) → placeOf (setBlocks (m .rows) r 0) n ≡ found g → Nobody (droppedMemory m d r) g
@@ -164,6 +201,8 @@ module _ (m : Memory) (v : View) (k : Kept m v) (f : FileName) (r : ℕ) (e : ro
                 ap (λ (t : Bool). out && t) (k .unmarked g z) ∙ and-false out)
                 (who-had g none);
             stored = λ n g q none. let p = dropped-stored n g q none in k .stored n g (p .0) (p .1);
+            passed = dropped-passed;
+            known = dropped-known;
             holds = λ i l. dropped-holds i (omega (arith, x .many));
             put = λ g q. (rw (store-set (m .rows) r 0) (k .put g q .0), k .put g q .1);
           }

@@ -5,6 +5,7 @@ use mathlib.Core.Bool.{Bool, false, not, cond}
 use mathlib.Core.List.{[], _∷_}
 use native.Mathlib.Omega.{arith}
 use borrow.Author.Tests.{not-false}
+use Rattle.shelf.proofs.FirstBad.{bad-first, bad-known}
 use Rattle.laws.specs.First.{missing}
 use Rattle.laws.proofs.Tests.{never}
 use Rattle.bufmodel.specs.Word.{pinned}
@@ -49,6 +50,8 @@ module _ (m : Memory) (p at : ℕ) where
         unpinned = λ g x. refl;
         unmarked = λ g x. refl;
         stored = λ n g e x. refl;
+        passed = bad-first (m .rows) (s .rows) p (m .store);
+        known = bad-known (m .rows) (s .rows) p (m .store);
         holds = λ i l. ap (λ (t : Bool). cond t (placeOf (m .rows) (nameOf (fresh m p at) i)) missing) (sym (fresh-unpinned i));
         put = λ g e. never e refl;
       }
