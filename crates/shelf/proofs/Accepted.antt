@@ -50,17 +50,30 @@ pub record Accepted (m : Memory) (v : View) (c : Call) (answer bytes : List ℕ)
       → bare (block (size m) (startOf (m .rows) r + b) (m′ .store)) ≡ bare (v .bytes (startOf (m .rows) r + b))
 
 -- two ledgers with equal parts
+abbrev shelfWith : View → ℕ → ℕ → ℕ → List ℕ → Shelf
+shelfWith v b p i r =
+    record {
+      buffers = b;
+      size = p;
+      inserted = i;
+      rows = r;
+      bytes = v .bytes;
+      counts = v .counts;
+      holds = v .holds;
+      bad = v .bad;
+    }
+
 same-ledger : {b b′ p p′ i i′ f f′ : ℕ} {r r′ : List ℕ} (v : View) → b ≡ b′ → p ≡ p′ → i ≡ i′ → r ≡ r′ → f ≡ f′
     → _≡_ {A = Ledger}
     (record {
-      shelf = record { buffers = b; size = p; inserted = i; rows = r; bytes = v .bytes; counts = v .counts; holds = v .holds; bad = v .bad };
+      shelf = shelfWith v b p i r;
       dirty = v .dirty;
       last = v .last;
       flushed = f;
       put = v .put;
     })
     (record {
-      shelf = record { buffers = b′; size = p′; inserted = i′; rows = r′; bytes = v .bytes; counts = v .counts; holds = v .holds; bad = v .bad };
+      shelf = shelfWith v b′ p′ i′ r′;
       dirty = v .dirty;
       last = v .last;
       flushed = f′;

@@ -11,14 +11,14 @@ use Rattle.laws.specs.First.{found}
 use Rattle.laws.specs.Block.{block, putBlock}
 use Rattle.laws.proofs.Tests.{eq-or-ne, never}
 use Rattle.laws.proofs.Block.{length-block, length-putBlock, block-put-same, block-put-other}
-use Rattle.bufmodel.specs.Word.{pins, usage, pinned, dirty, cleanFlags, makeClean}
 use Rattle.buftag.specs.declared.name.PageName.{PageName}
+use Rattle.bufmodel.specs.Word.{pins, usage, pinned, dirty, cleanFlags, makeClean}
 use Rattle.bufmodel.specs.Position.{position}
 use Rattle.bufmodel.specs.Checksum.{bare, sealed, passes}
-use Rattle.bufmodel.proofs.ChecksumLaws.{position-bare, bare-sealed, length-sealed, sealed-passes}
 use Rattle.bufmodel.specs.Rows.{storeBlocks, placeOf}
 use Rattle.bufmodel.specs.Memory.{Memory, buffers, size, wordOf, nameOf, pageOf, withStates}
 use Rattle.bufmodel.specs.Moves.{putAt, writeBack}
+use Rattle.bufmodel.proofs.ChecksumLaws.{alike-position, bare-sealed, length-sealed, sealed-passes}
 use Rattle.bufmodel.proofs.WordLaws.{pinned-same, Fields, make-clean}
 use Rattle.bufmodel.proofs.RowsLaws.{place-in, place-same}
 use Rattle.bufmodel.proofs.SizesLaws.{sized-least}
@@ -93,7 +93,7 @@ module _ (m : Memory) (v : View) (k : Kept m v) (i g : ℕ) (x : Has m i g) wher
   page-long : length (pageOf m i) ≡ size m
   page-long = length-block (size m) (buffers m) i (m .pool) (k .good .sizes .pool) (x .below)
 
-  -- as it goes to the store
+  -- as it goes to the store: as long, and the same page but for bytes 8 and 9
   abbrev out : List ℕ
   out = sealed (nameOf m i .block .0) (pageOf m i)
 
@@ -103,9 +103,11 @@ module _ (m : Memory) (v : View) (k : Kept m v) (i g : ℕ) (x : Has m i g) wher
   out-long : length out ≡ size m
   out-long = length-sealed (nameOf m i .block .0) (pageOf m i) long ∙ page-long
 
+  out-bare : bare out ≡ bare (pageOf m i)
+  out-bare = bare-sealed (nameOf m i .block .0) (pageOf m i) long
+
   out-position : position out ≡ position (pageOf m i)
-  out-position =
-      sym (position-bare out) ∙ ap position (bare-sealed (nameOf m i .block .0) (pageOf m i) long) ∙ position-bare (pageOf m i)
+  out-position = alike-position out (pageOf m i) out-bare
 
   pub place-below : g < storeBlocks (m .rows)
   place-below = place-in (m .rows) (k .good .sizes .rows) (nameOf m i) (x .place)
@@ -119,6 +121,7 @@ module _ (m : Memory) (v : View) (k : Kept m v) (i g : ℕ) (x : Has m i g) wher
   pub back-other : (q : ℕ) → q ≢ g → block (size m) q (backOf m i g .store) ≡ block (size m) q (m .store)
   back-other = block-put-other (size m) (storeBlocks (m .rows)) out (m .store) (k .good .sizes .store) out-long g place-below
 
+  -- its block has its checksum
   back-passes : (n : PageName) → placeOf (m .rows) n ≡ found g → passes (n .block .0) (block (size m) g (backOf m i g .store)) ≡ true
   back-passes n e =
       subst (λ (y : PageName). passes (y .block .0) (block (size m) g (backOf m i g .store)) ≡ true)
@@ -140,7 +143,7 @@ module _ (m : Memory) (v : View) (k : Kept m v) (i g : ℕ) (x : Has m i g) wher
         sizeStore = back-long;
         blocks = λ h l ne. back-other h ne;
         low = λ t. never t (clean-word .dirty);
-        clean = λ t. ap bare back-same ∙ bare-sealed (nameOf m i .block .0) (pageOf m i) long;
+        clean = λ t. ap bare back-same ∙ out-bare;
         sum = back-passes;
         bads = λ h. refl;
         bytes = s .bytes;

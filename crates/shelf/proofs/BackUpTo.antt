@@ -11,7 +11,6 @@ use Rattle.laws.specs.First.{found}
 use Rattle.laws.specs.Block.{block}
 use Rattle.laws.proofs.Tests.{and-right, true-or-false, eq-or-ne, never}
 use Rattle.bufmodel.specs.Word.{dirty}
-use Rattle.bufmodel.specs.Position.{position}
 use Rattle.bufmodel.specs.Rows.{storeBlocks}
 use Rattle.bufmodel.specs.Memory.{Memory, buffers, size}
 use Rattle.bufmodel.specs.Moves.{writeBack, writeUpTo}

@@ -8,19 +8,19 @@ use native.Mathlib.Omega.{arith}
 use lib.Dec.{eqb}
 use lib.ListN.{length, replicate, length-replicate}
 use borrow.Author.Tests.{ne-eqb}
-use Rattle.bufmodel.specs.Checksum.{bare, passes}
-use Rattle.bufmodel.proofs.ChecksumLaws.{zeros-pass}
 use Rattle.laws.specs.First.{found, missing}
 use Rattle.laws.specs.Block.{block, putBlock}
 use Rattle.laws.proofs.Tests.{eq-or-ne, true-or-false}
 use Rattle.laws.proofs.First.{found-same}
 use Rattle.laws.proofs.Block.{length-putBlock, block-put-same, block-put-other}
 use Rattle.buftag.specs.declared.name.PageName.{PageName}
+use Rattle.bufmodel.specs.Checksum.{bare, passes}
 use Rattle.bufmodel.specs.Word.{pinned}
 use Rattle.bufmodel.specs.Position.{position}
 use Rattle.bufmodel.specs.Rows.{files, blocksAt, capacityAt, setBlocks, startOf, storeBlocks, placeOf}
 use Rattle.bufmodel.specs.Memory.{Memory, buffers, size, wordOf, nameOf, withRows, withStore}
 use Rattle.bufmodel.specs.Books.{emptyAt}
+use Rattle.bufmodel.proofs.ChecksumLaws.{zeros-pass}
 use Rattle.bufmodel.proofs.PositionLaws.{position-zeros}
 use Rattle.bufmodel.proofs.HeldLaws.{empty-unpinned}
 use Rattle.bufmodel.proofs.RowsLaws.{start-in, in-row-only, row-found, place-found, store-set, place-kept, place-new}

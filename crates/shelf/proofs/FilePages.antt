@@ -20,8 +20,7 @@ use Rattle.bufmodel.specs.Moves.{ofFile}
 use Rattle.bufmodel.specs.Calls.{filePinned}
 use Rattle.bufmodel.proofs.RowsLaws.{row-found, row-same, in-row-only, place-found, place-room}
 use Rattle.bufmodel.proofs.DropLaws.{of-says, pinned-says}
-use Rattle.shelf.specs.Shelf.{hasPins, filePinned as pagesPinned}
-use Rattle.shelf.specs.Shelf.{inRow}
+use Rattle.shelf.specs.Shelf.{inRow, hasPins, filePinned as pagesPinned}
 use Rattle.shelf.proofs.Kept.{View, shelfOf, Has, Kept}
 use Rattle.shelf.proofs.KeptLaws.{has-page, some-or-none, pins-has, pins-nobody}
 

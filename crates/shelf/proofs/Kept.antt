@@ -5,6 +5,7 @@ use mathlib.Core.Bool.{Bool, true, false, not, cond}
 use mathlib.Core.List.{List, [], _∷_}
 use Rattle.laws.specs.First.{Found, found, missing}
 use Rattle.laws.specs.Block.{block}
+use Rattle.buftag.specs.declared.name.PageName.{PageName}
 use Rattle.bufmodel.specs.Word.{pins, pinned, dirty}
 use Rattle.bufmodel.specs.Position.{position}
 use Rattle.bufmodel.specs.Checksum.{bare, passes}
@@ -13,7 +14,6 @@ use Rattle.bufmodel.specs.Memory.{Memory, buffers, size, wordOf, nameOf, pageOf
 use Rattle.bufmodel.specs.Books.{emptyAt}
 use Rattle.bufmodel.specs.Outcome.{Outcome}
 use Rattle.bufmodel.specs.Step.{Call, step}
-use Rattle.buftag.specs.declared.name.PageName.{PageName}
 use Rattle.bufmodel.proofs.GoodLaws.{Good}
 use Rattle.shelf.specs.Shelf.{Shelf}
 use Rattle.shelf.specs.Ledger.{Ledger, ledgerAfter}
@@ -70,7 +70,7 @@ pub record Has (m : Memory) (i g : ℕ) : Type 0 where
 abbrev pub Nobody : Memory → ℕ → Type 0
 Nobody m g = (i : ℕ) → Has m i g → ⊥
 
--- what the ledger says of the page that buffer i has
+-- what the ledger says of the page that buffer i has, bytes 8 and 9 left out
 pub record Same (m : Memory) (v : View) (i g : ℕ) : Type 0 where
   pub bytes : bare (v .bytes g) ≡ bare (pageOf m i)
   pub counts : v .counts g ≡ pins (wordOf m i)
@@ -86,7 +86,7 @@ pub record Kept (m : Memory) (v : View) : Type 0 where
   pub good : Good m
   pub words : HeldWords m
   pub same : (i g : ℕ) → Has m i g → Same m v i g
-  -- a page that no buffer has has no pins, is not dirty, and its bytes are the store's
+  -- a page that no buffer has has no pins, is not dirty, and its bytes, but for 8 and 9, are the store's
   pub unpinned : (g : ℕ) → Nobody m g → v .counts g ≡ 0
   pub unmarked : (g : ℕ) → Nobody m g → v .dirty g ≡ false
   pub stored : (n : PageName) (g : ℕ) → placeOf (m .rows) n ≡ found g → Nobody m g

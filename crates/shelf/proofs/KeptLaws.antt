@@ -7,6 +7,9 @@ use lib.Dec.{eqb}
 use borrow.Author.Tests.{eqb-true, eq-eqb, ne-eqb, not-true}
 use Rattle.laws.specs.First.{Found, found, missing, first}
 use Rattle.laws.specs.Block.{block}
+use Rattle.laws.specs.Says.{Says}
+use Rattle.laws.proofs.Tests.{and-left, and-right, and-true, never}
+use Rattle.laws.proofs.First.{found-same, first-found, first-missing}
 use Rattle.buftag.specs.declared.name.PageName.{PageName}
 use Rattle.bufmodel.specs.Word.{pinned, empty}
 use Rattle.bufmodel.specs.Position.{position}
@@ -17,9 +20,6 @@ use Rattle.bufmodel.specs.Books.{emptyAt}
 use Rattle.bufmodel.proofs.GoodLaws.{Good}
 use Rattle.bufmodel.proofs.RowsLaws.{place-same}
 use Rattle.bufmodel.proofs.ChecksumLaws.{alike-position}
-use Rattle.laws.specs.Says.{Says}
-use Rattle.laws.proofs.Tests.{and-left, and-right, and-true, never}
-use Rattle.laws.proofs.First.{found-same, first-found, first-missing}
 use Rattle.shelf.specs.Sums.{fails}
 use Rattle.shelf.specs.Shelf.{hasPins}
 use Rattle.shelf.specs.Ledger.{isPlace}

@@ -27,7 +27,7 @@ pub mod HighestLaws
 pub mod Refused
 pub mod Accepted
 pub mod Unchanged
--- the tests of a buffer number and of a page's name
+-- the tests of a buffer number, of a page's name and of its block
 pub mod BufferPlaces
 pub mod NamePage
 pub mod PagePlaces

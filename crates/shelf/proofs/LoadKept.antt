@@ -4,7 +4,6 @@ use mathlib.Core.Path.{_≡_, sym, ap, _∙_, subst}
 use mathlib.Core.Bool.{true, false, cond}
 use mathlib.Core.Logic.{_≢_, ⊎-elim}
 use native.Mathlib.Omega.{arith}
-use Rattle.bufmodel.specs.Checksum.{bare}
 use Rattle.laws.specs.First.{found, missing}
 use Rattle.laws.specs.Block.{block}
 use Rattle.laws.proofs.Tests.{eq-or-ne, never}
@@ -12,6 +11,7 @@ use Rattle.buftag.specs.declared.link.Link.the-variants.{To}
 use Rattle.buftag.specs.declared.lookup.Held.the-variants.{Nowhere}
 use Rattle.buftag.specs.declared.name.PageName.{PageName}
 use Rattle.buftag.specs.Link.{linkOf}
+use Rattle.bufmodel.specs.Checksum.{bare}
 use Rattle.bufmodel.specs.Word.{pins, pinned, dirty, loaded}
 use Rattle.bufmodel.specs.Rows.{placeOf, storeBlocks}
 use Rattle.bufmodel.specs.Memory.{Memory, buffers, size, wordOf, nameOf, pageOf}

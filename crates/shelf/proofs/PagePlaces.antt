@@ -27,7 +27,7 @@ module _ (m : Memory) (v : View) (k : Kept m v) (n : PageName) where
   sum-bad (found g) e Nowhere q = sym (k .passed n g e)
   sum-bad missing e h q = refl
 
-  pub page-bad : sumDiffers m n (placeOf (m .rows) n) (heldIn m n) ≡ isBad (shelfOf m v) (placeOf (m .rows) n)
+  page-bad : sumDiffers m n (placeOf (m .rows) n) (heldIn m n) ≡ isBad (shelfOf m v) (placeOf (m .rows) n)
   page-bad = sum-bad (placeOf (m .rows) n) refl (heldIn m n) refl
 
   -- a page that passes it did not come in bad

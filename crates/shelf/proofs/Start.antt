@@ -5,7 +5,6 @@ use mathlib.Core.Bool.{Bool, false, not, cond}
 use mathlib.Core.List.{[], _∷_}
 use native.Mathlib.Omega.{arith}
 use borrow.Author.Tests.{not-false}
-use Rattle.shelf.proofs.FirstBad.{bad-first, bad-known}
 use Rattle.laws.specs.First.{missing}
 use Rattle.laws.proofs.Tests.{never}
 use Rattle.bufmodel.specs.Word.{pinned}
@@ -20,6 +19,7 @@ use Rattle.bufmodel.proofs.OutcomeLaws.{refusal-passed, outcome-done, outcome-n
 use Rattle.bufmodel.proofs.FreshLaws.{fresh-many, fresh-empty, fresh-good}
 use Rattle.shelf.specs.Shelf.{firstShelf}
 use Rattle.shelf.specs.Ledger.{firstLedger}
+use Rattle.shelf.proofs.FirstBad.{bad-first, bad-known}
 use Rattle.shelf.proofs.Kept.{ledgerOf, viewOf, Kept}
 
 module _ (m : Memory) (p at : ℕ) where

@@ -1,17 +1,16 @@
 -- Checkpoint agrees with the shelf.
 use Prim.Native.Nat.{ℕ, _≤_}
-use mathlib.Core.Path.{_≡_, refl, sym, ap, _∙_, subst}
+use mathlib.Core.Path.{_≡_, refl, sym, _∙_, subst}
 use mathlib.Core.Bool.{true, false, _||_, and-true, not-and-self, or-false}
 use mathlib.Core.Logic.{⊎-elim}
 use mathlib.Core.List.{[]}
 use native.Mathlib.Omega.{arith}
-use Rattle.bufmodel.specs.Checksum.{bare}
-use Rattle.bufmodel.proofs.ChecksumLaws.{alike-position}
 use Rattle.laws.specs.Sum.{count}
 use Rattle.laws.specs.First.{found}
 use Rattle.laws.specs.Block.{block}
 use Rattle.laws.proofs.Tests.{never}
 use Rattle.buftag.specs.declared.name.PageName.{PageName}
+use Rattle.bufmodel.specs.Checksum.{bare}
 use Rattle.bufmodel.specs.Word.{dirty}
 use Rattle.bufmodel.specs.Position.{position}
 use Rattle.bufmodel.specs.Rows.{storeBlocks, placeOf}
@@ -20,6 +19,7 @@ use Rattle.bufmodel.specs.Moves.{writeUpTo}
 use Rattle.bufmodel.specs.Outcome.{one, done}
 use Rattle.bufmodel.specs.Calls.{checkpoint}
 use Rattle.bufmodel.specs.Step.{Checkpoint, step}
+use Rattle.bufmodel.proofs.ChecksumLaws.{alike-position}
 use Rattle.bufmodel.proofs.RowsLaws.{place-row}
 use Rattle.shelf.specs.Shelf.{places, refuses, shelfAfter}
 use Rattle.shelf.specs.Ledger.{highest}

@@ -16,7 +16,8 @@ use Rattle.bufmodel.specs.Calls.{filePinned, dropAt, dropFile}
 use Rattle.bufmodel.specs.Step.{Drop, step}
 use Rattle.bufmodel.proofs.OutcomeLaws.{refusal-at, refusal-same, refusal-passed}
 use Rattle.bufmodel.proofs.DropLaws.{none-pinned, Released, released-all}
-use Rattle.shelf.specs.Shelf.{Shelf, noFile, inRow, withRows, withBad, filePinned as pagesPinned, places, refuses, droppedAt, shelfAfter}
+use Rattle.shelf.specs.Shelf.{Shelf, noFile, inRow, withRows, withBad, filePinned as pagesPinned, places, refuses}
+use Rattle.shelf.specs.Shelf.{droppedAt, shelfAfter}
 use Rattle.shelf.specs.Ledger.{backBy, newBy, putBy, dirtiedBy, dirtyAfter, lastAfter, saidFlushed, flushedAfter, acceptedBy}
 use Rattle.shelf.proofs.CallKinds.{not-checkpoint}
 use Rattle.shelf.proofs.Kept.{View, shelfOf, ledgerOf, viewOf, Kept, Ended}

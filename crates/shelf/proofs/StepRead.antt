@@ -6,11 +6,11 @@ use mathlib.Core.List.{List, [], _∷_}
 use native.Mathlib.Omega.{arith}
 use lib.Dec.{ltb}
 use lib.ListN.{length, take, drop}
-use Rattle.bufmodel.proofs.ChecksumLaws.{bare-part}
 use Rattle.bufmodel.specs.Memory.{Memory, size, pageOf}
 use Rattle.bufmodel.specs.Outcome.{Place, place, refusalOf, zeros}
 use Rattle.bufmodel.specs.Calls.{bufferPlaces, read}
 use Rattle.bufmodel.specs.Step.{Read, step}
+use Rattle.bufmodel.proofs.ChecksumLaws.{bare-part}
 use Rattle.shelf.specs.Shelf.{places, refuses, shelfAfter}
 use Rattle.shelf.specs.Ledger.{backBy, newBy, putBy, dirtiedBy, dirtyAfter, lastAfter, saidFlushed, flushedAfter, acceptedBy}
 use Rattle.shelf.proofs.CallKinds.{not-checkpoint}

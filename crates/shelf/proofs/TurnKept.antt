@@ -8,12 +8,12 @@ use mathlib.Core.List.{List}
 use native.Mathlib.Omega.{arith}
 use lib.ListN.{length, getD, set, length-set}
 use lib.Seq.{getD-set-same, getD-set-other}
+use borrow.Author.Tests.{not-false}
 use Rattle.laws.specs.First.{Found, found, missing}
 use Rattle.laws.specs.Block.{block}
 use Rattle.laws.proofs.Tests.{eq-or-ne}
-use Rattle.bufmodel.specs.Word.{pins, pinned, dirty, empty, soundWord}
 use Rattle.buftag.specs.declared.name.PageName.{PageName}
-use borrow.Author.Tests.{not-false}
+use Rattle.bufmodel.specs.Word.{pins, pinned, dirty, empty, soundWord}
 use Rattle.bufmodel.specs.Position.{position}
 use Rattle.bufmodel.specs.Checksum.{bare, passes}
 use Rattle.bufmodel.specs.Rows.{storeBlocks, placeOf}
@@ -195,7 +195,9 @@ module _ (m : Memory) (v : View) (k : Kept m v) (i g : ℕ) (x : Has m i g) (flu
         passed = λ p h e.
             t .bads h
             ∙ ⊎-elim
-            (λ q. ap (v .bad) q ∙ k .same i g x .fine ∙ sym (ap not (subst (λ (y : ℕ). passes (p .block .0) (block (size m) y store) ≡ true) (sym q) (t .sum p (e ∙ ap found q)))))
+            (λ q.
+            ap (v .bad) q ∙ k .same i g x .fine
+            ∙ sym (ap not (ap (λ (y : ℕ). passes (p .block .0) (block (size m) y store)) q ∙ t .sum p (e ∙ ap found q))))
             (λ ne.
             k .passed p h e
             ∙ ap (λ (y : List ℕ). not (passes (p .block .0) y)) (sym (t .blocks h (place-in (m .rows) (k .good .sizes .rows) p e) ne)))

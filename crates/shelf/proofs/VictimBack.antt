@@ -2,7 +2,6 @@
 use Prim.Native.Nat.{ℕ, max}
 use mathlib.Core.Path.{_≡_, refl, sym, ap, _∙_, subst}
 use mathlib.Core.Bool.{Bool, true, false, not, _&&_, _||_, cond}
-use mathlib.Core.List.{List}
 use lib.ListN.{length}
 use Rattle.laws.specs.First.{Found, found}
 use Rattle.laws.specs.Block.{block}
