@@ -1,22 +1,24 @@
 -- An accepted call: what it has to show, and that this is all.
 use Prim.Native.Nat.{ℕ, _+_, _≤_, _<_}
-use mathlib.Core.Path.{_≡_, refl, sym, _∙_, subst}
+use mathlib.Core.Path.{_≡_, refl, sym, ap, _∙_, subst}
 use mathlib.Core.Bool.{true, false}
 use mathlib.Core.List.{List}
 use native.Mathlib.Omega.{arith}
 use lib.ListN.{length}
 use Rattle.laws.specs.Block.{block}
 use Rattle.bufmodel.specs.Position.{position}
+use Rattle.bufmodel.specs.Checksum.{bare}
 use Rattle.bufmodel.specs.Rows.{files, blocksAt, startOf, storeBlocks}
 use Rattle.bufmodel.specs.Memory.{Memory, buffers, size}
 use Rattle.bufmodel.specs.Outcome.{done}
 use Rattle.bufmodel.specs.Step.{Call, Checkpoint}
+use Rattle.shelf.specs.Sums.{fails}
 use Rattle.shelf.specs.Shelf.{Shelf, refuses}
 use Rattle.shelf.specs.Ledger.{Ledger, bufferIn, putBy, acceptedBy, ledgerAfter, puts}
 use Rattle.shelf.specs.Statement.{Answers, Shows}
 use Rattle.shelf.proofs.ShelfSizes.{sizes-after}
 use Rattle.shelf.proofs.Kept.{View, shelfOf, ledgerOf, viewOf, Kept, Ended}
-use Rattle.shelf.proofs.KeptLaws.{page-held}
+use Rattle.shelf.proofs.KeptLaws.{page-held, sums-kept}
 use Rattle.shelf.proofs.ShelfPlaces.{six-of}
 
 -- the ledger after an accepted call that answered so
@@ -42,22 +44,36 @@ pub record Accepted (m : Memory) (v : View) (c : Call) (answer bytes : List ℕ)
   pub others : (g : ℕ) → g < storeBlocks (m .rows) → putBy (ledgerOf m v) c answer g ≡ false
       → block (size m) g (m′ .store) ≡ block (size m) g (m .store)
   pub long : length (m′ .store) ≡ length (m .store)
-  pub stored : (g : ℕ) → putBy (ledgerOf m v) c answer g ≡ true → block (size m) g (m′ .store) ≡ shelfThen m v c answer .bytes g
+  pub stored : (g : ℕ) → putBy (ledgerOf m v) c answer g ≡ true
+      → bare (block (size m) g (m′ .store)) ≡ bare (shelfThen m v c answer .bytes g)
   pub settled : c ≡ Checkpoint → (r b : ℕ) → r < files (m .rows) → b < blocksAt (m .rows) r
-      → block (size m) (startOf (m .rows) r + b) (m′ .store) ≡ v .bytes (startOf (m .rows) r + b)
+      → bare (block (size m) (startOf (m .rows) r + b) (m′ .store)) ≡ bare (v .bytes (startOf (m .rows) r + b))
 
 -- two ledgers with equal parts
+abbrev shelfWith : View → ℕ → ℕ → ℕ → List ℕ → Shelf
+shelfWith v b p i r =
+    record {
+      buffers = b;
+      size = p;
+      inserted = i;
+      rows = r;
+      bytes = v .bytes;
+      counts = v .counts;
+      holds = v .holds;
+      bad = v .bad;
+    }
+
 same-ledger : {b b′ p p′ i i′ f f′ : ℕ} {r r′ : List ℕ} (v : View) → b ≡ b′ → p ≡ p′ → i ≡ i′ → r ≡ r′ → f ≡ f′
     → _≡_ {A = Ledger}
     (record {
-      shelf = record { buffers = b; size = p; inserted = i; rows = r; bytes = v .bytes; counts = v .counts; holds = v .holds };
+      shelf = shelfWith v b p i r;
       dirty = v .dirty;
       last = v .last;
       flushed = f;
       put = v .put;
     })
     (record {
-      shelf = record { buffers = b′; size = p′; inserted = i′; rows = r′; bytes = v .bytes; counts = v .counts; holds = v .holds };
+      shelf = shelfWith v b′ p′ i′ r′;
       dirty = v .dirty;
       last = v .last;
       flushed = f′;
@@ -90,6 +106,9 @@ module _ (m : Memory) (v : View) (c : Call) (answer bytes : List ℕ) (m′ : Me
               long = a .long;
               stored = λ g l. a .stored g;
               held = page-held m′ (viewOf (ledgerThen m v c answer)) (a .kept);
+              sums = λ x g e.
+                  ap (λ (p : ℕ). fails (x .block .0) (block p g (m′ .store))) (a .wide)
+                  ∙ sums-kept m′ (viewOf (ledgerThen m v c answer)) (a .kept) x g e;
               settled = λ q z. a .settled q;
             };
         kept = a .kept;

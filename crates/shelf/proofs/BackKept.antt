@@ -1,6 +1,6 @@
 -- Writing back one page: what it does, and that the relation between memory and ledger is kept.
-use Prim.Native.Nat.{ℕ, _<_, max}
-use mathlib.Core.Path.{_≡_, refl, sym, ap, _∙_}
+use Prim.Native.Nat.{ℕ, _≤_, _<_, max}
+use mathlib.Core.Path.{_≡_, refl, sym, ap, _∙_, subst}
 use mathlib.Core.Bool.{true, false, not, _&&_, _||_}
 use mathlib.Core.Logic.{_≢_, ⊎-elim}
 use mathlib.Core.List.{List}
@@ -11,13 +11,17 @@ use Rattle.laws.specs.First.{found}
 use Rattle.laws.specs.Block.{block, putBlock}
 use Rattle.laws.proofs.Tests.{eq-or-ne, never}
 use Rattle.laws.proofs.Block.{length-block, length-putBlock, block-put-same, block-put-other}
+use Rattle.buftag.specs.declared.name.PageName.{PageName}
 use Rattle.bufmodel.specs.Word.{pins, usage, pinned, dirty, cleanFlags, makeClean}
 use Rattle.bufmodel.specs.Position.{position}
+use Rattle.bufmodel.specs.Checksum.{bare, sealed, passes}
 use Rattle.bufmodel.specs.Rows.{storeBlocks, placeOf}
 use Rattle.bufmodel.specs.Memory.{Memory, buffers, size, wordOf, nameOf, pageOf, withStates}
 use Rattle.bufmodel.specs.Moves.{putAt, writeBack}
+use Rattle.bufmodel.proofs.ChecksumLaws.{alike-position, bare-sealed, length-sealed, sealed-passes}
 use Rattle.bufmodel.proofs.WordLaws.{pinned-same, Fields, make-clean}
-use Rattle.bufmodel.proofs.RowsLaws.{place-in}
+use Rattle.bufmodel.proofs.RowsLaws.{place-in, place-same}
+use Rattle.bufmodel.proofs.SizesLaws.{sized-least}
 use Rattle.shelf.specs.Ledger.{isPlace}
 use Rattle.shelf.proofs.Kept.{View, Has, Kept}
 use Rattle.shelf.proofs.KeptLaws.{isPlace-self, isPlace-other}
@@ -28,7 +32,7 @@ use Rattle.shelf.proofs.TurnKept.{turned, turned-then, turned-has, turn
 abbrev pub backOf : Memory → ℕ → ℕ → Memory
 backOf m i g =
     turned m i (max (m .control .flushed) (position (pageOf m i))) (makeClean (wordOf m i)) (m .pool)
-    (putBlock (size m) g (pageOf m i) (m .store))
+    (putBlock (size m) g (sealed (nameOf m i .block .0) (pageOf m i)) (m .store))
 
 -- a dirty page goes to its place
 pub back-dirty : (m : Memory) (i g : ℕ) → placeOf (m .rows) (nameOf m i) ≡ found g → dirty (wordOf m i) ≡ true
@@ -53,6 +57,7 @@ viewBack v g =
       bytes = v .bytes;
       counts = v .counts;
       holds = v .holds;
+      bad = v .bad;
       dirty = λ h. not (isPlace (found g) h) && v .dirty h;
       last = v .last;
       put = λ h. isPlace (found g) h || v .put h;
@@ -88,17 +93,40 @@ module _ (m : Memory) (v : View) (k : Kept m v) (i g : ℕ) (x : Has m i g) wher
   page-long : length (pageOf m i) ≡ size m
   page-long = length-block (size m) (buffers m) i (m .pool) (k .good .sizes .pool) (x .below)
 
+  -- as it goes to the store: as long, and the same page but for bytes 8 and 9
+  abbrev out : List ℕ
+  out = sealed (nameOf m i .block .0) (pageOf m i)
+
+  long : 10 ≤ length (pageOf m i)
+  long = omega (arith, page-long, sized-least (k .good .sizes))
+
+  out-long : length out ≡ size m
+  out-long = length-sealed (nameOf m i .block .0) (pageOf m i) long ∙ page-long
+
+  out-bare : bare out ≡ bare (pageOf m i)
+  out-bare = bare-sealed (nameOf m i .block .0) (pageOf m i) long
+
+  out-position : position out ≡ position (pageOf m i)
+  out-position = alike-position out (pageOf m i) out-bare
+
   pub place-below : g < storeBlocks (m .rows)
   place-below = place-in (m .rows) (k .good .sizes .rows) (nameOf m i) (x .place)
 
   pub back-long : length (backOf m i g .store) ≡ length (m .store)
-  back-long = length-putBlock (size m) (storeBlocks (m .rows)) (pageOf m i) (m .store) (k .good .sizes .store) page-long g place-below
+  back-long = length-putBlock (size m) (storeBlocks (m .rows)) out (m .store) (k .good .sizes .store) out-long g place-below
 
-  back-same : block (size m) g (backOf m i g .store) ≡ pageOf m i
-  back-same = block-put-same (size m) (storeBlocks (m .rows)) (pageOf m i) (m .store) (k .good .sizes .store) page-long g place-below
+  back-same : block (size m) g (backOf m i g .store) ≡ out
+  back-same = block-put-same (size m) (storeBlocks (m .rows)) out (m .store) (k .good .sizes .store) out-long g place-below
 
   pub back-other : (q : ℕ) → q ≢ g → block (size m) q (backOf m i g .store) ≡ block (size m) q (m .store)
-  back-other = block-put-other (size m) (storeBlocks (m .rows)) (pageOf m i) (m .store) (k .good .sizes .store) page-long g place-below
+  back-other = block-put-other (size m) (storeBlocks (m .rows)) out (m .store) (k .good .sizes .store) out-long g place-below
+
+  -- its block has its checksum
+  back-passes : (n : PageName) → placeOf (m .rows) n ≡ found g → passes (n .block .0) (block (size m) g (backOf m i g .store)) ≡ true
+  back-passes n e =
+      subst (λ (y : PageName). passes (y .block .0) (block (size m) g (backOf m i g .store)) ≡ true)
+      (place-same (m .rows) (k .good .sizes .rows) (nameOf m i) n (x .place) e)
+      (ap (passes (nameOf m i .block .0)) back-same ∙ sealed-passes (nameOf m i .block .0) (pageOf m i) long)
 
   -- ---- the relation is kept
   pub kept-backOf : dirty (wordOf m i) ≡ true → Kept (backOf m i g) (viewBack v g)
@@ -115,7 +143,9 @@ module _ (m : Memory) (v : View) (k : Kept m v) (i g : ℕ) (x : Has m i g) wher
         sizeStore = back-long;
         blocks = λ h l ne. back-other h ne;
         low = λ t. never t (clean-word .dirty);
-        clean = λ t. back-same;
+        clean = λ t. ap bare back-same ∙ out-bare;
+        sum = back-passes;
+        bads = λ h. refl;
         bytes = s .bytes;
         counts = s .counts ∙ sym (clean-word .pins);
         marked = rw (isPlace-self g) (sym (clean-word .dirty));
@@ -130,7 +160,7 @@ module _ (m : Memory) (v : View) (k : Kept m v) (i g : ℕ) (x : Has m i g) wher
         };
         put = λ h t.
             ⊎-elim
-            (λ q. rw q (place-below, omega (arith, ap position back-same)))
+            (λ q. rw q (place-below, omega (arith, ap position back-same, out-position)))
             (λ ne.
             let o = k .put h (rw (isPlace-other g h ne) at t) in
             (o .0, omega (arith, o .1, ap position (back-other h ne))))

@@ -11,7 +11,6 @@ use Rattle.laws.specs.First.{found}
 use Rattle.laws.specs.Block.{block}
 use Rattle.laws.proofs.Tests.{and-right, true-or-false, eq-or-ne, never}
 use Rattle.bufmodel.specs.Word.{dirty}
-use Rattle.bufmodel.specs.Position.{position}
 use Rattle.bufmodel.specs.Rows.{storeBlocks}
 use Rattle.bufmodel.specs.Memory.{Memory, buffers, size}
 use Rattle.bufmodel.specs.Moves.{writeBack, writeUpTo}
@@ -19,7 +18,7 @@ use Rattle.bufmodel.proofs.LikeLaws.{like}
 use Rattle.bufmodel.proofs.HeldLaws.{dirty-full}
 use Rattle.shelf.specs.Ledger.{isPlace}
 use Rattle.shelf.proofs.Kept.{View, ledgerOf, Has, Kept}
-use Rattle.shelf.proofs.KeptLaws.{isPlace-self, isPlace-other, has-page}
+use Rattle.shelf.proofs.KeptLaws.{same-position, isPlace-self, isPlace-other, has-page}
 use Rattle.shelf.proofs.HighestLaws.{Bounds}
 use Rattle.shelf.proofs.BackKept.{backOf, back-dirty, back-clean, viewBack}
 use Rattle.shelf.proofs.BackKept.{back-own, back-word, back-other, place-below, kept-backOf}
@@ -32,7 +31,7 @@ backWith m flushed words store = like m (m .control .hand) (m .control .inserted
 -- in the ledger: what is dirty and what was put
 abbrev pub viewWith : View → (ℕ → Bool) → (ℕ → Bool) → View
 viewWith v marks puts =
-    record { bytes = v .bytes; counts = v .counts; holds = v .holds; dirty = marks; last = v .last; put = puts }
+    record { bytes = v .bytes; counts = v .counts; holds = v .holds; bad = v .bad; dirty = marks; last = v .last; put = puts }
 
 -- what the first k turns of a checkpoint leave
 pub record BackUpTo (m : Memory) (v : View) (k : ℕ) : Type 0 where
@@ -138,7 +137,7 @@ module _ (m : Memory) (v : View) (kept : Kept m v) where
           put = put-more g was;
           others = λ h e. back-other now w (r .kept) k g x h (λ z. never was (rw z at e)) ∙ r .others h e;
           above = omega (arith, r .above);
-          least = λ c b. omega (arith, r .least c b, b .each g (place-below now w (r .kept) k g x) was, ap position (s .bytes));
+          least = λ c b. omega (arith, r .least c b, b .each g (place-below now w (r .kept) k g x) was, same-position s);
         }
 
   -- they leave that, whatever k is

@@ -4,31 +4,34 @@ use mathlib.Core.Path.{_≡_, refl, sym, ap, ap₂, _∙_, subst}
 use mathlib.Core.Bool.{Bool, true, false, not, _&&_, cond, and-false}
 use mathlib.Core.Logic.{_⊎_, inl, inr, ⊎-elim}
 use native.Mathlib.Omega.{arith}
+use borrow.Author.Tests.{not-true}
+use Rattle.laws.specs.Block.{block}
 use Rattle.laws.specs.First.{Found, found, missing}
-use Rattle.laws.proofs.Tests.{never, true-or-false}
+use Rattle.laws.proofs.Tests.{never, true-or-false, and-left, and-right}
 use Rattle.laws.proofs.First.{found-missing}
 use Rattle.buftag.specs.declared.name.FileName.{FileName}
 use Rattle.buftag.specs.declared.name.PageName.{PageName}
+use Rattle.bufmodel.specs.Checksum.{passes}
 use Rattle.bufmodel.specs.Word.{pins, pinned, dirty, empty}
 use Rattle.bufmodel.specs.Rows.{setBlocks, rowOf, placeOf}
-use Rattle.bufmodel.specs.Memory.{Memory, buffers, wordOf, nameOf, withRows}
+use Rattle.bufmodel.specs.Memory.{Memory, buffers, size, wordOf, nameOf, withRows}
 use Rattle.bufmodel.specs.Books.{emptyAt}
 use Rattle.bufmodel.specs.Moves.{ofFile}
 use Rattle.bufmodel.proofs.WordLaws.{zero-unpinned, unpinned-none, Held}
 use Rattle.bufmodel.proofs.HeldLaws.{pinned-full}
-use Rattle.bufmodel.proofs.RowsLaws.{row-found, place-same, place-other, place-gone, store-set}
+use Rattle.bufmodel.proofs.RowsLaws.{row-found, place-other, place-gone, store-set}
 use Rattle.bufmodel.proofs.DropLaws.{of-says, onto, Released, left-other, cleared-good}
-use Rattle.shelf.specs.Ledger.{inRow}
+use Rattle.shelf.specs.Shelf.{inRow}
 use Rattle.shelf.proofs.Kept.{View, Has, Nobody, Same, Kept}
 use Rattle.shelf.proofs.KeptLaws.{some-or-none}
-use Rattle.shelf.proofs.FilePages.{of-row}
+use Rattle.shelf.proofs.FilePages.{in-row, of-row}
 
 -- a page that is looked at only where a test holds
 only-if : (t : Bool) {a b : Found} → (t ≡ true → a ≡ b) → cond t a missing ≡ cond t b missing
 only-if true h = h refl
 only-if false h = refl
 
--- ---- the memory afterwards, and the view: no page of the file is dirty
+-- ---- the memory afterwards, and the view: no page of the file is dirty, and no block of it bad
 abbrev pub droppedMemory : Memory → Memory → ℕ → Memory
 droppedMemory m d r = withRows (setBlocks (m .rows) r 0) (onto m d)
 
@@ -38,6 +41,7 @@ droppedView m v r =
       bytes = v .bytes;
       counts = v .counts;
       holds = v .holds;
+      bad = λ g. not (inRow (m .rows) (found r) g) && v .bad g;
       dirty = λ g. not (inRow (m .rows) (found r) g) && v .dirty g;
       last = v .last;
       put = v .put;
@@ -50,6 +54,35 @@ module _ (m : Memory) (v : View) (k : Kept m v) (f : FileName) (r : ℕ) (e : ro
   other-place i full ne =
       place-other (m .rows) r 0 (nameOf m i) (λ q.
       never (of-says m f i .shown (full, sym (row-found (m .rows) (nameOf m i .file) q .1) ∙ row-found (m .rows) f e .1)) ne)
+
+  -- ---- the pages that there are afterwards: those of before, of other rows
+  abbrev own : ℕ → Bool
+  own g = inRow (m .rows) (found r) g
+
+  left-place : (n : PageName) (g : ℕ) → placeOf (setBlocks (m .rows) r 0) n ≡ found g
+      → (placeOf (m .rows) n ≡ found g) × (own g ≡ false)
+  left-place n g q =
+      let other : rowOf (m .rows) (n .file) ≡ found r → ⊥ = λ z. found-missing (sym q ∙ place-gone (m .rows) r 0 n refl z) in
+      let p = sym (place-other (m .rows) r 0 n other) ∙ q in
+      let row = in-row (m .rows) (k .good .sizes .rows) f r e n g p in
+      (p, ⊎-elim (λ t. absurd (other (ap (rowOf (m .rows)) (row .holds t) ∙ e))) (λ z. z) (true-or-false (own g)))
+
+  place-left : (n : PageName) (g : ℕ) → placeOf (m .rows) n ≡ found g → own g ≡ false → placeOf (setBlocks (m .rows) r 0) n ≡ found g
+  place-left n g p out =
+      let row = in-row (m .rows) (k .good .sizes .rows) f r e n g p in
+      place-other (m .rows) r 0 n (λ z.
+      never (row .shown (sym (row-found (m .rows) (n .file) z .1) ∙ row-found (m .rows) f e .1)) out)
+      ∙ p
+
+  -- their blocks, bad or not
+  left-passed : (n : PageName) (g : ℕ) → placeOf (setBlocks (m .rows) r 0) n ≡ found g
+      → (not (own g) && v .bad g) ≡ not (passes (n .block .0) (block (size m) g (m .store)))
+  left-passed n g q = let w = left-place n g q in ap (λ (t : Bool). not t && v .bad g) (w .1) ∙ k .passed n g (w .0)
+
+  left-known : (g : ℕ) → (not (own g) && v .bad g) ≡ true → (n : PageName) × (placeOf (setBlocks (m .rows) r 0) n ≡ found g)
+  left-known g t =
+      let w = k .known g (and-right (not (own g)) _ t) in
+      (w .0, place-left (w .0) g (w .1) (not-true _ (and-left (not (own g)) _ t)))
 
   module _ (d : Memory) (x : Released m f (buffers m) d) where
     -- ---- which buffer has a page
@@ -104,23 +137,15 @@ module _ (m : Memory) (v : View) (k : Kept m v) (f : FileName) (r : ℕ) (e : ro
           marked = ap (λ (t : Bool). not t && v .dirty g) (sym (of-row m v k f r e i g b) ∙ ne) ∙ s .marked ∙ ap dirty (sym w);
           last = s .last;
           clean = λ q. s .clean (ap dirty (sym w) ∙ q);
+          fine = ap (λ (t : Bool). not (own g) && t) (s .fine) ∙ and-false (not (own g));
         }
 
     -- ---- a page that no buffer has
     dropped-stored : (n : PageName) (g : ℕ) → placeOf (setBlocks (m .rows) r 0) n ≡ found g → Nobody (droppedMemory m d r) g
         → (placeOf (m .rows) n ≡ found g) × Nobody m g
-    dropped-stored n g q none = (p, ⊎-elim (λ y. absurd (other (of-file (y .0) (y .1) (y .2)))) (λ z. z) (who-had g none))
-      where
-        other : rowOf (m .rows) (n .file) ≡ found r → ⊥
-        other z = found-missing (sym q ∙ place-gone (m .rows) r 0 n refl z)
-
-        p : placeOf (m .rows) n ≡ found g
-        p = sym (place-other (m .rows) r 0 n other) ∙ q
-
-        of-file : (i : ℕ) → Has m i g → ofFile m f i ≡ true → rowOf (m .rows) (n .file) ≡ found r
-        of-file i h t =
-            let s = place-same (m .rows) (k .good .sizes .rows) (nameOf m i) n (h .place) p in
-            ap (λ (y : PageName). rowOf (m .rows) (y .file)) (sym s) ∙ ap (rowOf (m .rows)) (of-says m f i .holds t .1) ∙ e
+    dropped-stored n g q none =
+        let w = left-place n g q in
+        (w .0, ⊎-elim (λ y. never (sym (of-row m v k f r e (y .0) g (y .1)) ∙ y .2) (w .1)) (λ z. z) (who-had g none))
 
     module _ (free : (i : ℕ) → i < buffers m → ofFile m f i ≡ true → pinned (wordOf m i) ≡ false) where
       dropped-unpinned : (g : ℕ) → Nobody (droppedMemory m d r) g → v .counts g ≡ 0
@@ -160,10 +185,11 @@ module _ (m : Memory) (v : View) (k : Kept m v) (f : FileName) (r : ℕ) (e : ro
                 ⊎-elim
                 (λ y. ap (λ (t : Bool). not t && v .dirty g) (sym (of-row m v k f r e (y .0) g (y .1)) ∙ y .2))
                 (λ z.
-                let out = not (inRow (m .rows) (found r) g) in
-                ap (λ (t : Bool). out && t) (k .unmarked g z) ∙ and-false out)
+                ap (λ (t : Bool). not (own g) && t) (k .unmarked g z) ∙ and-false (not (own g)))
                 (who-had g none);
             stored = λ n g q none. let p = dropped-stored n g q none in k .stored n g (p .0) (p .1);
+            passed = left-passed;
+            known = left-known;
             holds = λ i l. dropped-holds i (omega (arith, x .many));
             put = λ g q. (rw (store-set (m .rows) r 0) (k .put g q .0), k .put g q .1);
           }

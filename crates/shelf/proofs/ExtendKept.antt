@@ -2,7 +2,7 @@
 use Prim.Native.Nat.{ℕ, suc, _+_, _≤_, _<_}
 use mathlib.Core.Path.{_≡_, refl, sym, ap, _∙_}
 use mathlib.Core.Logic.{_≢_, _⊎_, inl, inr, ⊎-elim}
-use mathlib.Core.Bool.{Bool, true, false, _||_, cond}
+use mathlib.Core.Bool.{Bool, true, false, not, _||_, cond}
 use mathlib.Core.List.{List}
 use native.Mathlib.Omega.{arith}
 use lib.Dec.{eqb}
@@ -10,15 +10,17 @@ use lib.ListN.{length, replicate, length-replicate}
 use borrow.Author.Tests.{ne-eqb}
 use Rattle.laws.specs.First.{found, missing}
 use Rattle.laws.specs.Block.{block, putBlock}
-use Rattle.laws.proofs.Tests.{eq-or-ne}
+use Rattle.laws.proofs.Tests.{eq-or-ne, true-or-false}
 use Rattle.laws.proofs.First.{found-same}
 use Rattle.laws.proofs.Block.{length-putBlock, block-put-same, block-put-other}
 use Rattle.buftag.specs.declared.name.PageName.{PageName}
+use Rattle.bufmodel.specs.Checksum.{bare, passes}
 use Rattle.bufmodel.specs.Word.{pinned}
 use Rattle.bufmodel.specs.Position.{position}
 use Rattle.bufmodel.specs.Rows.{files, blocksAt, capacityAt, setBlocks, startOf, storeBlocks, placeOf}
 use Rattle.bufmodel.specs.Memory.{Memory, buffers, size, wordOf, nameOf, withRows, withStore}
 use Rattle.bufmodel.specs.Books.{emptyAt}
+use Rattle.bufmodel.proofs.ChecksumLaws.{zeros-pass}
 use Rattle.bufmodel.proofs.PositionLaws.{position-zeros}
 use Rattle.bufmodel.proofs.HeldLaws.{empty-unpinned}
 use Rattle.bufmodel.proofs.RowsLaws.{start-in, in-row-only, row-found, place-found, store-set, place-kept, place-new}
@@ -46,6 +48,7 @@ viewMore m v r =
       bytes = with (placeMore (m .rows) r) (replicate (size m) 0) (v .bytes);
       counts = v .counts;
       holds = v .holds;
+      bad = v .bad;
       dirty = v .dirty;
       last = v .last;
       put = λ g. eqb g (placeMore (m .rows) r) || v .put g;
@@ -109,23 +112,45 @@ module _ (m : Memory) (v : View) (k : Kept m v) (r : ℕ) (l : r < files (m .row
       let s = k .same i g y in
       let ne = more-new (nameOf m i) g (y .place) in
       record {
-        bytes = with-other (placeMore (m .rows) r) (replicate (size m) 0) (v .bytes) g ne ∙ s .bytes;
+        bytes = ap bare (with-other (placeMore (m .rows) r) (replicate (size m) 0) (v .bytes) g ne) ∙ s .bytes;
         counts = s .counts;
         marked = s .marked;
         last = s .last;
-        clean = λ d. store-other g ne ∙ s .clean d;
+        clean = λ d. ap bare (store-other g ne) ∙ s .clean d;
+        fine = s .fine;
       }
 
   -- a page that no buffer has: one of before, or the new one
   stored-more : (n : PageName) (g : ℕ) → placeOf (rowsMore (m .rows) r) n ≡ found g → Nobody (memoryMore m r) g
-      → viewMore m v r .bytes g ≡ block (size m) g (memoryMore m r .store)
+      → bare (viewMore m v r .bytes g) ≡ bare (block (size m) g (memoryMore m r .store))
   stored-more n g e x =
       ⊎-elim
       (λ q.
       let ne = more-new n g q in
-      with-other (placeMore (m .rows) r) (replicate (size m) 0) (v .bytes) g ne
-      ∙ k .stored n g q (λ i y. x i (has-more i g y)) ∙ sym (store-other g ne))
-      (λ q. rw (q .2) (with-same (placeMore (m .rows) r) (replicate (size m) 0) (v .bytes) ∙ sym store-same))
+      ap bare (with-other (placeMore (m .rows) r) (replicate (size m) 0) (v .bytes) g ne)
+      ∙ k .stored n g q (λ i y. x i (has-more i g y)) ∙ ap bare (sym (store-other g ne)))
+      (λ q. ap bare (rw (q .2) (with-same (placeMore (m .rows) r) (replicate (size m) 0) (v .bytes) ∙ sym store-same)))
+      (place-new (m .rows) r (suc (blocksAt (m .rows) r)) n refl e)
+
+  -- the new block is zeros, and did not come in bad
+  new-fine : v .bad (placeMore (m .rows) r) ≡ false
+  new-fine =
+      ⊎-elim (λ t. let w = k .known (placeMore (m .rows) r) t in absurd (more-new (w .0) _ (w .1) refl)) (λ f. f)
+      (true-or-false (v .bad (placeMore (m .rows) r)))
+
+  passed-more : (n : PageName) (g : ℕ) → placeOf (rowsMore (m .rows) r) n ≡ found g
+      → v .bad g ≡ not (passes (n .block .0) (block (size m) g (memoryMore m r .store)))
+  passed-more n g e =
+      ⊎-elim
+      (λ q.
+      k .passed n g q
+      ∙ ap (λ (y : List ℕ). not (passes (n .block .0) y)) (sym (store-other g (more-new n g q))))
+      (λ q.
+      ap (v .bad) (q .2) ∙ new-fine
+      ∙ sym
+      (ap not
+      (ap (λ (h : ℕ). passes (n .block .0) (block (size m) h (memoryMore m r .store))) (q .2) ∙ ap (passes (n .block .0)) store-same
+      ∙ zeros-pass (n .block .0) (size m))))
       (place-new (m .rows) r (suc (blocksAt (m .rows) r)) n refl e)
 
   -- a pinned buffer has a page, and its place is the one of before
@@ -166,6 +191,8 @@ module _ (m : Memory) (v : View) (k : Kept m v) (r : ℕ) (l : r < files (m .row
         unpinned = λ g x. k .unpinned g (λ i y. x i (has-more i g y));
         unmarked = λ g x. k .unmarked g (λ i y. x i (has-more i g y));
         stored = stored-more;
+        passed = passed-more;
+        known = λ g t. let w = k .known g t in (w .0, place-more (w .0) g (w .1));
         holds = holds-more;
         put = put-more;
       }

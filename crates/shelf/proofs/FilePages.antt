@@ -20,15 +20,14 @@ use Rattle.bufmodel.specs.Moves.{ofFile}
 use Rattle.bufmodel.specs.Calls.{filePinned}
 use Rattle.bufmodel.proofs.RowsLaws.{row-found, row-same, in-row-only, place-found, place-room}
 use Rattle.bufmodel.proofs.DropLaws.{of-says, pinned-says}
-use Rattle.shelf.specs.Shelf.{hasPins, filePinned as pagesPinned}
-use Rattle.shelf.specs.Ledger.{inRow}
+use Rattle.shelf.specs.Shelf.{inRow, hasPins, filePinned as pagesPinned}
 use Rattle.shelf.proofs.Kept.{View, shelfOf, Has, Kept}
 use Rattle.shelf.proofs.KeptLaws.{has-page, some-or-none, pins-has, pins-nobody}
 
 -- ---- the places of a file's pages
 module _ (rows : List ℕ) (sound : RowsSound rows) (f : FileName) (r : ℕ) (e : rowOf rows f ≡ found r) where
   -- a page is of the file exactly when its place is in the file's row
-  in-row : (n : PageName) (g : ℕ) → placeOf rows n ≡ found g → Says (inRow rows (found r) g) (n .file ≡ f)
+  pub in-row : (n : PageName) (g : ℕ) → placeOf rows n ≡ found g → Says (inRow rows (found r) g) (n .file ≡ f)
   unfolding inRow
   in-row n g q =
       let p = place-room rows sound n q in

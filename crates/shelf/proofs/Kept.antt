@@ -1,18 +1,19 @@
 -- The relation between memory and ledger that every call keeps, and what a call has to show.
 use Prim.Native.Nat.{ℕ, _≤_, _<_}
 use mathlib.Core.Path.{_≡_, sym, ap, subst}
-use mathlib.Core.Bool.{Bool, true, false, cond}
+use mathlib.Core.Bool.{Bool, true, false, not, cond}
 use mathlib.Core.List.{List, [], _∷_}
 use Rattle.laws.specs.First.{Found, found, missing}
 use Rattle.laws.specs.Block.{block}
+use Rattle.buftag.specs.declared.name.PageName.{PageName}
 use Rattle.bufmodel.specs.Word.{pins, pinned, dirty}
 use Rattle.bufmodel.specs.Position.{position}
+use Rattle.bufmodel.specs.Checksum.{bare, passes}
 use Rattle.bufmodel.specs.Rows.{storeBlocks, placeOf}
 use Rattle.bufmodel.specs.Memory.{Memory, buffers, size, wordOf, nameOf, pageOf}
 use Rattle.bufmodel.specs.Books.{emptyAt}
 use Rattle.bufmodel.specs.Outcome.{Outcome}
 use Rattle.bufmodel.specs.Step.{Call, step}
-use Rattle.buftag.specs.declared.name.PageName.{PageName}
 use Rattle.bufmodel.proofs.GoodLaws.{Good}
 use Rattle.shelf.specs.Shelf.{Shelf}
 use Rattle.shelf.specs.Ledger.{Ledger, ledgerAfter}
@@ -24,6 +25,7 @@ pub record View : Type 0 where
   pub bytes : ℕ → List ℕ
   pub counts : ℕ → ℕ
   pub holds : ℕ → Found
+  pub bad : ℕ → Bool
   pub dirty : ℕ → Bool
   pub last : ℕ → Found
   pub put : ℕ → Bool
@@ -38,6 +40,7 @@ shelfOf m v =
       bytes = v .bytes;
       counts = v .counts;
       holds = v .holds;
+      bad = v .bad;
     }
 
 abbrev pub ledgerOf : Memory → View → Ledger
@@ -50,6 +53,7 @@ viewOf l =
       bytes = l .shelf .bytes;
       counts = l .shelf .counts;
       holds = l .shelf .holds;
+      bad = l .shelf .bad;
       dirty = l .dirty;
       last = l .last;
       put = l .put;
@@ -66,24 +70,32 @@ pub record Has (m : Memory) (i g : ℕ) : Type 0 where
 abbrev pub Nobody : Memory → ℕ → Type 0
 Nobody m g = (i : ℕ) → Has m i g → ⊥
 
--- what the ledger says of the page that buffer i has
+-- what the ledger says of the page that buffer i has, bytes 8 and 9 left out
 pub record Same (m : Memory) (v : View) (i g : ℕ) : Type 0 where
-  pub bytes : v .bytes g ≡ pageOf m i
+  pub bytes : bare (v .bytes g) ≡ bare (pageOf m i)
   pub counts : v .counts g ≡ pins (wordOf m i)
   pub marked : v .dirty g ≡ dirty (wordOf m i)
   pub last : v .last i ≡ found g
   -- a page that is not dirty equals its block in the store
-  pub clean : dirty (wordOf m i) ≡ false → block (size m) g (m .store) ≡ pageOf m i
+  pub clean : dirty (wordOf m i) ≡ false → bare (block (size m) g (m .store)) ≡ bare (pageOf m i)
+  -- and did not come in bad
+  pub fine : v .bad g ≡ false
 
 -- what holds between them after every call
 pub record Kept (m : Memory) (v : View) : Type 0 where
   pub good : Good m
   pub words : HeldWords m
   pub same : (i g : ℕ) → Has m i g → Same m v i g
-  -- a page that no buffer has has no pins, is not dirty, and its bytes are the store's
+  -- a page that no buffer has has no pins, is not dirty, and its bytes, but for 8 and 9, are the store's
   pub unpinned : (g : ℕ) → Nobody m g → v .counts g ≡ 0
   pub unmarked : (g : ℕ) → Nobody m g → v .dirty g ≡ false
-  pub stored : (n : PageName) (g : ℕ) → placeOf (m .rows) n ≡ found g → Nobody m g → v .bytes g ≡ block (size m) g (m .store)
+  pub stored : (n : PageName) (g : ℕ) → placeOf (m .rows) n ≡ found g → Nobody m g
+      → bare (v .bytes g) ≡ bare (block (size m) g (m .store))
+  -- a block passes its checksum unless it came in bad
+  pub passed : (n : PageName) (g : ℕ) → placeOf (m .rows) n ≡ found g
+      → v .bad g ≡ not (passes (n .block .0) (block (size m) g (m .store)))
+  -- only blocks that exist are bad
+  pub known : (g : ℕ) → v .bad g ≡ true → (n : PageName) × (placeOf (m .rows) n ≡ found g)
   -- a number holds a page exactly when its buffer is pinned, and that page
   pub holds : (i : ℕ) → i < buffers m → v .holds i ≡ cond (pinned (wordOf m i)) (placeOf (m .rows) (nameOf m i)) missing
   -- what was put into the store is at or below flushed

@@ -6,18 +6,25 @@ use mathlib.Core.Logic.{_≢_, _⊎_, inl, inr}
 use lib.Dec.{eqb}
 use borrow.Author.Tests.{eqb-true, eq-eqb, ne-eqb, not-true}
 use Rattle.laws.specs.First.{Found, found, missing, first}
-use Rattle.bufmodel.specs.Word.{pinned, empty}
-use Rattle.bufmodel.specs.Rows.{placeOf}
-use Rattle.bufmodel.specs.Memory.{Memory, buffers, wordOf, nameOf, pageOf}
-use Rattle.bufmodel.specs.Books.{emptyAt}
-use Rattle.bufmodel.proofs.GoodLaws.{Good}
-use Rattle.bufmodel.proofs.RowsLaws.{place-same}
+use Rattle.laws.specs.Block.{block}
 use Rattle.laws.specs.Says.{Says}
 use Rattle.laws.proofs.Tests.{and-left, and-right, and-true, never}
 use Rattle.laws.proofs.First.{found-same, first-found, first-missing}
+use Rattle.buftag.specs.declared.name.PageName.{PageName}
+use Rattle.bufmodel.specs.Word.{pinned, empty}
+use Rattle.bufmodel.specs.Position.{position}
+use Rattle.bufmodel.specs.Checksum.{bare}
+use Rattle.bufmodel.specs.Rows.{placeOf}
+use Rattle.bufmodel.specs.Memory.{Memory, buffers, size, wordOf, nameOf, pageOf}
+use Rattle.bufmodel.specs.Books.{emptyAt}
+use Rattle.bufmodel.proofs.GoodLaws.{Good}
+use Rattle.bufmodel.proofs.RowsLaws.{place-same}
+use Rattle.bufmodel.proofs.ChecksumLaws.{alike-position}
+use Rattle.shelf.specs.Sums.{fails}
 use Rattle.shelf.specs.Shelf.{hasPins}
 use Rattle.shelf.specs.Ledger.{isPlace}
-use Rattle.shelf.proofs.Kept.{View, shelfOf, Has, Nobody, Kept}
+use Rattle.shelf.proofs.SumsLaws.{fails-not}
+use Rattle.shelf.proofs.Kept.{View, shelfOf, Has, Nobody, Same, Kept}
 
 -- ---- one place and no other
 pub isPlace-true : (f : Found) (g : ℕ) → isPlace f g ≡ true → f ≡ found g
@@ -38,6 +45,7 @@ pub record Alike (v w : View) : Type 0 where
   pub bytes : (g : ℕ) → w .bytes g ≡ v .bytes g
   pub counts : (g : ℕ) → w .counts g ≡ v .counts g
   pub holds : (b : ℕ) → w .holds b ≡ v .holds b
+  pub bads : (g : ℕ) → w .bad g ≡ v .bad g
   pub marks : (g : ℕ) → w .dirty g ≡ v .dirty g
   pub last : (b : ℕ) → w .last b ≡ v .last b
   pub put : (g : ℕ) → w .put g ≡ v .put g
@@ -51,18 +59,25 @@ kept-alike m v w a k =
       same = λ i g h.
           let s = k .same i g h in
           record {
-            bytes = a .bytes g ∙ s .bytes;
+            bytes = ap bare (a .bytes g) ∙ s .bytes;
             counts = a .counts g ∙ s .counts;
             marked = a .marks g ∙ s .marked;
             last = a .last i ∙ s .last;
             clean = s .clean;
+            fine = a .bads g ∙ s .fine;
           };
       unpinned = λ g x. a .counts g ∙ k .unpinned g x;
       unmarked = λ g x. a .marks g ∙ k .unmarked g x;
-      stored = λ n g e x. a .bytes g ∙ k .stored n g e x;
+      stored = λ n g e x. ap bare (a .bytes g) ∙ k .stored n g e x;
+      passed = λ n g e. a .bads g ∙ k .passed n g e;
+      known = λ g e. k .known g (sym (a .bads g) ∙ e);
       holds = λ i h. a .holds i ∙ k .holds i h;
       put = λ g e. k .put g (sym (a .put g) ∙ e);
     }
+
+-- the page in the pool and the shelf's are at one position
+pub same-position : {m : Memory} {v : View} {i g : ℕ} → Same m v i g → position (v .bytes g) ≡ position (pageOf m i)
+same-position {m} {v} {i} {g} s = alike-position (v .bytes g) (pageOf m i) (s .bytes)
 
 -- ---- which buffer has a page
 module _ (m : Memory) (good : Good m) where
@@ -127,6 +142,12 @@ module _ (m : Memory) (v : View) (k : Kept m v) where
 -- ---- bytes
 module _ (m : Memory) (v : View) (k : Kept m v) where
   -- the page of a buffer in use is the shelf's
-  pub page-held : (i g : ℕ) → i < buffers m → wordOf m i ≢ 0 → placeOf (m .rows) (nameOf m i) ≡ found g → pageOf m i ≡ v .bytes g
+  pub page-held : (i g : ℕ) → i < buffers m → wordOf m i ≢ 0 → placeOf (m .rows) (nameOf m i) ≡ found g
+      → bare (pageOf m i) ≡ bare (v .bytes g)
   unfolding emptyAt empty
   page-held i g l ne e = sym (k .same i g (record { below = l; full = ne-eqb (wordOf m i) 0 ne; place = e }) .bytes)
+
+  -- a block fails its checksum exactly if the shelf counts it as bad
+  pub sums-kept : (n : PageName) (g : ℕ) → placeOf (m .rows) n ≡ found g
+      → fails (n .block .0) (block (size m) g (m .store)) ≡ v .bad g
+  sums-kept n g e = fails-not (n .block .0) (block (size m) g (m .store)) ∙ sym (k .passed n g e)

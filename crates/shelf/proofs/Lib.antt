@@ -27,9 +27,10 @@ pub mod HighestLaws
 pub mod Refused
 pub mod Accepted
 pub mod Unchanged
--- the tests of a buffer number and of a page's name
+-- the tests of a buffer number, of a page's name and of its block
 pub mod BufferPlaces
 pub mod NamePage
+pub mod PagePlaces
 -- log inserted and log flushed, read, peek
 pub mod StepLog
 pub mod StepRead
@@ -63,6 +64,7 @@ pub mod ReleaseKept
 pub mod PinVictim
 pub mod StepPin
 -- demand 3: an accepted set up, calls over lent memory, and the theorem
+pub mod FirstBad
 pub mod Start
 pub mod Lift
 pub mod Demand

@@ -11,6 +11,7 @@ use Rattle.buftag.specs.declared.link.Link.the-variants.{To}
 use Rattle.buftag.specs.declared.lookup.Held.the-variants.{Nowhere}
 use Rattle.buftag.specs.declared.name.PageName.{PageName}
 use Rattle.buftag.specs.Link.{linkOf}
+use Rattle.bufmodel.specs.Checksum.{bare}
 use Rattle.bufmodel.specs.Word.{pins, pinned, dirty, loaded}
 use Rattle.bufmodel.specs.Rows.{placeOf, storeBlocks}
 use Rattle.bufmodel.specs.Memory.{Memory, buffers, size, wordOf, nameOf, pageOf}
@@ -35,13 +36,14 @@ viewLoad v i g =
       bytes = v .bytes;
       counts = with g (v .counts g + 1) (v .counts);
       holds = with i (found g) (v .holds);
+      bad = v .bad;
       dirty = v .dirty;
       last = with i (found g) (v .last);
       put = v .put;
     }
 
 module _ (m : Memory) (v : View) (k : Kept m v) (n : PageName) (i g : ℕ) (top : linkOf (m .control .top) ≡ To i)
-    (place : placeOf (m .rows) n ≡ found g) (new : heldIn m n ≡ Nowhere) where
+    (place : placeOf (m .rows) n ≡ found g) (new : heldIn m n ≡ Nowhere) (fine : v .bad g ≡ false) where
   abbrev after : Memory
   after = loadAt m n i g
 
@@ -102,11 +104,12 @@ module _ (m : Memory) (v : View) (k : Kept m v) (n : PageName) (i g : ℕ) (top 
   own-same =
       let one : v .counts g + 1 ≡ 1 = omega (arith, k .unpinned g none) in
       record {
-        bytes = k .stored n g place none ∙ sym own-page;
+        bytes = k .stored n g place none ∙ ap bare (sym own-page);
         counts = with-same g (v .counts g + 1) (v .counts) ∙ one ∙ sym (ap pins own-word ∙ loaded-fields .pins);
         marked = k .unmarked g none ∙ sym (ap dirty own-word ∙ loaded-fields .dirty);
         last = with-same i (found g) (v .last);
-        clean = λ d. sym own-page;
+        clean = λ d. ap bare (sym own-page);
+        fine = fine;
       }
 
   -- and of the others
@@ -118,11 +121,12 @@ module _ (m : Memory) (v : View) (k : Kept m v) (n : PageName) (i g : ℕ) (top 
       let p = load-page m n i g (k .good) below stands j ne in
       let other : h ≢ g = λ e. none j (subst (Has m j) e x) in
       record {
-        bytes = q .bytes ∙ sym p;
+        bytes = q .bytes ∙ ap bare (sym p);
         counts = with-other g (v .counts g + 1) (v .counts) h other ∙ q .counts ∙ ap pins (sym w);
         marked = q .marked ∙ ap dirty (sym w);
         last = with-other i (found g) (v .last) j ne ∙ q .last;
-        clean = λ d. q .clean (ap dirty (sym w) ∙ d) ∙ sym p;
+        clean = λ d. q .clean (ap dirty (sym w) ∙ d) ∙ ap bare (sym p);
+        fine = q .fine;
       }
 
   -- ---- all that the relation says
@@ -171,6 +175,8 @@ module _ (m : Memory) (v : View) (k : Kept m v) (n : PageName) (i g : ℕ) (top 
             with-other g (v .counts g + 1) (v .counts) h (w .0) ∙ k .unpinned h (w .1);
         unmarked = λ h gone. k .unmarked h (load-nobody h gone .1);
         stored = λ p h e gone. k .stored p h e (load-nobody h gone .1);
+        passed = k .passed;
+        known = k .known;
         holds = λ j l. load-holds j (rw b at l);
         put = k .put;
       }

@@ -16,7 +16,7 @@ use Rattle.bufmodel.proofs.GoodLaws.{Good}
 use Rattle.bufmodel.proofs.RowsLaws.{place-same}
 use Rattle.bufmodel.proofs.OutcomeLaws.{refusal-same}
 use Rattle.bufmodel.proofs.HeldLaws.{held-at, held-none}
-use Rattle.shelf.specs.Shelf.{Shelf, noFile, noPage, nameFirst}
+use Rattle.shelf.specs.Shelf.{Shelf, noFile, noPage, isBad, pageFirst}
 use Rattle.shelf.proofs.Kept.{Has, Nobody}
 use Rattle.shelf.proofs.MemoryPlaces.{name-found}
 use Rattle.shelf.proofs.Refused.{Neither, neither-place}
@@ -33,17 +33,20 @@ module _ (rows : List ℕ) (n : PageName) where
       → ((g : ℕ) × (placeOf rows n ≡ found g)) × (refusalOf ps ≡ 0)
   name-passed ps e = let w = name-found rows n ps e (omega arith) (omega arith) in ((w .0, w .1), w .2)
 
--- ---- the shelf's tests of a name are these
-pub names-same : (s : Shelf) (n : PageName) (ps qs : List Place) → refusalOf ps ≡ refusalOf qs
-    → refusalOf (namePlaces (s .rows) n ps) ≡ refusalOf (nameFirst s n qs)
-unfolding namePlaces nameFirst noRow noFile noBlock noPage
+-- ---- the shelf's tests of a name are these; its test of a bad block stands behind them
+abbrev pub badFirst : Shelf → PageName → List Place → List Place
+badFirst s n later = place 17 (isBad s (placeOf (s .rows) n)) ∷ later
+
+pub names-same : (s : Shelf) (n : PageName) (ps qs : List Place) → refusalOf ps ≡ refusalOf (badFirst s n qs)
+    → refusalOf (namePlaces (s .rows) n ps) ≡ refusalOf (pageFirst s n qs)
+unfolding namePlaces pageFirst noRow noFile noBlock noPage
 names-same s n ps qs e = go (rowOf (s .rows) (n .file))
   where
     go : (r : Found)
         → refusalOf (place 3 (noRow r) ∷ place 4 (noBlock (s .rows) (n .block .0) r) ∷ ps)
-        ≡ refusalOf (place 3 (noFile r) ∷ place 4 (noPage s (n .block .0) r) ∷ qs)
-    go (found r) = refusal-same 3 _ _ refl (refusal-same 4 ps qs refl e)
-    go missing = refusal-same 3 _ _ refl (refusal-same 4 ps qs refl e)
+        ≡ refusalOf (place 3 (noFile r) ∷ place 4 (noPage s (n .block .0) r) ∷ badFirst s n qs)
+    go (found r) = refusal-same 3 _ _ refl (refusal-same 4 ps (badFirst s n qs) refl e)
+    go missing = refusal-same 3 _ _ refl (refusal-same 4 ps (badFirst s n qs) refl e)
 
 -- ---- which buffer has the page
 module _ (m : Memory) (k : Good m) (n : PageName) (g : ℕ) (e : placeOf (m .rows) n ≡ found g) where

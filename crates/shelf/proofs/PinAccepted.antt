@@ -11,6 +11,7 @@ use Rattle.laws.proofs.Tests.{never}
 use Rattle.buftag.specs.declared.name.PageName.{PageName}
 use Rattle.bufmodel.specs.Word.{pinned}
 use Rattle.bufmodel.specs.Position.{position}
+use Rattle.bufmodel.specs.Checksum.{bare}
 use Rattle.bufmodel.specs.Rows.{storeBlocks, placeOf}
 use Rattle.bufmodel.specs.Memory.{Memory, buffers, size, wordOf}
 use Rattle.bufmodel.specs.Outcome.{done}
@@ -37,6 +38,7 @@ viewWrote v d b =
       bytes = v .bytes;
       counts = v .counts;
       holds = v .holds;
+      bad = v .bad;
       dirty = λ h. not (wasLast v d b h) && v .dirty h;
       last = v .last;
       put = λ h. wasLast v d b h || v .put h;
@@ -64,6 +66,7 @@ module _ (m : Memory) (v : View) (n : PageName) (g : ℕ) (place : placeOf (m .r
         bytes = λ h. ap (λ (f : Found). pinnedAt s b f .bytes h) place;
         counts = λ h. ap (λ (f : Found). pinnedAt s b f .counts h) place;
         holds = λ c. ap (λ (f : Found). pinnedAt s b f .holds c) place;
+        bads = λ h. ap (λ (f : Found). pinnedAt s b f .bad h) place;
         marks = λ h. refl;
         last = λ c. ap (λ (f : Found). with b f (v .last) c) place;
         put = λ h. ap (λ (t : Bool). t || v .put h) (or-false (wasLast v (wroteIn answer) b h));
@@ -97,7 +100,7 @@ module _ (m : Memory) (v : View) (n : PageName) (g : ℕ) (answer : List ℕ) (m
     pub kept : Kept m′ (viewPin v answer g)
     pub others : (h : ℕ) → h < storeBlocks (m .rows) → back h ≡ false → block (size m) h (m′ .store) ≡ block (size m) h (m .store)
     pub long : length (m′ .store) ≡ length (m .store)
-    pub stored : (h : ℕ) → back h ≡ true → block (size m) h (m′ .store) ≡ v .bytes h
+    pub stored : (h : ℕ) → back h ≡ true → bare (block (size m) h (m′ .store)) ≡ bare (v .bytes h)
 
   -- this is all, whichever way the pin got its buffer
   pub pin-accepted : placeOf (m .rows) n ≡ found g → PinAccepted → Accepted m v (Pin n) answer [] m′
@@ -117,6 +120,6 @@ module _ (m : Memory) (v : View) (n : PageName) (g : ℕ) (answer : List ℕ) (m
         kept = kept-alike m′ (viewPin v answer g) (viewOf (ledgerThen m v (Pin n) answer)) (pin-view m v n g place answer) (a .kept);
         others = λ h l e. a .others h l (sym (or-false (back h)) ∙ e);
         long = a .long;
-        stored = λ h t. a .stored h (sym (or-false (back h)) ∙ t) ∙ sym (ap (λ (f : Found). pinnedAt s b f .bytes h) place);
+        stored = λ h t. a .stored h (sym (or-false (back h)) ∙ t) ∙ sym (ap (λ (f : Found). bare (pinnedAt s b f .bytes h)) place);
         settled = λ q. absurd (not-checkpoint refl q);
       }

@@ -1,6 +1,7 @@
 -- A pin that takes the top of the free list agrees with the shelf.
 use Prim.Native.Nat.{ℕ}
 use mathlib.Core.Path.{_≡_, refl, sym, subst}
+use mathlib.Core.Bool.{false}
 use mathlib.Core.List.{List, [], _∷_}
 use Rattle.laws.specs.First.{found}
 use Rattle.laws.proofs.Tests.{never}
@@ -26,7 +27,7 @@ use Rattle.shelf.proofs.LoadKept.{kept-load}
 use Rattle.shelf.proofs.PinAccepted.{PinAccepted, new-rule, pin-accepted}
 
 module _ (m : Memory) (v : View) (k : Kept m v) (n : PageName) (i g : ℕ) (new : heldIn m n ≡ Nowhere)
-    (top : linkOf (m .control .top) ≡ To i) (place : placeOf (m .rows) n ≡ found g) where
+    (top : linkOf (m .control .top) ≡ To i) (place : placeOf (m .rows) n ≡ found g) (fine : v .bad g ≡ false) where
   abbrev answer : List ℕ
   answer = i ∷ 0 ∷ 0 ∷ 0 ∷ []
 
@@ -43,7 +44,7 @@ module _ (m : Memory) (v : View) (k : Kept m v) (n : PageName) (i g : ℕ) (new 
         rows = refl;
         inserted = refl;
         flushed = highest-still (ledgerOf m v) (m .control .flushed) (storeBlocks (m .rows));
-        kept = kept-load m v k n i g top place new;
+        kept = kept-load m v k n i g top place new fine;
         others = λ h l e. refl;
         long = refl;
         stored = λ h t. never t refl;

@@ -6,7 +6,7 @@ use mathlib.Core.Bool.{Bool, false, not, _&&_}
 use mathlib.Core.List.{List, [], _∷_}
 use native.Mathlib.Omega.{arith}
 use lib.Dec.{eqb}
-use Rattle.laws.specs.First.{Found, found, missing}
+use Rattle.laws.specs.First.{Found, found}
 use Rattle.laws.proofs.Tests.{true-or-false}
 use Rattle.laws.proofs.Every.{all-fails}
 use Rattle.buftag.specs.declared.lookup.Held.{Held}
@@ -20,13 +20,14 @@ use Rattle.bufmodel.specs.Pin as pin
 use Rattle.bufmodel.specs.Pin.{noVictim, heldIn, pinPlaces}
 use Rattle.bufmodel.specs.Step.{Pin}
 use Rattle.bufmodel.proofs.OutcomeLaws.{refusal-same}
-use Rattle.shelf.specs.Shelf.{Shelf, hasPins, pinnedPages, countFull, noBuffer, nameFirst, above, places, refuses}
+use Rattle.shelf.specs.Shelf.{Shelf, hasPins, pinnedPages, countFull, noBuffer, pageFirst, above, places, refuses}
 use Rattle.shelf.proofs.Kept.{View, shelfOf, Has, Nobody, Kept}
 use Rattle.shelf.proofs.ShelfPlaces.{refuses-is}
 use Rattle.shelf.proofs.Refused.{Neither, neither-none, neither-place}
 use Rattle.shelf.proofs.KeptLaws.{pins-has, pins-nobody}
-use Rattle.shelf.proofs.MemoryPlaces.{name-refused, lastPlaces}
-use Rattle.shelf.proofs.NamePage.{name-neither, names-same, held-has, held-nobody}
+use Rattle.shelf.proofs.MemoryPlaces.{lastPlaces}
+use Rattle.shelf.proofs.NamePage.{held-has, held-nobody}
+use Rattle.shelf.proofs.PagePlaces.{page-number, page-neither}
 use Rattle.shelf.proofs.PinnedPages.{pages-full, no-victim}
 
 -- ---- the places 5 and 6
@@ -72,18 +73,15 @@ module _ (m : Memory) (v : View) (k : Kept m v) where
 
   -- ---- the number
   pub pin-number : (n : PageName) → refusalOf (pinPlaces m n) ≡ refuses (shelfOf m v) (Pin n)
-  unfolding pinPlaces places above nameFirst
-  pin-number n = go (placeOf (m .rows) n) refl ∙ sym (refuses-is _ _)
-    where
-      go : (f : Found) → placeOf (m .rows) n ≡ f → refusalOf (pinPlaces m n) ≡ refusalOf (places (shelfOf m v) (Pin n))
-      go (found g) e =
-          names-same (shelfOf m v) n _ _
-          (tests-same n g e (heldIn m n) refl ∙ ap (λ (f : Found). refusalOf (shelfPlaces (shelfOf m v) f)) (sym e))
-      go missing e = let r = name-refused (m .rows) n e in r .3 _ ∙ sym (r .3 _) ∙ names-same (shelfOf m v) n _ _ refl
+  unfolding pinPlaces places above pageFirst
+  pin-number n =
+      page-number m v k n (lastPlaces m (heldIn m n)) (shelfPlaces (shelfOf m v) (placeOf (m .rows) n))
+      (λ g e. tests-same n g e (heldIn m n) refl ∙ ap (λ (f : Found). refusalOf (shelfPlaces (shelfOf m v) f)) (sym e))
+      ∙ sym (refuses-is _ _)
 
 -- ---- what the number says of the memory
 module _ (m : Memory) (n : PageName) where
   pub pin-neither : Neither (refusalOf (pinPlaces m n))
   unfolding pinPlaces
   pin-neither =
-      name-neither (m .rows) n _ (neither-place 5 _ _ (omega arith) (neither-place 6 _ [] (omega arith) neither-none))
+      page-neither m n _ (neither-place 5 _ _ (omega arith) (neither-place 6 _ [] (omega arith) neither-none))

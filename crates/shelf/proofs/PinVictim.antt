@@ -14,6 +14,7 @@ use Rattle.buftag.specs.declared.lookup.Held.the-variants.{Nowhere}
 use Rattle.buftag.specs.declared.name.PageName.{PageName}
 use Rattle.buftag.specs.Link.{linkOf}
 use Rattle.bufmodel.specs.Word.{pinned, dirty}
+use Rattle.bufmodel.specs.Checksum.{bare}
 use Rattle.bufmodel.specs.Rows.{storeBlocks, placeOf}
 use Rattle.bufmodel.specs.Memory.{Memory, buffers, size, wordOf, nameOf, withStates, withHand}
 use Rattle.bufmodel.specs.Sweep.{Swept, Sweeps, sweepAll}
@@ -51,7 +52,8 @@ sweepOf m = sweepAll (m .states) (m .control .hand)
 
 -- ---- a buffer with a clean unpinned page is released, and another page that no buffer has is loaded there
 module _ (m : Memory) (v : View) (k : Kept m v) (w h : ℕ) (own : Has m w h) (free : pinned (wordOf m w) ≡ false)
-    (clean : dirty (wordOf m w) ≡ false) (n : PageName) (g : ℕ) (place : placeOf (m .rows) n ≡ found g) (none : Nobody m g) where
+    (clean : dirty (wordOf m w) ≡ false) (n : PageName) (g : ℕ) (place : placeOf (m .rows) n ≡ found g) (none : Nobody m g)
+    (fine : v .bad g ≡ false) where
   released : Kept (release m w) v
   released = kept-release m v k w h own free clean
 
@@ -65,11 +67,11 @@ module _ (m : Memory) (v : View) (k : Kept m v) (w h : ℕ) (own : Has m w h) (f
   kept-changed : Kept (loadAt (release m w) n w g) (viewLoad v w g)
   kept-changed =
       kept-load (release m w) v released n w g (release-top m w) released-place
-      (nobody-held (release m w) (released .good) n g released-place (λ i x. none i (has-release m w (own .below) i g x .1)))
+      (nobody-held (release m w) (released .good) n g released-place (λ i x. none i (has-release m w (own .below) i g x .1))) fine
 
 -- ---- the victim
 module _ (m : Memory) (v : View) (k : Kept m v) (n : PageName) (w g : ℕ) (new : heldIn m n ≡ Nowhere)
-    (top : linkOf (m .control .top) ≡ End) (place : placeOf (m .rows) n ≡ found g) where
+    (top : linkOf (m .control .top) ≡ End) (place : placeOf (m .rows) n ≡ found g) (fine : v .bad g ≡ false) where
   abbrev s : Swept
   s = sweepOf m
 
@@ -117,10 +119,10 @@ module _ (m : Memory) (v : View) (k : Kept m v) (n : PageName) (w g : ℕ) (new 
     after = loadAt (release backed w) n w g
 
     after-is : load (release backed w) n ≡ after
-    after-is = changed-is backed _ (back .kept) w (page .0) (back .has) (back .free) (back .clean) n g backed-place none
+    after-is = changed-is backed _ (back .kept) w (page .0) (back .has) (back .free) (back .clean) n g backed-place none fine
 
     after-kept : Kept after (viewLoad (viewWrote v (wroteIn answer) w) w g)
-    after-kept = kept-changed backed _ (back .kept) w (page .0) (back .has) (back .free) (back .clean) n g backed-place none
+    after-kept = kept-changed backed _ (back .kept) w (page .0) (back .has) (back .free) (back .clean) n g backed-place none fine
 
     after-many : buffers m ≡ buffers after
     after-many =
@@ -130,10 +132,10 @@ module _ (m : Memory) (v : View) (k : Kept m v) (n : PageName) (w g : ℕ) (new 
     last-is : (h : ℕ) → wasLast v (wroteIn answer) w h ≡ true → v .last w ≡ found h
     last-is h t = isPlace-true (v .last w) h (and-right (wroteIn answer) _ t)
 
-    victim-stored : (h : ℕ) → page .0 ≡ h → block (size m) h (backed .store) ≡ v .bytes h
+    victim-stored : (h : ℕ) → page .0 ≡ h → bare (block (size m) h (backed .store)) ≡ bare (v .bytes h)
     unfolding writeBack
     victim-stored h e =
-        subst (λ (j : ℕ). block (size m) j (backed .store) ≡ v .bytes j) e
+        subst (λ (j : ℕ). bare (block (size m) j (backed .store)) ≡ bare (v .bytes j)) e
         (let same = back .kept .same w (page .0) (back .has) in same .clean (back .clean) ∙ sym (same .bytes))
 
     victim-new : refuses (shelfOf m v) (Pin n) ≡ 0 → PinAccepted m v n g answer after

@@ -6,6 +6,7 @@ use mathlib.Core.Logic.{_≢_, _⊎_, inl, inr, ⊎-elim}
 use Rattle.laws.specs.First.{missing}
 use Rattle.laws.specs.Block.{block}
 use Rattle.laws.proofs.Tests.{eq-or-ne, never}
+use Rattle.bufmodel.specs.Checksum.{bare}
 use Rattle.bufmodel.specs.Word.{pins, pinned, dirty}
 use Rattle.bufmodel.specs.Rows.{placeOf}
 use Rattle.bufmodel.specs.Memory.{Memory, buffers, size, wordOf, nameOf}
@@ -65,7 +66,7 @@ module _ (m : Memory) (v : View) (k : Kept m v) (i g : ℕ) (own : Has m i g) (f
   left-clean : v .dirty g ≡ false
   left-clean = left .marked ∙ clean
 
-  left-stored : v .bytes g ≡ block (size m) g (m .store)
+  left-stored : bare (v .bytes g) ≡ bare (block (size m) g (m .store))
   left-stored = left .bytes ∙ sym (left .clean clean)
 
   -- the other pages
@@ -80,6 +81,7 @@ module _ (m : Memory) (v : View) (k : Kept m v) (i g : ℕ) (own : Has m i g) (f
         marked = q .marked ∙ ap dirty (sym w);
         last = q .last;
         clean = λ d. q .clean (ap dirty (sym w) ∙ d);
+        fine = q .fine;
       }
 
   release-words : (j : ℕ) → j < buffers (release m i) → emptyAt (release m i) j ≡ false → Held (wordOf (release m i) j)
@@ -110,6 +112,8 @@ module _ (m : Memory) (v : View) (k : Kept m v) (i g : ℕ) (own : Has m i g) (f
         unpinned = λ h none. ⊎-elim (λ n. k .unpinned h n) (λ e. rw e left-pins) (gone h none);
         unmarked = λ h none. ⊎-elim (λ n. k .unmarked h n) (λ e. rw e left-clean) (gone h none);
         stored = λ n h e none. ⊎-elim (λ z. k .stored n h e z) (λ q. rw q left-stored) (gone h none);
+        passed = k .passed;
+        known = k .known;
         holds = λ j l. release-holds j (rw (release-buffers m i) at l);
         put = k .put;
       }

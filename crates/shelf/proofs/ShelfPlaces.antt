@@ -12,7 +12,7 @@ use Rattle.buftag.specs.declared.name.PageName.{PageName}
 use Rattle.bufmodel.specs.Rows.{placeOf}
 use Rattle.bufmodel.specs.Outcome.{Place, place, refusalOf}
 use Rattle.bufmodel.specs.Step.{Call, Pin}
-use Rattle.shelf.specs.Shelf.{Shelf, firstOf, hasPins, pinnedPages, noBuffer, nameFirst, above, places, refuses}
+use Rattle.shelf.specs.Shelf.{Shelf, firstOf, hasPins, pinnedPages, noBuffer, pageFirst, above, places, refuses}
 
 -- ---- the order of its checks is the pool's
 pub first-is : (ps : List Place) → firstOf ps ≡ refusalOf ps
@@ -25,14 +25,15 @@ unfolding refuses
 refuses-is s c = first-is (places s c)
 
 -- ---- 6 exactly when N pages have pins and the wanted one is not among them
--- where the three places above pass, the fourth decides
-last-decides : (a b c t : Bool) → firstOf (place 3 a ∷ place 4 b ∷ place 5 c ∷ []) ≡ 0
-    → firstOf (place 3 a ∷ place 4 b ∷ place 5 c ∷ place 6 t ∷ []) ≡ cond t 6 0
+-- where the four places above pass, the fifth decides
+last-decides : (a b c d t : Bool) → firstOf (place 3 a ∷ place 4 b ∷ place 17 c ∷ place 5 d ∷ []) ≡ 0
+    → firstOf (place 3 a ∷ place 4 b ∷ place 17 c ∷ place 5 d ∷ place 6 t ∷ []) ≡ cond t 6 0
 unfolding firstOf
-last-decides true b c t e = absurd (omega arith)
-last-decides false true c t e = absurd (omega arith)
-last-decides false false true t e = absurd (omega arith)
-last-decides false false false t e = refl
+last-decides true b c d t e = absurd (omega arith)
+last-decides false true c d t e = absurd (omega arith)
+last-decides false false true d t e = absurd (omega arith)
+last-decides false false false true t e = absurd (omega arith)
+last-decides false false false false t e = refl
 
 six-test : (t : Bool) → _≡_ {A = ℕ} (cond t 6 0) 6 ↔ (t ≡ true)
 six-test true = (λ e. refl, λ e. refl)
@@ -40,9 +41,9 @@ six-test false = (λ e. absurd (omega arith), λ e. absurd (let z : _≡_ {A = �
 
 module _ (s : Shelf) (n : PageName) (passed : firstOf (above s n) ≡ 0) (g : ℕ) (e : placeOf (s .rows) n ≡ found g) where
   six-number : refuses s (Pin n) ≡ cond (noBuffer s (found g)) 6 0
-  unfolding refuses places above nameFirst
+  unfolding refuses places above pageFirst
   six-number =
-      last-decides _ _ _ _ passed ∙ ap (λ (f : Found). cond (noBuffer s f) 6 0) e
+      last-decides _ _ _ _ _ passed ∙ ap (λ (f : Found). cond (noBuffer s f) 6 0) e
 
   six-pages : (noBuffer s (found g) ≡ true) ↔ ((pinnedPages s ≡ s .buffers) × (hasPins s g ≡ false))
   unfolding noBuffer

@@ -19,6 +19,7 @@ use Rattle.bufmodel.proofs.OutcomeLaws.{refusal-passed, outcome-done, outcome-n
 use Rattle.bufmodel.proofs.FreshLaws.{fresh-many, fresh-empty, fresh-good}
 use Rattle.shelf.specs.Shelf.{firstShelf}
 use Rattle.shelf.specs.Ledger.{firstLedger}
+use Rattle.shelf.proofs.FirstBad.{bad-first, bad-known}
 use Rattle.shelf.proofs.Kept.{ledgerOf, viewOf, Kept}
 
 module _ (m : Memory) (p at : ℕ) where
@@ -49,6 +50,8 @@ module _ (m : Memory) (p at : ℕ) where
         unpinned = λ g x. refl;
         unmarked = λ g x. refl;
         stored = λ n g e x. refl;
+        passed = bad-first (m .rows) (s .rows) p (m .store);
+        known = bad-known (m .rows) (s .rows) p (m .store);
         holds = λ i l. ap (λ (t : Bool). cond t (placeOf (m .rows) (nameOf (fresh m p at) i)) missing) (sym (fresh-unpinned i));
         put = λ g e. never e refl;
       }

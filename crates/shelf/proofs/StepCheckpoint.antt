@@ -1,6 +1,6 @@
 -- Checkpoint agrees with the shelf.
 use Prim.Native.Nat.{ℕ, _≤_}
-use mathlib.Core.Path.{_≡_, refl, sym, ap, _∙_, subst}
+use mathlib.Core.Path.{_≡_, refl, sym, _∙_, subst}
 use mathlib.Core.Bool.{true, false, _||_, and-true, not-and-self, or-false}
 use mathlib.Core.Logic.{⊎-elim}
 use mathlib.Core.List.{[]}
@@ -10,6 +10,7 @@ use Rattle.laws.specs.First.{found}
 use Rattle.laws.specs.Block.{block}
 use Rattle.laws.proofs.Tests.{never}
 use Rattle.buftag.specs.declared.name.PageName.{PageName}
+use Rattle.bufmodel.specs.Checksum.{bare}
 use Rattle.bufmodel.specs.Word.{dirty}
 use Rattle.bufmodel.specs.Position.{position}
 use Rattle.bufmodel.specs.Rows.{storeBlocks, placeOf}
@@ -18,6 +19,7 @@ use Rattle.bufmodel.specs.Moves.{writeUpTo}
 use Rattle.bufmodel.specs.Outcome.{one, done}
 use Rattle.bufmodel.specs.Calls.{checkpoint}
 use Rattle.bufmodel.specs.Step.{Checkpoint, step}
+use Rattle.bufmodel.proofs.ChecksumLaws.{alike-position}
 use Rattle.bufmodel.proofs.RowsLaws.{place-row}
 use Rattle.shelf.specs.Shelf.{places, refuses, shelfAfter}
 use Rattle.shelf.specs.Ledger.{highest}
@@ -47,7 +49,7 @@ module _ (m : Memory) (v : View) (k : Kept m v) (r : BackUpTo m v (buffers m)) w
       (some-or-none now (r .kept .good) g)
 
   -- and each page has its bytes in the store
-  all-stored : (n : PageName) (g : ℕ) → placeOf (m .rows) n ≡ found g → block (size m) g (r .store) ≡ v .bytes g
+  all-stored : (n : PageName) (g : ℕ) → placeOf (m .rows) n ≡ found g → bare (block (size m) g (r .store)) ≡ bare (v .bytes g)
   all-stored n g e =
       ⊎-elim
       (λ s.
@@ -61,12 +63,12 @@ module _ (m : Memory) (v : View) (k : Kept m v) (r : BackUpTo m v (buffers m)) w
   put-now g = r .put g ∙ rw (none-dirty g, and-true)
 
   -- a page that was dirty is in the store, so its position is at or below flushed
-  dirty-stored : (g : ℕ) → v .dirty g ≡ true → block (size m) g (r .store) ≡ v .bytes g
+  dirty-stored : (g : ℕ) → v .dirty g ≡ true → bare (block (size m) g (r .store)) ≡ bare (v .bytes g)
   dirty-stored g d =
       ⊎-elim (λ s. all-stored (nameOf m (s .0)) g (s .1 .place)) (λ none. never d (k .unmarked g none)) (some-or-none m (k .good) g)
 
   dirty-low : (g : ℕ) → v .dirty g ≡ true → position (v .bytes g) ≤ r .flushed
-  dirty-low g d = omega (arith, r .kept .put g (put-now g ∙ rw d refl) .1, ap position (dirty-stored g d))
+  dirty-low g d = omega (arith, r .kept .put g (put-now g ∙ rw d refl) .1, alike-position _ _ (dirty-stored g d))
 
   -- and flushed is the largest of them
   flushed-now : highest (ledgerOf m v) (storeBlocks (m .rows)) (v .dirty) (m .control .flushed) ≡ r .flushed
@@ -92,6 +94,7 @@ module _ (m : Memory) (v : View) (k : Kept m v) (r : BackUpTo m v (buffers m)) w
               bytes = λ h. refl;
               counts = λ h. refl;
               holds = λ b. refl;
+              bads = λ h. refl;
               marks = λ h. not-and-self (v .dirty h) ∙ sym (none-dirty h);
               last = λ b. refl;
               put = λ h. rw or-false (sym (put-now h));

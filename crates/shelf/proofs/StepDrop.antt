@@ -16,8 +16,8 @@ use Rattle.bufmodel.specs.Calls.{filePinned, dropAt, dropFile}
 use Rattle.bufmodel.specs.Step.{Drop, step}
 use Rattle.bufmodel.proofs.OutcomeLaws.{refusal-at, refusal-same, refusal-passed}
 use Rattle.bufmodel.proofs.DropLaws.{none-pinned, Released, released-all}
-use Rattle.shelf.specs.Shelf.{Shelf, noFile, withRows, filePinned as pagesPinned, places, refuses, droppedAt, shelfAfter}
-use Rattle.shelf.specs.Ledger.{inRow}
+use Rattle.shelf.specs.Shelf.{Shelf, noFile, inRow, withRows, withBad, filePinned as pagesPinned, places, refuses}
+use Rattle.shelf.specs.Shelf.{droppedAt, shelfAfter}
 use Rattle.shelf.specs.Ledger.{backBy, newBy, putBy, dirtiedBy, dirtyAfter, lastAfter, saidFlushed, flushedAfter, acceptedBy}
 use Rattle.shelf.proofs.CallKinds.{not-checkpoint}
 use Rattle.shelf.proofs.Kept.{View, shelfOf, ledgerOf, viewOf, Kept, Ended}
@@ -31,7 +31,8 @@ use Rattle.shelf.proofs.DropKept.{droppedMemory, droppedView, dropped-k
 
 -- ---- the ledger after an accepted drop of the file in row r
 module _ (m : Memory) (v : View) (f : FileName) (r : ℕ) (e : rowOf (m .rows) f ≡ found r) where
-  shelf-dropped : (b : ℕ) → shelfAfter (shelfOf m v) (Drop f) b ≡ withRows (setBlocks (m .rows) r 0) (shelfOf m v)
+  shelf-dropped : (b : ℕ) → shelfAfter (shelfOf m v) (Drop f) b
+      ≡ withBad (λ g. not (inRow (m .rows) (found r) g) && v .bad g) (withRows (setBlocks (m .rows) r 0) (shelfOf m v))
   unfolding shelfAfter droppedAt
   shelf-dropped b = rw e
 
@@ -42,6 +43,7 @@ module _ (m : Memory) (v : View) (f : FileName) (r : ℕ) (e : rowOf (m .rows) f
         bytes = λ g. ap (λ (s : Shelf). s .bytes g) (shelf-dropped _);
         counts = λ g. ap (λ (s : Shelf). s .counts g) (shelf-dropped _);
         holds = λ b. ap (λ (s : Shelf). s .holds b) (shelf-dropped _);
+        bads = λ g. ap (λ (s : Shelf). s .bad g) (shelf-dropped _);
         marks = λ g. ap (λ (x : Found). not (inRow (m .rows) x g) && v .dirty g) e;
         last = λ b. refl;
         put = λ g. refl;

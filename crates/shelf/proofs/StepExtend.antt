@@ -10,6 +10,7 @@ use Rattle.laws.specs.First.{Found, found, missing}
 use Rattle.laws.specs.Block.{block}
 use Rattle.laws.proofs.Tests.{never}
 use Rattle.buftag.specs.declared.name.FileName.{FileName}
+use Rattle.bufmodel.specs.Checksum.{bare}
 use Rattle.bufmodel.specs.Rows.{files, blocksAt, capacityAt, rowOf, storeBlocks}
 use Rattle.bufmodel.specs.Memory.{Memory, size}
 use Rattle.bufmodel.specs.Outcome.{Place, place, refusalOf, one}
@@ -62,6 +63,7 @@ module _ (m : Memory) (v : View) (k : Kept m v) (f : FileName) (r : ℕ) (e : ro
         bytes = λ g. ap (λ (s : Shelf). s .bytes g) shelf-then;
         counts = λ g. ap (λ (s : Shelf). s .counts g) shelf-then;
         holds = λ b. ap (λ (s : Shelf). s .holds b) shelf-then;
+        bads = λ g. ap (λ (s : Shelf). s .bad g) shelf-then;
         marks = λ g. refl;
         last = λ b. refl;
         put = λ g. ap (λ (t : Bool). t || v .put g) (put-then g);
@@ -95,7 +97,7 @@ module _ (m : Memory) (v : View) (k : Kept m v) (f : FileName) (r : ℕ) (e : ro
         kept = kept-alike (memoryMore m r) (viewMore m v r) _ alike-then (kept-more m v k r l room);
         others = λ g b h. store-other m v k r l room g (eqb-false _ _ (sym (put-then g) ∙ h));
         long = store-long m v k r l room;
-        stored = λ g t. new-stored l room g (eqb-true _ _ (sym (put-then g) ∙ t));
+        stored = λ g t. ap bare (new-stored l room g (eqb-true _ _ (sym (put-then g) ∙ t)));
         settled = λ q. absurd (not-checkpoint refl q);
       }
 

@@ -3,7 +3,7 @@ use Prim.Native.Nat.{ℕ, max}
 use mathlib.Core.Path.{_≡_, refl, sym, ap, _∙_, subst}
 use mathlib.Core.Bool.{Bool, true, false, _&&_, and-true, and-false, or-false}
 use mathlib.Core.Logic.{⊎-elim}
-use mathlib.Core.List.{List, []}
+use mathlib.Core.List.{[]}
 use lib.ListN.{length-set}
 use Rattle.laws.specs.Sum.{ind}
 use Rattle.laws.specs.First.{found}
@@ -11,7 +11,7 @@ use Rattle.laws.specs.Block.{block}
 use Rattle.laws.proofs.First.{found-same}
 use Rattle.laws.proofs.Tests.{true-or-false, eq-or-ne, never}
 use Rattle.bufmodel.specs.Word.{dirty}
-use Rattle.bufmodel.specs.Position.{position}
+use Rattle.bufmodel.specs.Checksum.{bare}
 use Rattle.bufmodel.specs.Rows.{storeBlocks}
 use Rattle.bufmodel.specs.Memory.{Memory, size, wordOf}
 use Rattle.bufmodel.specs.Moves.{writeBack}
@@ -23,7 +23,7 @@ use Rattle.shelf.specs.Ledger.{isPlace, highest}
 use Rattle.shelf.specs.Ledger.{backBy, newBy, putBy, dirtiedBy, dirtyAfter, lastAfter, saidFlushed, flushedAfter, acceptedBy}
 use Rattle.shelf.proofs.CallKinds.{not-checkpoint}
 use Rattle.shelf.proofs.Kept.{View, shelfOf, ledgerOf, Has, Kept, Ended}
-use Rattle.shelf.proofs.KeptLaws.{isPlace-true, isPlace-self, isPlace-other, kept-alike}
+use Rattle.shelf.proofs.KeptLaws.{same-position, isPlace-true, isPlace-self, isPlace-other, kept-alike}
 use Rattle.shelf.proofs.ShelfPlaces.{refuses-is}
 use Rattle.shelf.proofs.Refused.{neither-none, call-step}
 use Rattle.shelf.proofs.Accepted.{Accepted, accepted-ended}
@@ -69,6 +69,7 @@ module _ (m : Memory) (v : View) (k : Kept m v) (i g : ℕ) (x : Has m i g) (hel
                   bytes = λ h. refl;
                   counts = λ h. refl;
                   holds = λ b. refl;
+                  bads = λ h. refl;
                   marks = λ h. rw (back-none h);
                   last = λ b. refl;
                   put = λ h. rw (back-none h);
@@ -88,12 +89,12 @@ module _ (m : Memory) (v : View) (k : Kept m v) (i g : ℕ) (x : Has m i g) (hel
       flushed-one =
           highest-one (ledgerOf m v) back (m .control .flushed) (storeBlocks (m .rows)) g (place-below m v k i g x)
           (back-one g ∙ isPlace-self g) (λ h b e. sym (found-same (isPlace-true (found g) h (sym (back-one h) ∙ e))))
-          ∙ ap (λ (page : List ℕ). max (m .control .flushed) (position page)) (k .same i g x .bytes)
+          ∙ ap (max (m .control .flushed)) (same-position (k .same i g x))
 
       -- its block has the page's bytes
-      one-stored : (h : ℕ) → g ≡ h → block (size m) h (backOf m i g .store) ≡ v .bytes h
+      one-stored : (h : ℕ) → g ≡ h → bare (block (size m) h (backOf m i g .store)) ≡ bare (v .bytes h)
       one-stored h e =
-          subst (λ (j : ℕ). block (size m) j (backOf m i g .store) ≡ v .bytes j) e
+          subst (λ (j : ℕ). bare (block (size m) j (backOf m i g .store)) ≡ bare (v .bytes j)) e
           (let same = kept-backOf m v k i g x d .same i g (back-has m v k i g x i g x) in
           same .clean (back-own m v k i g x) ∙ sym (same .bytes))
 
@@ -115,6 +116,7 @@ module _ (m : Memory) (v : View) (k : Kept m v) (i g : ℕ) (x : Has m i g) (hel
                   bytes = λ h. refl;
                   counts = λ h. refl;
                   holds = λ b. refl;
+                  bads = λ h. refl;
                   marks = λ h. rw (back-one h);
                   last = λ b. refl;
                   put = λ h. rw (back-one h, or-false);

@@ -38,10 +38,12 @@ module _ (m : Memory) (v : View) (k : Kept m v) (p : ℕ) where
         words = k .words;
         same = λ i q x.
             let s = k .same i q (record { below = x .below; full = x .full; place = x .place }) in
-            record { bytes = s .bytes; counts = s .counts; marked = s .marked; last = s .last; clean = s .clean };
+            record { bytes = s .bytes; counts = s .counts; marked = s .marked; last = s .last; clean = s .clean; fine = s .fine };
         unpinned = λ q x. k .unpinned q (λ i y. x i (record { below = y .below; full = y .full; place = y .place }));
         unmarked = λ q x. k .unmarked q (λ i y. x i (record { below = y .below; full = y .full; place = y .place }));
         stored = λ n q e x. k .stored n q e (λ i y. x i (record { below = y .below; full = y .full; place = y .place }));
+        passed = k .passed;
+        known = k .known;
         holds = k .holds;
         put = λ q e. (k .put q e .0, omega (arith, k .put q e .1));
       }

@@ -2,6 +2,7 @@
 use Prim.Native.Nat.{ℕ}
 use mathlib.Core.Path.{_≡_, refl, sym, _∙_, subst}
 use mathlib.Core.Logic.{⊎-elim}
+use mathlib.Core.Bool.{false}
 use mathlib.Core.List.{[]}
 use Rattle.laws.specs.First.{Found, found}
 use Rattle.buftag.specs.declared.link.Link.{Link}
@@ -22,6 +23,7 @@ use Rattle.shelf.proofs.Kept.{View, shelfOf, Kept, Ended}
 use Rattle.shelf.proofs.Refused.{call-step}
 use Rattle.shelf.proofs.Accepted.{accepted-ended}
 use Rattle.shelf.proofs.MemoryPlaces.{pin-place, pin-victim}
+use Rattle.shelf.proofs.PagePlaces.{page-fine}
 use Rattle.shelf.proofs.PinPlaces.{pin-number, pin-neither}
 use Rattle.shelf.proofs.PinHit.{hit-accepted}
 use Rattle.shelf.proofs.PinFree.{free-accepted}
@@ -40,19 +42,24 @@ module _ (m : Memory) (v : View) (k : Kept m v) (n : PageName) (z : refusalOf (p
   number : refuses (shelfOf m v) (Pin n) ≡ 0
   number = sym (pin-number m v k n) ∙ z
 
+  -- it did not come in bad
+  fine : v .bad (place .0) ≡ false
+  unfolding pinPlaces
+  fine = page-fine m v k n _ z (place .0) (place .1)
+
   module _ (new : heldIn m n ≡ Nowhere) where
     -- from the free list
     free-ended : (i : ℕ) → linkOf (m .control .top) ≡ To i → Ended m v (Pin n) (pinFree m n i)
     unfolding pinFree
     free-ended i top =
-        accepted-ended m v (Pin n) _ [] _ (free-accepted m v k n i (place .0) new top (place .1) number)
+        accepted-ended m v (Pin n) _ [] _ (free-accepted m v k n i (place .0) new top (place .1) fine number)
 
     -- the victim of a sweep
     module _ (top : linkOf (m .control .top) ≡ End) where
       taken-ended : (w : ℕ) → sweepOf m .victim ≡ found w → Ended m v (Pin n) (pinVictim m n (sweepOf m) (found w))
       unfolding pinVictim
       taken-ended w e =
-          accepted-ended m v (Pin n) _ [] _ (victim-accepted m v k n w (place .0) new top (place .1) e number)
+          accepted-ended m v (Pin n) _ [] _ (victim-accepted m v k n w (place .0) new top (place .1) fine e number)
 
       -- some buffer is unpinned, so there is one
       victim : (w : ℕ) × (sweepOf m .victim ≡ found w)

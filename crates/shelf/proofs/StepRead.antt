@@ -10,6 +10,7 @@ use Rattle.bufmodel.specs.Memory.{Memory, size, pageOf}
 use Rattle.bufmodel.specs.Outcome.{Place, place, refusalOf, zeros}
 use Rattle.bufmodel.specs.Calls.{bufferPlaces, read}
 use Rattle.bufmodel.specs.Step.{Read, step}
+use Rattle.bufmodel.proofs.ChecksumLaws.{bare-part}
 use Rattle.shelf.specs.Shelf.{places, refuses, shelfAfter}
 use Rattle.shelf.specs.Ledger.{backBy, newBy, putBy, dirtiedBy, dirtyAfter, lastAfter, saidFlushed, flushedAfter, acceptedBy}
 use Rattle.shelf.proofs.CallKinds.{not-checkpoint}
@@ -42,8 +43,10 @@ module _ (m : Memory) (v : View) (k : Kept m v) (i from : ℕ) (out : List ℕ) 
       → Accepted m v (Read i from out) zeros (take (length out) (drop from (pageOf m i))) m
   read-accepted e =
       let p = number-page m v k i ps e in
+      let filled =
+      bare-part from (length out) (pageOf m i) ∙ ap (λ (x : List ℕ). take (length out) (drop from x)) (sym (p .same .bytes)) in
       unchanged m v k (Read i from out) zeros _ (read-ledger zeros) (not-checkpoint refl) (sym read-number ∙ e)
-      refl (p .page, p .holds, ap (λ (x : List ℕ). take (length out) (drop from x)) (sym (p .same .bytes))) read-none
+      refl (p .page, p .holds, filled) read-none
 
   pub read-step : Ended m v (Read i from out) (step m (Read i from out))
   unfolding step read

@@ -43,7 +43,7 @@ module _ (m : Memory) (v : View) (k : Kept m v) (i : ℕ) where
 
   -- the view with another shelf
   abbrev on : Shelf → View
-  on s = record { bytes = s .bytes; counts = s .counts; holds = s .holds; dirty = v .dirty; last = v .last; put = v .put }
+  on s = record { bytes = s .bytes; counts = s .counts; holds = s .holds; bad = s .bad; dirty = v .dirty; last = v .last; put = v .put }
 
   unpin-kept : PinnedPage m v i → Kept m′ (on (unpinnedAt (shelfOf m v) i (v .holds i)))
   unfolding unpinnedAt

@@ -21,6 +21,7 @@ use Rattle.shelf.specs.Shelf.{tooLow, places, refuses, writtenAt, shelfA
 use Rattle.shelf.specs.Ledger.{backBy, newBy, putBy, dirtiedBy, dirtyAfter, lastAfter, saidFlushed, flushedAfter, acceptedBy}
 use Rattle.shelf.proofs.CallKinds.{not-checkpoint}
 use Rattle.shelf.proofs.Kept.{View, shelfOf, ledgerOf, Kept, Ended}
+use Rattle.shelf.proofs.KeptLaws.{same-position}
 use Rattle.shelf.proofs.ShelfPlaces.{refuses-is}
 use Rattle.shelf.proofs.Refused.{Neither, neither-none, neither-place, call-step}
 use Rattle.shelf.proofs.Accepted.{Accepted, accepted-ended}
@@ -64,7 +65,7 @@ module _ (m : Memory) (v : View) (k : Kept m v) (i from : ℕ) (bytes : List ℕ
   low-same : PinnedPage m v i → ltb at (position (pageOf m i)) ≡ tooLow (shelfOf m v) at (v .holds i)
   unfolding tooLow
   low-same p =
-      ap (λ (x : List ℕ). ltb at (position x)) (sym (p .same .bytes)) ∙ ap (λ (f : Found). tooLow (shelfOf m v) at f) (sym (p .holds))
+      ap (ltb at) (sym (same-position (p .same))) ∙ ap (λ (f : Found). tooLow (shelfOf m v) at f) (sym (p .holds))
 
   write-number : refusalOf (writePlaces m i from bytes at) ≡ refuses (shelfOf m v) (Write i from bytes at)
   unfolding writePlaces places

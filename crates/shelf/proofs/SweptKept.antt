@@ -59,6 +59,7 @@ module _ (m : Memory) (v : View) (k : Kept m v) (s : Swept) (sweeps : Sweeps (bu
         marked = q .marked ∙ sym (less-dirty (less i));
         last = q .last;
         clean = λ d. q .clean (sym (less-dirty (less i)) ∙ d);
+        fine = q .fine;
       }
 
   -- nobody had a page that nobody has
@@ -76,6 +77,8 @@ module _ (m : Memory) (v : View) (k : Kept m v) (s : Swept) (sweeps : Sweeps (bu
         unpinned = λ g none. k .unpinned g (swept-nobody g none);
         unmarked = λ g none. k .unmarked g (swept-nobody g none);
         stored = λ p g e none. k .stored p g e (swept-nobody g none);
+        passed = k .passed;
+        known = k .known;
         holds = λ i l.
             k .holds i (rw n at l)
             ∙ ap (λ (t : Bool). cond t (placeOf (m .rows) (nameOf m i)) missing) (sym (less-pinned (less i)));

@@ -2,17 +2,20 @@
 -- where the ledger says so of that page and the same of all others. Unpin, a hit, a write and a write-back are such changes.
 use Prim.Native.Nat.{ℕ, _≤_, _<_}
 use mathlib.Core.Path.{_≡_, refl, sym, ap, _∙_, subst}
-use mathlib.Core.Bool.{true, false, cond}
+use mathlib.Core.Bool.{true, false, not, cond}
 use mathlib.Core.Logic.{_≢_, ⊎-elim}
 use mathlib.Core.List.{List}
 use native.Mathlib.Omega.{arith}
 use lib.ListN.{length, getD, set, length-set}
 use lib.Seq.{getD-set-same, getD-set-other}
+use borrow.Author.Tests.{not-false}
 use Rattle.laws.specs.First.{Found, found, missing}
 use Rattle.laws.specs.Block.{block}
 use Rattle.laws.proofs.Tests.{eq-or-ne}
+use Rattle.buftag.specs.declared.name.PageName.{PageName}
 use Rattle.bufmodel.specs.Word.{pins, pinned, dirty, empty, soundWord}
 use Rattle.bufmodel.specs.Position.{position}
+use Rattle.bufmodel.specs.Checksum.{bare, passes}
 use Rattle.bufmodel.specs.Rows.{storeBlocks, placeOf}
 use Rattle.bufmodel.specs.Memory.{Memory, buffers, size, wordOf, nameOf, pageOf, withStates}
 use Rattle.bufmodel.specs.Books.{emptyAt}
@@ -45,13 +48,16 @@ pub record Turned (m : Memory) (v : View) (i g flushed w : ℕ) (pool store : Li
   pub blocks : (h : ℕ) → h < storeBlocks (m .rows) → h ≢ g → block (size m) h store ≡ block (size m) h (m .store)
   -- the page, dirty or not
   pub low : dirty w ≡ true → position (block (size m) i pool) ≤ m .control .inserted
-  pub clean : dirty w ≡ false → block (size m) g store ≡ block (size m) i pool
+  pub clean : dirty w ≡ false → bare (block (size m) g store) ≡ bare (block (size m) i pool)
+  -- its block passes
+  pub sum : (n : PageName) → placeOf (m .rows) n ≡ found g → passes (n .block .0) (block (size m) g store) ≡ true
   -- what the ledger then says of it
-  pub bytes : v′ .bytes g ≡ block (size m) i pool
+  pub bytes : bare (v′ .bytes g) ≡ bare (block (size m) i pool)
   pub counts : v′ .counts g ≡ pins w
   pub marked : v′ .dirty g ≡ dirty w
   pub holds : v′ .holds i ≡ cond (pinned w) (found g) missing
   pub last : v′ .last i ≡ found g
+  pub bads : (h : ℕ) → v′ .bad h ≡ v .bad h
   pub elsewhere : Elsewhere v v′ i g
   pub put : (h : ℕ) → v′ .put h ≡ true → (h < storeBlocks (m .rows)) × (position (block (size m) h store) ≤ flushed)
 
@@ -136,6 +142,7 @@ module _ (m : Memory) (v : View) (k : Kept m v) (i g : ℕ) (x : Has m i g) (flu
         marked = t .marked ∙ ap dirty (sym own);
         last = t .last;
         clean = λ d. t .clean (ap dirty (sym own) ∙ d);
+        fine = t .bads g ∙ k .same i g x .fine;
       }
 
   same-other : (j h : ℕ) → j ≢ i → Has m j h → Same m′ v′ j h
@@ -146,11 +153,12 @@ module _ (m : Memory) (v : View) (k : Kept m v) (i g : ℕ) (x : Has m i g) (flu
       let here = t .pages j (y .below) ne in
       let inside = place-in (m .rows) (k .good .sizes .rows) (nameOf m j) (y .place) in
       record {
-        bytes = t .elsewhere .bytes h far ∙ s .bytes ∙ sym here;
+        bytes = ap bare (t .elsewhere .bytes h far) ∙ s .bytes ∙ ap bare (sym here);
         counts = t .elsewhere .counts h far ∙ s .counts ∙ ap pins (sym e);
         marked = t .elsewhere .marks h far ∙ s .marked ∙ ap dirty (sym e);
         last = t .elsewhere .last j ne ∙ s .last;
-        clean = λ d. t .blocks h inside far ∙ s .clean (ap dirty (sym e) ∙ d) ∙ sym here;
+        clean = λ d. ap bare (t .blocks h inside far) ∙ s .clean (ap dirty (sym e) ∙ d) ∙ ap bare (sym here);
+        fine = t .bads h ∙ s .fine;
       }
 
   same-now : (j h : ℕ) → Has m j h → Same m′ v′ j h
@@ -182,11 +190,27 @@ module _ (m : Memory) (v : View) (k : Kept m v) (i g : ℕ) (x : Has m i g) (flu
         unmarked = λ h n. t .elsewhere .marks h (nobody-other h n) ∙ k .unmarked h (nobody-then h n);
         stored = λ p h e n.
             let far = nobody-other h n in
-            t .elsewhere .bytes h far ∙ k .stored p h e (nobody-then h n)
-            ∙ sym (t .blocks h (place-in (m .rows) (k .good .sizes .rows) p e) far);
+            ap bare (t .elsewhere .bytes h far) ∙ k .stored p h e (nobody-then h n)
+            ∙ ap bare (sym (t .blocks h (place-in (m .rows) (k .good .sizes .rows) p e) far));
+        passed = λ p h e.
+            t .bads h
+            ∙ ⊎-elim
+            (λ q.
+            ap (v .bad) q ∙ k .same i g x .fine
+            ∙ sym (ap not (ap (λ (y : ℕ). passes (p .block .0) (block (size m) y store)) q ∙ t .sum p (e ∙ ap found q))))
+            (λ ne.
+            k .passed p h e
+            ∙ ap (λ (y : List ℕ). not (passes (p .block .0) y)) (sym (t .blocks h (place-in (m .rows) (k .good .sizes .rows) p e) ne)))
+            (eq-or-ne h g);
+        known = λ h e. k .known h (sym (t .bads h) ∙ e);
         holds = λ j b. holds-now j (rw many at b);
         put = t .put;
       }
+
+-- the block of a page that a buffer has passes
+pub block-passes : (m : Memory) (v : View) → Kept m v → (i g : ℕ) → Has m i g → (n : PageName) → placeOf (m .rows) n ≡ found g
+    → passes (n .block .0) (block (size m) g (m .store)) ≡ true
+block-passes m v k i g x n e = not-false _ (sym (k .passed n g e) ∙ k .same i g x .fine)
 
 -- ---- another pin count alone: unpin and a hit. The new word w has count c, and the number then holds f
 module _ (m : Memory) (v : View) (k : Kept m v) (i g : ℕ) (x : Has m i g) where
@@ -194,7 +218,15 @@ module _ (m : Memory) (v : View) (k : Kept m v) (i g : ℕ) (x : Has m i g) wher
       → f ≡ cond (pinned w) (found g) missing
       → ((j : ℕ) → last j ≡ v .last j)
       → Kept (withStates (set (m .states) i w) m)
-      (record { bytes = v .bytes; counts = with g c (v .counts); holds = with i f (v .holds); dirty = v .dirty; last = last; put = v .put })
+      (record {
+        bytes = v .bytes;
+        counts = with g c (v .counts);
+        holds = with i f (v .holds);
+        bad = v .bad;
+        dirty = v .dirty;
+        last = last;
+        put = v .put;
+      })
   pins-kept w c f last held mark count hold old =
       let s = k .same i g x in
       let b = k .good .books in
@@ -208,6 +240,8 @@ module _ (m : Memory) (v : View) (k : Kept m v) (i g : ℕ) (x : Has m i g) wher
         blocks = λ h l ne. refl;
         low = λ d. b .low i (x .below) (sym mark ∙ d);
         clean = λ d. s .clean (sym mark ∙ d);
+        sum = block-passes m v k i g x;
+        bads = λ h. refl;
         bytes = s .bytes;
         counts = with-same g c (v .counts) ∙ count;
         marked = s .marked ∙ sym mark;

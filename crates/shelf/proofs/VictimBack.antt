@@ -2,7 +2,6 @@
 use Prim.Native.Nat.{ℕ, max}
 use mathlib.Core.Path.{_≡_, refl, sym, ap, _∙_, subst}
 use mathlib.Core.Bool.{Bool, true, false, not, _&&_, _||_, cond}
-use mathlib.Core.List.{List}
 use lib.ListN.{length}
 use Rattle.laws.specs.First.{Found, found}
 use Rattle.laws.specs.Block.{block}
@@ -13,7 +12,7 @@ use Rattle.bufmodel.specs.Memory.{Memory, size, wordOf}
 use Rattle.bufmodel.specs.Moves.{writeBack}
 use Rattle.shelf.specs.Ledger.{isPlace}
 use Rattle.shelf.proofs.Kept.{View, Has, Nobody, Kept}
-use Rattle.shelf.proofs.KeptLaws.{isPlace-self, Alike, kept-alike}
+use Rattle.shelf.proofs.KeptLaws.{same-position, isPlace-self, Alike, kept-alike}
 use Rattle.shelf.proofs.PinAccepted.{wasLast, viewWrote}
 use Rattle.shelf.proofs.BackKept.{backOf, back-dirty, back-clean, viewBack}
 use Rattle.shelf.proofs.BackKept.{back-own, back-pinned, back-then, back-has, back-long, back-other, kept-backOf}
@@ -56,6 +55,7 @@ module _ (m : Memory) (v : View) (k : Kept m v) (w h : ℕ) (own : Has m w h) (f
           bytes = λ g. refl;
           counts = λ g. refl;
           holds = λ b. refl;
+          bads = λ g. refl;
           marks = λ g. ap (λ (f : Found). not (isPlace f g) && v .dirty g) last;
           last = λ b. refl;
           put = λ g. ap (λ (f : Found). isPlace f g || v .put g) last;
@@ -69,7 +69,7 @@ module _ (m : Memory) (v : View) (k : Kept m v) (w h : ℕ) (own : Has m w h) (f
           free = back-pinned m v k w h own ∙ free;
           clean = back-own m v k w h own;
           nobody = λ g none j x. none j (back-then m v k w h own j g x);
-          flushed = ap (λ (page : List ℕ). max (m .control .flushed) (position page)) (sym (k .same w h own .bytes));
+          flushed = ap (max (m .control .flushed)) (sym (same-position (k .same w h own)));
           others = λ g z.
               back-other m v k w h own g
               (λ e. never (ap (isPlace (v .last w)) e ∙ ap (λ (f : Found). isPlace f h) last ∙ isPlace-self h) z);

@@ -12,17 +12,19 @@ use Rattle.laws.proofs.Tests.{never}
 use Rattle.laws.proofs.Block.{length-block, length-putBlock, block-put-same, block-put-other}
 use Rattle.bufmodel.specs.Word.{pinned, makeDirty}
 use Rattle.bufmodel.specs.Position.{position, positionBytes, paste, written}
+use Rattle.bufmodel.specs.Checksum.{bare}
 use Rattle.bufmodel.specs.Memory.{Memory, buffers, size, wordOf, pageOf, withStates, withPool}
 use Rattle.bufmodel.specs.Calls.{writeTo}
 use Rattle.bufmodel.proofs.WordLaws.{make-dirty}
 use Rattle.bufmodel.proofs.PositionLaws.{length-written, position-written}
-use Rattle.shelf.specs.Shelf.{Shelf, with, withBytes, writtenPage, writtenAt}
+use Rattle.bufmodel.proofs.ChecksumLaws.{length-bare, written-alike}
+use Rattle.shelf.specs.Shelf.{Shelf, with, writtenPage, writtenAt}
 use Rattle.shelf.specs.Ledger.{isPlace}
 use Rattle.shelf.proofs.Kept.{View, shelfOf, Has, Kept}
 use Rattle.shelf.proofs.BufferPlaces.{PinnedPage}
 use Rattle.shelf.proofs.KeptLaws.{isPlace-self, isPlace-other}
 use Rattle.shelf.proofs.WithLaws.{with-same, with-other}
-use Rattle.shelf.proofs.TurnKept.{turn-kept}
+use Rattle.shelf.proofs.TurnKept.{turn-kept, block-passes}
 
 -- ---- the page that the pool writes is the shelf's
 between : (k : ℕ) (page : List ℕ) → 8 + k ≤ length page → drop 8 (take (8 + k) page) ≡ take k (drop 8 page)
@@ -42,19 +44,20 @@ written-is p from new page h l =
 
 -- ---- the relation
 module _ (m : Memory) (v : View) (k : Kept m v) (i g : ℕ) (x : Has m i g) where
-  -- other bytes, and dirty
-  page-kept : (page : List ℕ) → length page ≡ size m → position page ≤ m .control .inserted
+  -- other bytes, in the pool and on the shelf, and dirty
+  page-kept : (page shelf : List ℕ) → length page ≡ size m → position page ≤ m .control .inserted → bare shelf ≡ bare page
       → Kept (withPool (putBlock (size m) i page (m .pool)) (withStates (set (m .states) i (makeDirty (wordOf m i))) m))
       (record {
-        bytes = with g page (v .bytes);
+        bytes = with g shelf (v .bytes);
         counts = v .counts;
         holds = v .holds;
+        bad = v .bad;
         dirty = λ h. isPlace (found g) h || v .dirty h;
         last = v .last;
         put = v .put;
       })
   unfolding pinned
-  page-kept page e low =
+  page-kept page shelf e low alike =
       let s = k .same i g x in
       let b = k .good .books in
       let p = k .good .sizes .pool in
@@ -70,13 +73,15 @@ module _ (m : Memory) (v : View) (k : Kept m v) (i g : ℕ) (x : Has m i g) wher
         blocks = λ h l ne. refl;
         low = λ d. omega (arith, ap position own);
         clean = λ d. never (w .dirty) d;
-        bytes = with-same g page (v .bytes) ∙ sym own;
+        sum = block-passes m v k i g x;
+        bads = λ h. refl;
+        bytes = ap bare (with-same g shelf (v .bytes)) ∙ alike ∙ ap bare (sym own);
         counts = s .counts ∙ sym (w .pins);
         marked = rw (isPlace-self g) (sym (w .dirty));
         holds = k .holds i (x .below) ∙ rw (x .place, w .pins);
         last = s .last;
         elsewhere = record {
-          bytes = with-other g page (v .bytes);
+          bytes = with-other g shelf (v .bytes);
           counts = λ h ne. refl;
           marks = λ h ne. rw (isPlace-other g h ne);
           holds = λ j ne. refl;
@@ -98,6 +103,7 @@ viewDirtied v s f =
       bytes = s .bytes;
       counts = s .counts;
       holds = s .holds;
+      bad = s .bad;
       dirty = λ h. isPlace f h || v .dirty h;
       last = v .last;
       put = v .put;
@@ -117,15 +123,11 @@ module _ (m : Memory) (v : View) (from : ℕ) (bytes : List ℕ) (at : ℕ) wher
       let e : length page ≡ size m = length-block (size m) (buffers m) i (m .pool) (k .good .sizes .pool) (p .has .below) in
       let room : from + length bytes ≤ length page = omega arith in
       let long : 8 ≤ length page = omega arith in
+      let own = v .bytes (p .page) in
+      let as-long : length own ≡ length page = sym (length-bare 0 own) ∙ ap length (p .same .bytes) ∙ length-bare 0 page in
+      let inside : from ≤ length own = omega arith in
+      let alike = written-alike at from bytes own page inside (sym as-long) (p .same .bytes) in
       subst (λ (f : Found). Kept (writeTo m i from bytes at) (viewWritten f)) (sym (p .holds))
-      (subst
-      (λ (x : List ℕ).
-      Kept (writeTo m i from bytes at)
-      (viewDirtied v (withBytes (with (p .page) (writtenPage at from bytes x) (v .bytes)) (shelfOf m v)) (found (p .page))))
-      (sym (p .same .bytes))
-      (subst
-      (λ (x : List ℕ).
-      Kept (writeTo m i from bytes at) (viewDirtied v (withBytes (with (p .page) x (v .bytes)) (shelfOf m v)) (found (p .page))))
-      (written-is at from bytes page (fits .behind) (omega arith))
-      (page-kept m v k i (p .page) (p .has) (written at from bytes page) (length-written at from bytes page room long ∙ e)
-      (omega (arith, position-written at from bytes page short)))))
+      (page-kept m v k i (p .page) (p .has) (written at from bytes page) (writtenPage at from bytes own)
+      (length-written at from bytes page room long ∙ e) (omega (arith, position-written at from bytes page short))
+      (ap bare (sym (written-is at from bytes own (fits .behind) inside)) ∙ alike))
