@@ -8,7 +8,7 @@ use native.Mathlib.Omega.{arith}
 use lib.ListN.{length, getD, length-set}
 use lib.Seq.{getD-set-other}
 use Rattle.laws.specs.Sum.{ind}
-use Rattle.laws.specs.First.{Found, found, missing}
+use Rattle.laws.specs.First.{Found, found}
 use Rattle.laws.specs.Block.{block}
 use Rattle.laws.proofs.Tests.{eq-or-ne}
 use Rattle.laws.proofs.Block.{length-block}
@@ -194,7 +194,7 @@ module _ (m : Memory) (k : Good m) (n : PageName) where
             (loaded-alike (bucketOf n (length (m .heads))) in-heads n v below
             (alike-then (release-marks back back-shape v below) back-marks))
 
-        -- the write-back put the victim's page into the store, and left that as long as it was; the wanted page's block is another
+        -- the write-back put the victim's page into the store; the wanted page's block is another, and as it was
         swept-dirty : dirty (getD (s .words) v 0) ≡ dirty (wordOf m v)
         swept-dirty = less-dirty (from .each v)
 

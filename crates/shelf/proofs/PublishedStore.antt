@@ -25,7 +25,7 @@ use Rattle.shelf.specs.Published.{putIn, backed}
 use Rattle.shelf.proofs.WithLaws.{with-same, with-other}
 use Rattle.shelf.proofs.SumsLaws.{goes-out}
 
--- the blocks of a list of n
+-- the blocks of a list
 abbrev pub blocksIn : ℕ → List ℕ → ℕ → List ℕ
 blocksIn p xs j = block p j xs
 
@@ -102,7 +102,8 @@ module _ (m : Memory) (i : ℕ) where
       pub back-blocks : (g : ℕ) → block (size m) g (backStore (dirty (wordOf m i)) store) ≡ backed m i (blocksIn (size m) store) g
       unfolding backed
       back-blocks g =
-          let page = ap (λ (x : List ℕ). putIn m place x (blocksIn (size m) store) g) (sym (goes-out (nameOf m i .block .0) (pageOf m i))) in
+          let said = sym (goes-out (nameOf m i .block .0) (pageOf m i)) in
+          let page = ap (λ (x : List ℕ). putIn m place x (blocksIn (size m) store) g) said in
           ⊎-elim
           (λ d. rw d (put-blocks m out k (nameOf m i) out-long store long place refl g ∙ page))
           (λ d. rw d refl)
