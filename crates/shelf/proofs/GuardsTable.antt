@@ -9,6 +9,7 @@ use lib.ListN.{length, take, drop, set}
 use lib.Dec.{eqb, ltb}
 use Rattle.laws.specs.Sum.{ind, count}
 use Rattle.laws.specs.First.{Found, found, missing}
+use Rattle.laws.specs.Block.{block}
 use Rattle.buftag.specs.declared.link.Link.{Link}
 use Rattle.buftag.specs.declared.link.Link.the-variants.{To, End, Off, Bad}
 use Rattle.buftag.specs.declared.lookup.Held.{Held}
@@ -17,13 +18,13 @@ use Rattle.buftag.specs.declared.name.FileName.{FileName}
 use Rattle.buftag.specs.declared.name.PageName.{PageName}
 use Rattle.buftag.specs.Link.{linkOf}
 use Rattle.bufmodel.specs.Word.{pins, empty, pinned, dirty, pinLess}
-use Rattle.bufmodel.specs.Rows.{rowOf}
+use Rattle.bufmodel.specs.Rows.{rowOf, placeOf}
 use Rattle.bufmodel.specs.Memory.{Memory, buffers, size, wordOf, pageOf, withStates, withInserted, withFlushed}
 use Rattle.bufmodel.specs.Books.{emptyAt}
 use Rattle.bufmodel.specs.Sweep.{Swept, sweepAll}
 use Rattle.bufmodel.specs.Moves.{writeBack, writeUpTo, ofFile}
 use Rattle.bufmodel.specs.Outcome.{Outcome, Place, place, refusalOf, checked, zeros, one, done, refused, outcome}
-use Rattle.bufmodel.specs.Pin.{noRow, noBlock, countFull, noVictim, heldIn, namePlaces, pinPlaces}
+use Rattle.bufmodel.specs.Pin.{noRow, noBlock, sumDiffers, countFull, noVictim, heldIn, namePlaces, pagePlaces, pinPlaces}
 use Rattle.bufmodel.specs.Pin.{pinHeld, pinFree, pinVictim, pinSwept, pinNew, pinTo, pin}
 use Rattle.bufmodel.specs.Calls.{bufferPlaces, writePlaces, fileFull, filePinned, writeTo, partOf, extendAt, dropAt}
 use Rattle.bufmodel.specs.Calls.{unpin, read, write, flush, checkpoint, peek, extend, dropFile, logInserted, logFlushed}
@@ -33,7 +34,8 @@ use Rattle.bufmodel.proofs.GoodLaws.{Good, checked-good}
 use Rattle.shelf.specs.Shelf.{firstOf, noFile}
 use Rattle.shelf.specs.Published.{filed}
 use Rattle.shelf.specs.Statement.{own}
-use Rattle.shelf.specs.Guards.{pinCount, blockPast, pinsFull, allPinned, rowFull, nameChecks, bufferChecks, table}
+use Rattle.shelf.specs.Guards.{pinCount, blockPast, sumWrong, pinsFull, allPinned, rowFull, pageChecks, bufferChecks, table}
+use Rattle.shelf.proofs.SumsLaws.{fails-not}
 use Rattle.shelf.proofs.MemoryPlaces.{pin-victim}
 use Rattle.shelf.proofs.ShelfPlaces.{first-is}
 
@@ -46,7 +48,7 @@ module _ (m : Memory) where
   ownPlaces (Write i from bytes at) = writePlaces m i from bytes at
   ownPlaces (Flush i) = bufferPlaces m i []
   ownPlaces Checkpoint = []
-  ownPlaces (Peek n) = namePlaces (m .rows) n []
+  ownPlaces (Peek n) = pagePlaces m n []
   ownPlaces (Extend f) = let r = rowOf (m .rows) f in place 3 (noRow r) ∷ place 13 (fileFull (m .rows) r) ∷ []
   ownPlaces (Drop f) = place 3 (noRow (rowOf (m .rows) f)) ∷ place 14 (filePinned m f) ∷ []
   ownPlaces (LogInserted p) = place 15 (ltb p (m .control .inserted)) ∷ []
@@ -139,6 +141,12 @@ module _ (m : Memory) where
   past b (found r) = refl
   past b missing = refl
 
+  sum-wrong : (n : PageName) (f : Found) (h : Held) → sumDiffers m n f h ≡ sumWrong m n f h
+  unfolding sumDiffers sumWrong
+  sum-wrong n (found g) (At b) = refl
+  sum-wrong n (found g) Nowhere = sym (fails-not (n .block .0) (block (size m) g (m .store)))
+  sum-wrong n missing h = refl
+
   pins-full : (h : Held) → countFull m h ≡ pinsFull m h
   unfolding countFull pinsFull pins
   pins-full (At b) = refl
@@ -159,12 +167,13 @@ module _ (m : Memory) where
   unpinned i = twice (eqb (pinCount m i) 0)
 
   -- ---- and the places, in their order
-  name-same : (n : PageName) (ps qs : List Place) → refusalOf ps ≡ refusalOf qs
-      → refusalOf (namePlaces (m .rows) n ps) ≡ refusalOf (nameChecks m n qs)
-  unfolding namePlaces nameChecks
-  name-same n ps qs e =
+  page-same : (n : PageName) (ps qs : List Place) → refusalOf ps ≡ refusalOf qs
+      → refusalOf (pagePlaces m n ps) ≡ refusalOf (pageChecks m n qs)
+  unfolding pagePlaces namePlaces pageChecks
+  page-same n ps qs e =
       let r = rowOf (m .rows) (n .file) in
-      refusal-same 3 _ _ (no-file r) (refusal-same 4 ps qs (past (n .block .0) r) e)
+      let wrong = sum-wrong n (placeOf (m .rows) n) (heldIn m n) in
+      refusal-same 3 _ _ (no-file r) (refusal-same 4 _ _ (past (n .block .0) r) (refusal-same 17 ps qs wrong e))
 
   buffer-same : (i : ℕ) (ps : List Place) → refusalOf (bufferPlaces m i ps) ≡ refusalOf (bufferChecks m i ps)
   unfolding bufferPlaces bufferChecks
@@ -174,13 +183,13 @@ module _ (m : Memory) where
   unfolding table pinPlaces writePlaces filePinned ofFile emptyAt empty filed pinned pins
   table-is (Pin n) =
       let h = heldIn m n in
-      name-same n _ _ (refusal-same 5 _ _ (pins-full h) (refusal-same 6 [] [] (all-pinned h) refl))
+      page-same n _ _ (refusal-same 5 _ _ (pins-full h) (refusal-same 6 [] [] (all-pinned h) refl))
   table-is (Unpin i) = buffer-same i _
   table-is (Read i from out) = buffer-same i _
   table-is (Write i from bytes at) = buffer-same i _
   table-is (Flush i) = buffer-same i _
   table-is Checkpoint = refl
-  table-is (Peek n) = name-same n [] [] refl
+  table-is (Peek n) = page-same n [] [] refl
   table-is (Extend f) =
       let r = rowOf (m .rows) f in
       refusal-same 3 _ _ (no-file r) (refusal-same 13 [] [] (row-full r) refl)

@@ -2,6 +2,7 @@
 -- what calls' numbers say of the memory, and its words
 pub mod WithLaws
 pub mod SumsLaws
+pub mod WrittenLaws
 pub mod CallKinds
 pub mod ShelfPlaces
 pub mod ShelfSizes
@@ -13,6 +14,7 @@ pub mod SetUpSays
 pub mod Guards
 -- demand 2: what each call leaves, and the theorem
 pub mod PublishedMarks
+pub mod PublishedStore
 pub mod PublishedLeaves
 pub mod PublishedCalls
 pub mod PublishedBack

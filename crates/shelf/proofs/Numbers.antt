@@ -1,12 +1,13 @@
 -- Document 01's own numbers hold of what the statement and the pool both use.
 use Prim.Native.Nat.{ℕ, suc, _+_, _-_, _*_, _/_, _%_, _<_}
 use mathlib.Core.Path.{_≡_, refl, sym, ap, _∙_}
-use mathlib.Core.Logic.{⊎-elim}
+use mathlib.Core.Logic.{_≢_, _⊎_, ⊎-elim}
 use mathlib.Core.Bool.{not, Bool·beq}
 use mathlib.Core.List.{List, [], _∷_}
 use native.Mathlib.Nat.{div-div-eq-div-mul}
 use native.Mathlib.Omega.{arith}
-use lib.ListN.{getD, set}
+use lib.ListN.{length, getD, set}
+use lib.Bits.{bitXor}
 use lib.Dec.{eqb}
 use borrow.Author.Tests.{ne-eqb, eqb-true, eqb-false, ltb-true}
 use Rattle.laws.specs.Block.{block}
@@ -20,6 +21,7 @@ use Rattle.buftag.specs.Name.{fileOf, nameBytes, hashOf, bucketOf}
 use Rattle.bufmodel.specs.Word.{pins, usage, pack, bit, dirty, valid, tagValid, justDirtied, permanent, noOther, empty}
 use Rattle.bufmodel.specs.Word.{soundFlags, soundWord, pinned, useLess}
 use Rattle.bufmodel.specs.Position.{position, positionBytes}
+use Rattle.bufmodel.specs.Checksum.{bareFrom, sumStarts, mixSum, wordsIn, sumTo, sumOf, foldTo, checksum}
 use Rattle.bufmodel.specs.Rows.{files, fileAt, blocksAt, capacityAt, setBlocks, rowOf, startOf, storeBlocks, placeIn, placeOf}
 use Rattle.bufmodel.specs.Sizes.{permitted}
 use Rattle.bufmodel.specs.Books.{emptyAt}
@@ -27,6 +29,7 @@ use Rattle.bufmodel.specs.Sweep.{next}
 use Rattle.bufmodel.specs.Calls.{partIn, partAt, part}
 use Rattle.bufmodel.specs.Lent.{topOf, controlOf, opened}
 use Rattle.bufmodel.proofs.WordLaws.{pack-fields}
+use Rattle.bufmodel.proofs.ChecksumLaws.{bare-at, length-bare}
 use Rattle.bufmodel.proofs.HeldLaws.{held-at, held-none}
 use Rattle.bufmodel.proofs.SizesLaws.{permitted-says, permitted-sized}
 use Rattle.shelf.specs.Numbers.{fnv1a, Numbers}
@@ -75,6 +78,47 @@ module _ (rows : List ℕ) (r : ℕ) where
   capacity-at : capacityAt rows r ≡ getD rows (6 * r + 5) 0
   unfolding capacityAt
   capacity-at = ap (λ (k : ℕ). getD rows k 0) (omega arith)
+
+-- ---- the checksum
+module _ (s k : ℕ) (xs : List ℕ) where
+  left-out : (s + k ≡ 8) ⊎ (s + k ≡ 9) → getD (bareFrom s xs) k 0 ≡ 0
+  left-out h = bare-at s xs k ∙ ⊎-elim (λ e. rw e refl) (λ e. rw e refl) h
+
+  kept-in : s + k ≢ 8 → s + k ≢ 9 → getD (bareFrom s xs) k 0 ≡ getD xs k 0
+  kept-in a b = bare-at s xs k ∙ rw (ne-eqb (s + k) 8 a, ne-eqb (s + k) 9 b) refl
+
+round-is : (v s : ℕ) → mixSum v s ≡ bitXor (bitXor v s * 16777619 % 4294967296) (bitXor v s / 131072)
+unfolding mixSum
+round-is v s = refl
+
+words-are : (a b c d : ℕ) (xs : List ℕ) → wordsIn (a ∷ b ∷ c ∷ d ∷ xs) ≡ (a + b * 256 + c * 65536 + d * 16777216) ∷ wordsIn xs
+unfolding wordsIn
+words-are a b c d xs = ap (λ (w : ℕ). w ∷ wordsIn xs) (omega arith)
+
+module _ (ws : List ℕ) (j : ℕ) where
+  sum-start : sumTo ws j 0 ≡ getD sumStarts j 0
+  unfolding sumTo
+  sum-start = refl
+
+  sum-row : (i : ℕ) → sumTo ws j (suc i) ≡ mixSum (getD ws (i * 32 + j) 0) (sumTo ws j i)
+  unfolding sumTo
+  sum-row i = refl
+
+  sum-end : sumOf ws j ≡ mixSum 0 (mixSum 0 (sumTo ws j (length ws / 32)))
+  unfolding sumOf
+  sum-end = refl
+
+  fold-more : foldTo ws (suc j) ≡ bitXor (foldTo ws j) (sumOf ws j)
+  unfolding foldTo
+  fold-more = refl
+
+fold-none : (ws : List ℕ) → foldTo ws 0 ≡ 0
+unfolding foldTo
+fold-none ws = refl
+
+checksum-is : (b : ℕ) (page : List ℕ) → checksum b page ≡ bitXor (foldTo (wordsIn (bareFrom 0 page)) 32) b % 65535 + 1
+unfolding checksum
+checksum-is b page = refl
 
 -- THE THEOREM
 pub numbers : Numbers
@@ -151,6 +195,18 @@ numbers =
           let c : p % 4294967296 / 65536 % 256 ≡ p / 65536 % 256 = rw f (omega arith) in
           let d : p % 4294967296 / 16777216 % 256 ≡ p / 16777216 % 256 = rw g (omega arith) in
           rw (a, b, c, d) (simp div-div-eq-div-mul);
+      leftOut = left-out;
+      keptIn = kept-in;
+      asMany = length-bare;
+      starts = (refl, refl);
+      round = round-is;
+      words = words-are;
+      sumStart = sum-start;
+      sumRow = sum-row;
+      sumEnd = sum-end;
+      noSums = fold-none;
+      oneMore = fold-more;
+      checksumOf = checksum-is;
       rows = λ rows. (
         λ k. (
           k .whole,

@@ -1,6 +1,6 @@
 -- What drop leaves: the file's buffers are emptied and put on top of the free list one after another, rising.
 use Prim.Native.Nat.{ℕ, zero, suc, _≤_, _<_}
-use mathlib.Core.Path.{_≡_, refl, ap₂, _∙_}
+use mathlib.Core.Path.{_≡_, refl, ap, ap₂, _∙_}
 use mathlib.Core.Bool.{true, false, not, _&&_}
 use mathlib.Core.Logic.{⊎-elim}
 use mathlib.Core.List.{[], _∷_}
@@ -8,13 +8,14 @@ use native.Mathlib.Omega.{arith}
 use lib.Dec.{eqb}
 use lib.ListN.{length}
 use Rattle.laws.specs.First.{Found, found, missing}
+use Rattle.laws.specs.Block.{block}
 use Rattle.laws.proofs.Tests.{never, true-or-false}
 use Rattle.buftag.specs.declared.name.FileName.{FileName}
 use Rattle.buftag.specs.declared.name.PageName.{PageName}
 use Rattle.buftag.specs.Name.{sameFile}
 use Rattle.bufmodel.specs.Word.{empty}
 use Rattle.bufmodel.specs.Rows.{rowOf}
-use Rattle.bufmodel.specs.Memory.{Memory, buffers, wordOf, nameOf, pageOf}
+use Rattle.bufmodel.specs.Memory.{Memory, buffers, size, wordOf, nameOf, pageOf}
 use Rattle.bufmodel.specs.Books.{emptyAt}
 use Rattle.bufmodel.specs.Moves.{release, ofFile, releaseIf, releaseUpTo}
 use Rattle.bufmodel.specs.Outcome.{place}
@@ -40,6 +41,7 @@ module _ (m : Memory) (f : FileName) where
     shape : Shape (buffers m) (length (m .heads)) d
     alike : Alike (buffers m) (length (m .heads)) (marksOf d) (droppedTo m f k)
     page : (i : ℕ) → pageOf d i ≡ pageOf m i
+    store : d .store ≡ m .store
     -- the other buffers
     words : (i : ℕ) → k ≤ i → wordOf d i ≡ wordOf m i
     names : (i : ℕ) → k ≤ i → nameOf d i ≡ nameOf m i
@@ -53,6 +55,7 @@ module _ (m : Memory) (f : FileName) where
           shape = x .shape;
           alike = rw e (x .alike);
           page = x .page;
+          store = x .store;
           words = λ i l. x .words i (omega arith);
           names = λ i l. x .names i (omega arith);
         }
@@ -70,6 +73,7 @@ module _ (m : Memory) (f : FileName) where
           shape = release-shape d (x .shape) k b;
           alike = dropped-alike b e;
           page = x .page;
+          store = x .store;
           words = λ i l. release-word d k i (λ q. omega arith) ∙ x .words i (omega arith);
           names = λ i l. release-name d k i (λ q. omega arith) ∙ x .names i (omega arith);
         }
@@ -91,6 +95,7 @@ module _ (m : Memory) (f : FileName) where
           shape = good-shape m good;
           alike = alike-same;
           page = λ i. refl;
+          store = refl;
           words = λ i h. refl;
           names = λ i h. refl;
         }
@@ -105,7 +110,13 @@ module _ (m : Memory) (f : FileName) where
     unfolding dropAt noRow
     drop-leaves (found r) e =
         let x = dropped-to (buffers m) (omega arith) in
-        record { many = x .shape .many; wide = x .shape .wide; alike = x .alike; idle = λ i l z. x .page i }
+        record {
+          many = x .shape .many;
+          wide = x .shape .wide;
+          alike = x .alike;
+          pages = λ i l. x .page i;
+          blocks = λ g l. ap (block (size m) g) (x .store);
+        }
     drop-leaves missing e = never refl e
 
     pub drop-says : Says m (Drop f)

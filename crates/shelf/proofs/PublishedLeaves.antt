@@ -1,16 +1,18 @@
--- What a call leaves of the books: calls that change one word or none, and how a call is accepted.
+-- What a call leaves: calls that change one word or none, and how a call is accepted.
 use Prim.Native.Nat.{ℕ, _<_}
 use mathlib.Core.Path.{_≡_, refl, sym, ap, _∙_, subst}
 use mathlib.Core.Bool.{Bool, true, false, cond}
 use mathlib.Core.List.{List}
 use lib.ListN.{length, getD, set, length-set}
 use Rattle.laws.specs.Sum.{ind}
-use Rattle.bufmodel.specs.Memory.{Memory, buffers, wordOf, pageOf}
+use Rattle.laws.specs.Block.{block}
+use Rattle.bufmodel.specs.Rows.{storeBlocks}
+use Rattle.bufmodel.specs.Memory.{Memory, buffers, size, wordOf, pageOf}
 use Rattle.bufmodel.specs.Outcome.{Outcome, Place, refusalOf, checked, outcome}
 use Rattle.bufmodel.proofs.GoodLaws.{checked-passed}
 use Rattle.bufmodel.proofs.OutcomeLaws.{outcome-done, outcome-number}
 use Rattle.shelf.specs.Shelf.{with}
-use Rattle.shelf.specs.Published.{Marks, marksOf, withWords, Alike, Words}
+use Rattle.shelf.specs.Published.{Marks, marksOf, withWords, Alike, Leaves, Words}
 use Rattle.shelf.proofs.PublishedMarks.{set-with}
 
 -- 1 or 0 by a test, as the pool counts and as the statement says it
@@ -18,16 +20,22 @@ pub ind-cond : (d : Bool) → ind d ≡ cond d 1 0
 ind-cond true = refl
 ind-cond false = refl
 
--- the pages of empty buffers are as they were
-abbrev pub Idle : Memory → Memory → Type 0
-Idle m d = (i : ℕ) → i < buffers m → wordOf d i ≡ 0 → pageOf d i ≡ pageOf m i
+-- the pages of the pool and the blocks of the store, place by place
+abbrev pub Pages : Memory → Memory → (ℕ → List ℕ) → Type 0
+Pages m d page = (i : ℕ) → i < buffers m → pageOf d i ≡ page i
+
+abbrev pub Blocks : Memory → Memory → (ℕ → List ℕ) → Type 0
+Blocks m d store = (g : ℕ) → g < storeBlocks (m .rows) → block (size m) g (d .store) ≡ store g
 
 -- ---- other words and nothing else of the books
 module _ (m : Memory) (o : Outcome) (wide : length (o .after .heads) ≡ length (m .heads))
     (marks : marksOf (o .after) ≡ withWords (wordOf (o .after)) (m .control .hand) (marksOf m)) where
-  pub words-left : {word : ℕ → ℕ} → buffers (o .after) ≡ buffers m → ((i : ℕ) → i < buffers m → wordOf (o .after) i ≡ word i)
-      → Idle m (o .after) → Words m o word
-  words-left {word} many words idle =
+  pub words-left : {word : ℕ → ℕ} {page store : ℕ → List ℕ} → buffers (o .after) ≡ buffers m
+      → ((i : ℕ) → i < buffers m → wordOf (o .after) i ≡ word i)
+      → Pages m (o .after) page
+      → Blocks m (o .after) store
+      → Leaves m o (withWords word (m .control .hand) (marksOf m)) page store
+  words-left {word} many words pages blocks =
       record {
         many = many;
         wide = wide;
@@ -43,18 +51,24 @@ module _ (m : Memory) (o : Outcome) (wide : length (o .after .heads) ≡ length 
               hand = refl;
               top = refl;
             });
-        idle = idle;
+        pages = pages;
+        blocks = blocks;
       }
 
-  pub stays-whole : o .after .states ≡ m .states → Idle m (o .after) → Words m o (wordOf m)
-  stays-whole e idle = words-left (ap length e) (λ i l. ap (λ (xs : List ℕ). getD xs i 0) e) idle
+  -- no word, and no page
+  pub stays-whole : {store : ℕ → List ℕ} → o .after .states ≡ m .states → Pages m (o .after) (pageOf m) → Blocks m (o .after) store
+      → Words m o (wordOf m) store
+  stays-whole e pages blocks = words-left (ap length e) (λ i l. ap (λ (xs : List ℕ). getD xs i 0) e) pages blocks
 
-  pub stays-set : {b x w : ℕ} → b < buffers m → x ≡ w → o .after .states ≡ set (m .states) b x → Idle m (o .after)
-      → Words m o (with b w (wordOf m))
-  stays-set {b} {x} l q e idle =
+  -- one word
+  pub stays-set : {b x w : ℕ} {page store : ℕ → List ℕ} → b < buffers m → x ≡ w → o .after .states ≡ set (m .states) b x
+      → Pages m (o .after) page
+      → Blocks m (o .after) store
+      → Leaves m o (withWords (with b w (wordOf m)) (m .control .hand) (marksOf m)) page store
+  stays-set {b} {x} l q e pages blocks =
       words-left (ap length e ∙ length-set (m .states) b x)
       (λ i h. ap (λ (xs : List ℕ). getD xs i 0) e ∙ set-with (m .states) b x 0 l i ∙ ap (λ (y : ℕ). with b y (wordOf m) i) q)
-      idle
+      pages blocks
 
 -- ---- an accepted call ends as it does where none of its places refuses
 pub call-done : (m : Memory) (own : List Place) (bytes : List ℕ) (o : Outcome) → o .refusal ≡ 0 → (P : Outcome → Type 0)

@@ -1,17 +1,17 @@
 -- A pin's probes, buffer and words are as published: held, from the free list, the victim of a sweep, or refused.
 use Prim.Native.Nat.{ℕ, _*_, _≤_, _<_}
 use mathlib.Core.Path.{_≡_, refl, sym, ap, _∙_, subst}
-use mathlib.Core.Bool.{Bool, true, false, cond}
+use mathlib.Core.Bool.{Bool}
 use mathlib.Core.Logic.{_≢_, ⊎-elim}
 use mathlib.Core.List.{List, [], _∷_}
 use native.Mathlib.Omega.{arith}
 use lib.ListN.{length, getD, length-set}
 use lib.Seq.{getD-set-other}
 use Rattle.laws.specs.Sum.{ind}
-use Rattle.laws.specs.First.{Found, found, missing}
+use Rattle.laws.specs.First.{Found, found}
 use Rattle.laws.specs.Block.{block}
-use Rattle.laws.proofs.Tests.{eq-or-ne, never}
-use Rattle.laws.proofs.Block.{length-block, length-putBlock, block-put-other}
+use Rattle.laws.proofs.Tests.{eq-or-ne}
+use Rattle.laws.proofs.Block.{length-block}
 use Rattle.buftag.specs.declared.link.Link.{Link}
 use Rattle.buftag.specs.declared.link.Link.the-variants.{To, End}
 use Rattle.buftag.specs.declared.lookup.Held.{Held}
@@ -21,55 +21,41 @@ use Rattle.buftag.specs.declared.number.BufferNumber.{BufferNumber}
 use Rattle.buftag.specs.Name.{bucketOf}
 use Rattle.buftag.specs.Link.{linkOf}
 use Rattle.buftag.proofs.NameLaws.{bucket-lt}
-use Rattle.bufmodel.specs.Word.{empty, dirty}
+use Rattle.bufmodel.specs.Word.{dirty}
 use Rattle.bufmodel.specs.Rows.{storeBlocks, placeOf}
 use Rattle.bufmodel.specs.Memory.{Memory, buffers, size, wordOf, nameOf, pageOf, withStates, withHand}
-use Rattle.bufmodel.specs.Books.{emptyAt, BooksSound}
+use Rattle.bufmodel.specs.Books.{BooksSound}
 use Rattle.bufmodel.specs.Sweep.{Swept, Sweeps, sweepAll}
-use Rattle.bufmodel.specs.Moves.{putAt, writeBack, release, loadAt, load}
+use Rattle.bufmodel.specs.Moves.{writeBack, release, loadAt, load}
 use Rattle.bufmodel.specs.Outcome.{refusalOf, checked, done, refused}
 use Rattle.bufmodel.specs.Pin.{heldIn, pinPlaces, pinHeld, pinFree, pinVictim, pinSwept, pinNew, pinTo, pin}
 use Rattle.bufmodel.specs.Step.{Pin, step}
-use Rattle.bufmodel.proofs.RowsLaws.{place-in}
+use Rattle.bufmodel.proofs.RowsLaws.{place-in, place-same}
 use Rattle.bufmodel.proofs.GoodLaws.{Good, checked-good}
 use Rattle.bufmodel.proofs.OutcomeLaws.{outcome-done, outcome-refused}
-use Rattle.bufmodel.proofs.HeldLaws.{pinned-full, held-at}
+use Rattle.bufmodel.proofs.HeldLaws.{pinned-full, dirty-full, held-none, held-at}
 use Rattle.bufmodel.proofs.FreeListLaws.{top-none, top-empty, top-full}
-use Rattle.bufmodel.proofs.LoadLaws.{load-is, load-buffers, load-full}
+use Rattle.bufmodel.proofs.LoadLaws.{load-is, load-buffers}
 use Rattle.bufmodel.proofs.ReleaseLaws.{release-top}
+use Rattle.bufmodel.proofs.LessUsedLaws.{less-dirty}
 use Rattle.bufmodel.proofs.SweepLaws.{SweptFrom, sweeps-from}
 use Rattle.bufmodel.proofs.SweepEnds.{sweepAll-relates, sweep-stuck}
-use Rattle.shelf.specs.Published.{marksOf, withWords, emptied, Alike, Leaves, loaded, hit, free, early, taken, stuck, Sought}
+use Rattle.shelf.specs.Shelf.{with}
+use Rattle.shelf.specs.Published.{marksOf, withWords, emptied, Alike, blocksOf, backed, Leaves, loaded, Sought}
+use Rattle.shelf.specs.Published.{hit, free, early, taken, stuck}
 use Rattle.shelf.proofs.MemoryPlaces.{pin-stuck, pin-place, pin-victim}
 use Rattle.shelf.proofs.PublishedWords.{more-pins, few-used}
 use Rattle.shelf.proofs.PublishedMarks.{alike-same, alike-then, emptied-past, loaded-alike, Shape, good-shape}
 use Rattle.shelf.proofs.PublishedMarks.{release-shape, release-marks, load-wide, load-marks}
+use Rattle.shelf.proofs.PublishedStore.{put-with, backStore, backed-other, back-blocks}
 use Rattle.shelf.proofs.PublishedLeaves.{ind-cond, stays-set}
 
 -- ---- a load
--- the buffer is in use afterwards, and the other pages are as they were
-load-idle : (m : Memory) (n : PageName) (i g : ℕ) → i < buffers m → length (m .pool) ≡ buffers m * size m
-    → length (block (size m) g (m .store)) ≡ size m → (j : ℕ) → wordOf (loadAt m n i g) j ≡ 0
-    → pageOf (loadAt m n i g) j ≡ pageOf m j
-unfolding loadAt emptyAt empty
-load-idle m n i g l pool page j z =
-    block-put-other (size m) (buffers m) _ (m .pool) pool page i l j
-    (λ q. never (ap empty (ap (wordOf (loadAt m n i g)) (sym q) ∙ z)) (load-full m n i g l))
-
--- a write-back leaves the store as long as it was
-module _ (m : Memory) (k : Good m) (i : ℕ) (l : i < buffers m) where
-  put-long : (f : Found) → placeOf (m .rows) (nameOf m i) ≡ f → length (putAt (size m) (pageOf m i) (m .store) f) ≡ length (m .store)
-  unfolding putAt
-  put-long (found g) e =
-      length-putBlock (size m) (storeBlocks (m .rows)) (pageOf m i) (m .store) (k .sizes .store)
-      (length-block (size m) (buffers m) i (m .pool) (k .sizes .pool) l) g
-      (place-in (m .rows) (k .sizes .rows) (nameOf m i) e)
-  put-long missing e = refl
-
-  put-if-long : (d : Bool)
-      → length (cond d (putAt (size m) (pageOf m i) (m .store) (placeOf (m .rows) (nameOf m i))) (m .store)) ≡ length (m .store)
-  put-if-long true = put-long (placeOf (m .rows) (nameOf m i)) refl
-  put-if-long false = refl
+load-pages : (m : Memory) (n : PageName) (i g : ℕ) → i < buffers m → length (m .pool) ≡ buffers m * size m
+    → length (block (size m) g (m .store)) ≡ size m → (j : ℕ)
+    → pageOf (loadAt m n i g) j ≡ with i (blocksOf m g) (pageOf m) j
+unfolding loadAt
+load-pages m n i g l pool page j = put-with (size m) (buffers m) (blocksOf m g) (m .pool) pool page i l j
 
 -- the sweep of a sound memory is as published, and ends in time
 pub sweep-published : (m : Memory) → BooksSound m
@@ -106,7 +92,7 @@ module _ (m : Memory) (k : Good m) (n : PageName) where
       record {
         probes = 0;
         looked = hit {b = b} e refl refl
-            (stays-set m _ refl refl (held-at m n b e .0) (more-pins (wordOf m (b .0))) refl (λ j l z. refl));
+            (stays-set m _ refl refl (held-at m n b e .0) (more-pins (wordOf m (b .0))) refl (λ j l. refl) (λ g l. refl));
         bound = omega arith;
         atSix = λ q. absurd (omega arith);
         answered = λ q. refl;
@@ -123,16 +109,18 @@ module _ (m : Memory) (k : Good m) (n : PageName) where
 
     -- from the free list
     free-leaves : (i : ℕ) → i < buffers m → (answer : List ℕ)
-        → Leaves m (done answer [] (loadAt m n i g)) (loaded m n i (marksOf m))
+        → Leaves m (done answer [] (loadAt m n i g)) (loaded m n i (marksOf m)) (with i (blocksOf m g) (pageOf m)) (blocksOf m)
+    unfolding loadAt
     free-leaves i l answer =
         let s = good-shape m k in
         record {
           many = load-buffers m n i g;
           wide = load-wide m s i l n g;
           alike = load-marks m s i l n g in-heads;
-          idle = λ j h z.
-              load-idle m n i g l (k .sizes .pool)
-              (length-block (size m) (storeBlocks (m .rows)) g (m .store) (k .sizes .store) in-store) j z;
+          pages = λ j h.
+              load-pages m n i g l (k .sizes .pool)
+              (length-block (size m) (storeBlocks (m .rows)) g (m .store) (k .sizes .store) in-store) j;
+          blocks = λ h l. refl;
         }
 
     free-sought : (i : ℕ) → linkOf (m .control .top) ≡ To i → Sought m n (pinFree m n i)
@@ -141,7 +129,7 @@ module _ (m : Memory) (k : Good m) (n : PageName) where
         subst (λ (o : Memory). Sought m n (done (i ∷ 0 ∷ 0 ∷ 0 ∷ []) [] o)) (sym (load-is m n i g top place))
         (record {
           probes = 0;
-          looked = free new top refl refl (free-leaves i (top-empty m k i top .0) _);
+          looked = free new top refl refl place (free-leaves i (top-empty m k i top .0) _);
           bound = omega arith;
           atSix = λ q. absurd (omega arith);
           answered = λ q. refl;
@@ -206,12 +194,25 @@ module _ (m : Memory) (k : Good m) (n : PageName) where
             (loaded-alike (bucketOf n (length (m .heads))) in-heads n v below
             (alike-then (release-marks back back-shape v below) back-marks))
 
-        -- the write-back changed the store, and left it as long as it was
-        page-long : length (block (size m) g (released .store)) ≡ size m
+        -- the write-back put the victim's page into the store; the wanted page's block is another, and as it was
+        swept-dirty : dirty (getD (s .words) v 0) ≡ dirty (wordOf m v)
+        swept-dirty = less-dirty (from .each v)
+
+        store-back : (h : ℕ) → block (size m) h (released .store) ≡ backed m v (blocksOf m) h
         unfolding release writeBack
+        store-back h =
+            ap (λ (d : Bool). block (size m) h (backStore m v d (m .store))) swept-dirty
+            ∙ back-blocks m v k below (m .store) (k .sizes .store) h
+
+        wanted : block (size m) g (released .store) ≡ blocksOf m g
+        wanted =
+            store-back g
+            ∙ backed-other m v (blocksOf m) g
+            (λ d e. held-none m n new v (dirty-full m v d) (place-same (m .rows) (k .sizes .rows) (nameOf m v) n e place))
+
+        page-long : length (block (size m) g (released .store)) ≡ size m
         page-long =
-            length-block (size m) (storeBlocks (m .rows)) g (released .store)
-            (put-if-long m k v below (dirty (getD (s .words) v 0)) ∙ k .sizes .store) in-store
+            ap length wanted ∙ length-block (size m) (storeBlocks (m .rows)) g (m .store) (k .sizes .store) in-store
 
         pool-long : length (released .pool) ≡ buffers released * size released
         unfolding release writeBack
@@ -219,13 +220,17 @@ module _ (m : Memory) (k : Good m) (n : PageName) where
 
         taken-leaves : (answer : List ℕ)
             → Leaves m (done answer [] after) (loaded m n v (emptied v (withWords (λ i. getD (s .words) i 0) (s .hand) (marksOf m))))
-        unfolding release writeBack
+            (with v (blocksOf m g) (pageOf m)) (backed m v (blocksOf m))
+        unfolding release writeBack loadAt
         taken-leaves answer =
             record {
               many = load-buffers released n v g ∙ released-shape .many;
               wide = load-wide released released-shape v below n g;
               alike = taken-alike;
-              idle = λ i h z. load-idle released n v g (omega (arith, below, released-shape .many)) pool-long page-long i z;
+              pages = λ i h.
+                  load-pages released n v g (omega (arith, below, released-shape .many)) pool-long page-long i
+                  ∙ ap (λ (x : List ℕ). with v x (pageOf m) i) wanted;
+              blocks = λ h l. store-back h;
             }
 
         taken-sought : Sought m n (pinVictim m n s (found v))
@@ -236,7 +241,7 @@ module _ (m : Memory) (k : Good m) (n : PageName) where
             (record {
               probes = s .probes;
               looked = taken new top refl (sweeps .0) victim
-                  (ap (λ (w : ℕ). v ∷ 0 ∷ w ∷ s .probes ∷ []) (ind-cond (dirty (wordOf m v)))) (taken-leaves answer);
+                  (ap (λ (w : ℕ). v ∷ 0 ∷ w ∷ s .probes ∷ []) (ind-cond (dirty (wordOf m v)))) place (taken-leaves answer);
               bound = sweeps .1;
               atSix = λ q. absurd (omega arith);
               answered = λ q. refl;
