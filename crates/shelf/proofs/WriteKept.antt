@@ -24,23 +24,8 @@ use Rattle.shelf.proofs.Kept.{View, shelfOf, Has, Kept}
 use Rattle.shelf.proofs.BufferPlaces.{PinnedPage}
 use Rattle.shelf.proofs.KeptLaws.{isPlace-self, isPlace-other}
 use Rattle.shelf.proofs.WithLaws.{with-same, with-other}
+use Rattle.shelf.proofs.WrittenLaws.{written-is}
 use Rattle.shelf.proofs.TurnKept.{turn-kept, block-passes}
-
--- ---- the page that the pool writes is the shelf's
-between : (k : ℕ) (page : List ℕ) → 8 + k ≤ length page → drop 8 (take (8 + k) page) ≡ take k (drop 8 page)
-between k page h =
-    ap (drop 8) (take-add 8 k page) ∙ drop-at (take 8 page) (take k (drop 8 page)) 8 (length-take 8 page ∙ omega arith)
-
-pub written-is : (p from : ℕ) (new page : List ℕ) → 8 ≤ from → from ≤ length page → written p from new page ≡ writtenPage p from new page
-unfolding written paste positionBytes writtenPage
-written-is p from new page h l =
-    let e : 8 + (from - 8) ≡ from = omega arith in
-    let rest = new ++ drop (length new) (drop from page) in
-    ap (λ (xs : List ℕ). positionBytes p ++ xs)
-    (drop-append-le 8 (take from page) rest (omega (arith, length-take from page))
-    ∙ ap (λ (xs : List ℕ). xs ++ rest)
-    (ap (λ (j : ℕ). drop 8 (take j page)) (sym e) ∙ between (from - 8) page (omega arith))
-    ∙ ap (λ (xs : List ℕ). take (from - 8) (drop 8 page) ++ (new ++ xs)) (drop-drop (length new) from page))
 
 -- ---- the relation
 module _ (m : Memory) (v : View) (k : Kept m v) (i g : ℕ) (x : Has m i g) where

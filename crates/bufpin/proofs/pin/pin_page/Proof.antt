@@ -1,5 +1,6 @@
 use borrow.Author.Needs.{needs}
 use denote.Ref.{now}
+use borrow.Author.Tests.{not-true, not-false}
 use native.Mathlib.Omega.{arith}
 use mathlib.Core.Path.{_≡_, sym, _∙_, ap}
 use mathlib.Core.List.{[]}
@@ -9,7 +10,9 @@ use Rattle.bufmodel.specs.Outcome.{Outcome}
 use Rattle.bufmodel.specs.Books.{emptyAt}
 use Rattle.bufmodel.specs.Answer.{pinnedOf}
 use Rattle.bufmodel.specs.Pin.{heldIn}
-use Rattle.bufmodel.proofs.SizesLaws.{rows-say}
+use Rattle.laws.proofs.Block.{block-in}
+use Rattle.bufmodel.proofs.RowsLaws.{place-in}
+use Rattle.bufmodel.proofs.SizesLaws.{rows-say, sized-least}
 use Rattle.bufmodel.proofs.GoodLaws.{Good, good-sized, good-sound}
 use Rattle.bufmodel.proofs.HeldLaws.{held-at}
 use Rattle.bufmem.specs.declared.seek.Sought as name
@@ -17,7 +20,7 @@ use Rattle.bufmem.specs.Seek.{sought}
 use Rattle.bufmodel.proofs.GoodLaws.{passed-good}
 use Rattle.bufmodel.proofs.AnsweredLaws.{promised, pin-answers}
 use Rattle.bufmem.proofs.SeekLaws.{name-at, looked-up}
-use Rattle.bufpin.proofs.PinLaws.{pin-early, pin-nameless, pin-held, pin-new}
+use Rattle.bufpin.proofs.PinLaws.{pin-early, pin-nameless, pin-held, pin-differs, pin-new}
 use Rattle.bufpin.proofs.pin.pin_page.Statement.{statement}
 use Rattle.bufpin.proofs.pin.pin_page.Tie as tie
 
@@ -114,14 +117,19 @@ enum-known-buffer c = search needs
 enum-told : tie.Need-enum-told
 enum-told c = search needs
 
-pin-new-requires : tie.Need-pin-new-requires
-pin-new-requires c κs =
-    let at-known-told2 = c .before .before .before .before .before .before .before .before .before .before .before .before .before in
+passes-block-requires : tie.Need-passes-block-requires
+passes-block-requires c κs =
+    let at-known-told2 = c .before .before .before .before .before .before .before in
     let at-if1 = at-known-told2 .before .before .before .before in
     let s = at-if1 .before .before .before .before .before .before .before .before .before .before .before .before .before .before in
-    let m = whole s in
     let k = good at-if1 in
-    (good-sized m k, good-sound m k, name-at (now (s .args .rows)) (s .args .name) [] (at at-known-told2) .0)
+    let place = name-at (now (s .args .rows)) (s .args .name) [] (at at-known-told2) .0 in
+    let l = place-in (now (s .args .rows)) (k .sizes .rows) (s .args .name) place in
+    let fits = block-in (s .args .control .size) _ _ (now (s .args .store)) (k .sizes .store) l in
+    (omega (arith, sized-least (k .sizes)), fits)
+
+pin-refused-requires-3 : tie.Need-pin-refused-requires-3
+pin-refused-requires-3 c κs = search needs
 
 same-length-8 : tie.Need-same-length-8
 same-length-8 c = search needs
@@ -146,29 +154,26 @@ same-length-14 c = search needs
 
 returns-2 : tie.Need-returns-2
 returns-2 c =
-    let at-pin-new = c .before .before .before .before .before .before .before .before .before .before .before in
-    let at-enum-told = at-pin-new .before .before .before .before .before .before .before .before in
+    let at-passes = c .before .before in
+    let at-enum-told = at-passes .before .before in
     let at-look-up = at-enum-told .before .before in
     let at-known-told2 = at-look-up .before .before .before .before in
     let at-if1 = at-known-told2 .before .before .before .before in
     let s = at-if1 .before .before .before .before .before .before .before .before .before .before .before .before .before .before in
-    let e = pin-new (whole s) (s .args .name) (good at-if1) (at at-known-told2) (held at-look-up ∙ at-enum-told .enum-told .given .1) in
-    promised (pin-answers _ _) (
-      at-pin-new .pin-new .ensures .0 ∙ ap pinnedOf (sym e),
-      at-pin-new .pin-new .ensures .1 ∙ ap (λ (o : Outcome). o .after) (sym e),
-    )
+    let none = held at-look-up ∙ at-enum-told .enum-told .given .1 in
+    let differs = sym (at-passes .passes-block .ensures) ∙ not-true _ (c .before .if2 .taken) in
+    rw (c .pin-refused3 .ensures)
+    (promised (pin-answers _ _) (pin-differs (whole s) (s .args .name) (good at-if1) (at at-known-told2) none differs))
 
-pin-held-requires : tie.Need-pin-held-requires
-unfolding emptyAt
-pin-held-requires c κs =
-    let at-look-up = c .before .before .before .before in
-    let at-if1 = at-look-up .before .before .before .before .before .before .before .before in
+pin-new-requires : tie.Need-pin-new-requires
+pin-new-requires c κs =
+    let at-if2 = c .before .before .before .before .before .before .before in
+    let at-known-told2 = at-if2 .before .before .before .before .before .before .before .before .before in
+    let at-if1 = at-known-told2 .before .before .before .before in
     let s = at-if1 .before .before .before .before .before .before .before .before .before .before .before .before .before .before in
     let m = whole s in
     let k = good at-if1 in
-    let b = c .before .before .buffer .given .0 .0 in
-    let h = held-at m (s .args .name) b (held at-look-up ∙ c .before .before .buffer .given .1) in
-    (h .0, k .books .words (b .0) (h .0), h .1)
+    (good-sized m k, good-sound m k, name-at (now (s .args .rows)) (s .args .name) [] (at at-known-told2) .0)
 
 same-length-15 : tie.Need-same-length-15
 same-length-15 c = search needs
@@ -193,13 +198,33 @@ same-length-21 c = search needs
 
 returns-3 : tie.Need-returns-3
 returns-3 c =
-    let t = c .before in
-    let at-seek = t .before .before .before in
-    let at-if1 = at-seek .before in
+    let at-pin-new = c .before .before .before .before .before .before .before .before .before .before .before in
+    let at-if2 = at-pin-new .before .before .before .before .before .before .before .before in
+    let at-passes = at-if2 .before in
+    let at-enum-told = at-passes .before .before in
+    let at-look-up = at-enum-told .before .before in
+    let at-known-told2 = at-look-up .before .before .before .before in
+    let at-if1 = at-known-told2 .before .before .before .before in
     let s = at-if1 .before .before .before .before .before .before .before .before .before .before .before .before .before .before in
-    rw (c .pin-refused2 .ensures)
-    (promised (pin-answers _ _)
-    (pin-nameless (whole s) (s .args .name) (good at-if1) (sym (at-seek .seek .ensures) ∙ t .before .sought .given .1)))
+    let none = held at-look-up ∙ at-enum-told .enum-told .given .1 in
+    let passes = sym (at-passes .passes-block .ensures) ∙ not-false _ (at-if2 .if2 .left) in
+    let e = pin-new (whole s) (s .args .name) (good at-if1) (at at-known-told2) none passes in
+    promised (pin-answers _ _) (
+      at-pin-new .pin-new .ensures .0 ∙ ap pinnedOf (sym e),
+      at-pin-new .pin-new .ensures .1 ∙ ap (λ (o : Outcome). o .after) (sym e),
+    )
+
+pin-held-requires : tie.Need-pin-held-requires
+unfolding emptyAt
+pin-held-requires c κs =
+    let at-look-up = c .before .before .before .before in
+    let at-if1 = at-look-up .before .before .before .before .before .before .before .before in
+    let s = at-if1 .before .before .before .before .before .before .before .before .before .before .before .before .before .before in
+    let m = whole s in
+    let k = good at-if1 in
+    let b = c .before .before .buffer .given .0 .0 in
+    let h = held-at m (s .args .name) b (held at-look-up ∙ c .before .before .buffer .given .1) in
+    (h .0, k .books .words (b .0) (h .0), h .1)
 
 same-length-22 : tie.Need-same-length-22
 same-length-22 c = search needs
@@ -224,6 +249,37 @@ same-length-28 c = search needs
 
 returns-4 : tie.Need-returns-4
 returns-4 c =
+    let t = c .before in
+    let at-seek = t .before .before .before in
+    let at-if1 = at-seek .before in
+    let s = at-if1 .before .before .before .before .before .before .before .before .before .before .before .before .before .before in
+    rw (c .pin-refused2 .ensures)
+    (promised (pin-answers _ _)
+    (pin-nameless (whole s) (s .args .name) (good at-if1) (sym (at-seek .seek .ensures) ∙ t .before .sought .given .1)))
+
+same-length-29 : tie.Need-same-length-29
+same-length-29 c = search needs
+
+same-length-30 : tie.Need-same-length-30
+same-length-30 c = search needs
+
+same-length-31 : tie.Need-same-length-31
+same-length-31 c = search needs
+
+same-length-32 : tie.Need-same-length-32
+same-length-32 c = search needs
+
+same-length-33 : tie.Need-same-length-33
+same-length-33 c = search needs
+
+same-length-34 : tie.Need-same-length-34
+same-length-34 c = search needs
+
+same-length-35 : tie.Need-same-length-35
+same-length-35 c = search needs
+
+returns-5 : tie.Need-returns-5
+returns-5 c =
     let at-buffer = c .before .before .before .before .before in
     let at-look-up = at-buffer .before .before in
     let at-known-told2 = at-look-up .before .before .before .before in
@@ -257,7 +313,8 @@ pin-page-spec =
     look-up-requires
     enum-known-buffer
     enum-told
-    pin-new-requires
+    passes-block-requires
+    pin-refused-requires-3
     same-length-8
     same-length-9
     same-length-10
@@ -266,7 +323,7 @@ pin-page-spec =
     same-length-13
     same-length-14
     returns-2
-    pin-held-requires
+    pin-new-requires
     same-length-15
     same-length-16
     same-length-17
@@ -275,6 +332,7 @@ pin-page-spec =
     same-length-20
     same-length-21
     returns-3
+    pin-held-requires
     same-length-22
     same-length-23
     same-length-24
@@ -282,4 +340,12 @@ pin-page-spec =
     same-length-26
     same-length-27
     same-length-28
-    returns-4)
+    returns-4
+    same-length-29
+    same-length-30
+    same-length-31
+    same-length-32
+    same-length-33
+    same-length-34
+    same-length-35
+    returns-5)
