@@ -133,7 +133,8 @@ BUFPOOL_RESULT uint32_t bufpool_read(
     uint64_t *answer, uint64_t answer_len);
 
 /* Copies bytes into a pinned buffer's page, from byte `from` on, sets the page's log position, and marks it dirty. Answers nothing.
-   Bytes 8 and 9 are the caller's only while the page is held: loaded again, it has its checksum there. Refuses with 1, 2, 7 to 12. */
+   Bytes 8 and 9 are the caller's only while the page is held: loaded again, it has its checksum there.
+   Refuses with 1, 2, 7, 8, 9, 10, 11, 12. */
 BUFPOOL_RESULT uint32_t bufpool_write(
     const uint64_t *control, uint64_t control_len, uint32_t *states, uint64_t states_len,
     const uint32_t *names, uint64_t names_len, uint8_t *pool, uint64_t pool_len, const int32_t *free, uint64_t free_len,
