@@ -141,16 +141,16 @@ static int blocks(struct bufpool *m)
     struct bufpool_pinned p;
     struct bufpool_part part;
     uint64_t written;
-    uint8_t *third = store + 3 * PAGE;
+    uint8_t *bad = store + 3 * PAGE;
     SEE(bufpool_write_buffer(m, first, BUFPOOL_POSITION_BYTES, own, sizeof own, 200) == BUFPOOL_DONE);
     SEE(bufpool_flush_buffer(m, first, &written) == BUFPOOL_DONE && written == 1);
     SEE(pool[8] == 77 && pool[9] == 78 && store[8] + 256u * store[9] == checksum(pool, 0) && memcmp(store + 10, pool + 10, PAGE - 10) == 0);
     SEE(store[PAGE + 8] + 256u * store[PAGE + 9] == checksum(store + PAGE, 1) && checksum(store + PAGE, 1) != checksum(store + PAGE, 0));
-    memcpy(third, store, PAGE); /* right as block 0 */
+    memcpy(bad, store, PAGE); /* right as block 0 */
     SEE(bufpool_pin_page(m, bufpool_name_of(table, 3), &p) == BUFPOOL_CHECKSUM && p.buffer.number == BUFPOOL_BUFFER_NONE);
     SEE(bufpool_peek_page(m, bufpool_name_of(table, 3), &part) == BUFPOOL_CHECKSUM && part.bytes == NULL && part.length == 0);
     SEE(bufpool_pin_page(m, bufpool_name_of(table, 4), &p) == BUFPOOL_NO_BLOCK);
-    memset(third, 0, PAGE);
+    memset(bad, 0, PAGE);
     store[100] ^= 1; /* a page that is held is not looked at in the store */
     SEE(bufpool_pin_page(m, bufpool_name_of(table, 0), &p) == BUFPOOL_DONE && p.hit && bufpool_unpin_buffer(m, first) == BUFPOOL_DONE);
     SEE(bufpool_peek_page(m, bufpool_name_of(table, 0), &part) == BUFPOOL_DONE && part.in_pool);
