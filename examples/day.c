@@ -31,17 +31,16 @@ static int all_zeros(const void *bytes, size_t length)
     return b[0] == 0 && memcmp(b, b + 1, length - 1) == 0;
 }
 
-enum { CHECKSUM_BYTES = 2 }; /* at the header's beginning, behind the log position */
-
 /* What stands before a page's lines. No page on the card may be further than the log on it. A page that was never written is zeros to
-   its end; any other has the header that came with its first line, but for a checksum, which head office's tools may have put there. */
+   its end; any other has the header that came with its first line, but for the checksum, which comes with each write-back. */
 static void check_top(const struct shop *shop, uint32_t block, const uint8_t top[LINE_BYTES], const struct line *lines)
 {
+    const size_t sum = BUFPOOL_CHECKSUM_BYTES;
     uint8_t rest[BUFPOOL_HEADER_REST];
     if (bufpool_page_position(top) > shop->card->position) stop("page %u is further than the card's log", block);
     if (all_zeros(top, LINE_BYTES) && all_zeros(lines, shop->page_lines * sizeof *lines)) return;
     sale_page_header(shop, rest);
-    if (memcmp(top + BUFPOOL_POSITION_BYTES + CHECKSUM_BYTES, rest + CHECKSUM_BYTES, sizeof rest - CHECKSUM_BYTES) != 0) {
+    if (memcmp(top + BUFPOOL_POSITION_BYTES + sum, rest + sum, sizeof rest - sum) != 0) {
         stop("page %u has no page header that a till writes", block);
     }
 }
@@ -49,7 +48,9 @@ static void check_top(const struct shop *shop, uint32_t block, const uint8_t top
 static void read_page(struct shop *shop, const char *who, uint32_t block, struct line *lines, struct bufpool_pinned *pinned)
 {
     uint8_t top[LINE_BYTES];
-    must(shop, "pin", shop_pin(shop, who, bufpool_name_of(receipts_file, block), pinned));
+    char call[32];
+    snprintf(call, sizeof call, "pin of page %u", block);
+    must(shop, call, shop_pin(shop, who, bufpool_name_of(receipts_file, block), pinned));
     must(shop, "read", bufpool_read_buffer(&shop->pool, pinned->buffer, 0, top, sizeof top));
     must(shop, "read", bufpool_read_buffer(&shop->pool, pinned->buffer, LINE_BYTES, (uint8_t *)lines, shop->page_lines * sizeof *lines));
     check_top(shop, block, top, lines);

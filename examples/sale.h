@@ -9,7 +9,8 @@ enum { LINE_BYTES = 64, HELD_PAGES = 8 };
 enum line_kind { LINE_NONE = 0, LINE_SOLD = 1, LINE_VOID = 2 };
 
 /* A line as it is on a page, little-endian. Line k begins at byte 64 * (k + 1). The first 64 bytes are PostgreSQL's page header of 24, so
-   that its tools take the page, and 40 that stay 0: the log position, which the pool writes; then the 16 that sale_page_header makes.
+   that its tools take the page, and 40 that stay 0: the log position, which the pool writes; then the 16 that sale_page_header makes, of
+   which the first two are the checksum, which the pool puts into the store's block at each write-back.
    A block of zeros has no lines; PostgreSQL takes it for a new page. */
 struct line {
     uint32_t kind, till, receipt;

@@ -5,7 +5,8 @@
    the day has several such mornings, and more pages.
 
    Each till does a step of its morning in its turn. One that is refused a page with 6 stays at its step and asks again in its next
-   turn, after others have given pages back. Any other refusal is a mistake in this program or a damaged card: it stops with the reason. */
+   turn, after others have given pages back. Any other refusal is a mistake in this program or a damaged card, of which 17 says that a page
+   has changed on it since it was written back: it stops with the reason. */
 #define _DEFAULT_SOURCE
 #include <stdlib.h>
 #include <string.h>

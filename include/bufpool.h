@@ -192,8 +192,8 @@ BUFPOOL_INLINE uint64_t bufpool_page_position(const uint8_t *page)
 #define BUFPOOL_HEADER_BYTES 24
 #define BUFPOOL_HEADER_REST (BUFPOOL_HEADER_BYTES - BUFPOOL_POSITION_BYTES)
 
-/* Those 16 bytes: checksum and flags 0; lower, where free room begins; upper, where the till's own bytes do, above 0; special, where they
-   end, at most P and a multiple of 8; size and version, P + 4; prune number 0. */
+/* Those 16 bytes: checksum 0, which each write-back sets in the store; flags 0; lower, where free room begins; upper, where the till's own
+   bytes do, above 0; special, where they end, at most P and a multiple of 8; size and version, P + 4; prune number 0. */
 static inline void bufpool_page_header(uint8_t *rest, uint64_t page_size, uint64_t lower, uint64_t upper, uint64_t special)
 {
     const uint64_t words[BUFPOOL_HEADER_REST / 2] = {0, 0, lower, upper, special, page_size + 4, 0, 0};

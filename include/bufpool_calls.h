@@ -1,5 +1,5 @@
-/* The twelve calls of the page pool as libbufpool.a has them (x86-64 Linux), and the numbers that go with them. bufpool.h includes this
-   page and has a helper for each call; a program calls these functions itself only where it has no struct bufpool.
+/* The twelve calls of the page pool as libbufpool.a has them (x86-64 Linux), the checksum of a page, and the numbers that go with them.
+   bufpool.h includes this page and has a helper for each call; a program calls these functions itself only where it has no struct bufpool.
 
    Each of the twelve calls takes all the lent memory first, then its own arguments, then the slice of four words in which it answers.
    The result is 0 if the call is accepted, else the number of the refusal: then the four words are 0 and nothing else has changed.
@@ -36,15 +36,17 @@ extern "C" {
 
 /* The number of this interface. It changes with every change after which a program has to be compiled again; the library has one symbol
    that carries its number, and each helper refers to it, so that an object of another interface does not link. */
-#define BUFPOOL_INTERFACE 1
-#define BUFPOOL_INTERFACE_SYMBOL bufpool_interface_1
+#define BUFPOOL_INTERFACE 2
+#define BUFPOOL_INTERFACE_SYMBOL bufpool_interface_2
 
-/* What a call results in: 0, or the first of these whose condition holds, in this order. */
+/* What a call results in: 0, or the first of these whose condition holds, in this order. From 17 on numbers are out of order: a later
+   refusal has the next number, and stands where it is checked. */
 #define BUFPOOL_DONE 0
 #define BUFPOOL_SIZES 1           /* all calls: a length, the block size or a file row breaks a rule */
 #define BUFPOOL_BOOKS 2           /* all but set up: words, links, names and positions do not fit together */
 #define BUFPOOL_NO_FILE 3         /* pin, peek, extend, drop: no row has these four numbers */
 #define BUFPOOL_NO_BLOCK 4        /* pin, peek: the file has not so many blocks */
+#define BUFPOOL_CHECKSUM 17       /* pin, peek of a page that is not held: its block is not zeros, and has another checksum */
 #define BUFPOOL_PIN_COUNT 5       /* pin of a page that is held: its pin count is the greatest, 262143 */
 #define BUFPOOL_ALL_PINNED 6      /* pin of a page that is not held: every buffer is pinned */
 #define BUFPOOL_NO_BUFFER 7       /* unpin, read, write, flush: there are not so many buffers */
@@ -89,6 +91,7 @@ extern "C" {
 #define BUFPOOL_MAX_PINS 262143
 #define BUFPOOL_MAX_USAGE 5
 #define BUFPOOL_POSITION_BYTES 8 /* a page begins with its log position: high word, then low word; writes begin behind it */
+#define BUFPOOL_CHECKSUM_BYTES 2 /* behind it, in the store: the page's checksum, low byte first */
 
 /* A buffer number that every call refuses with 7, and a block number that pin and peek refuse with 4. */
 #define BUFPOOL_BUFFER_NONE UINT64_MAX
@@ -106,7 +109,7 @@ BUFPOOL_RESULT BUFPOOL_LENGTH_ONLY(7) BUFPOOL_LENGTH_ONLY(17) uint32_t bufpool_s
     uint64_t page_size, uint64_t position, uint64_t *answer, uint64_t answer_len);
 
 /* Pins a page. Answers its buffer, 1 for a hit or 0 for loaded, 1 if a victim was written back, the probes of the sweep.
-   Refuses with 1 to 6. */
+   Refuses with 1, 2, 3, 4, 17, 5, 6. */
 BUFPOOL_RESULT uint32_t bufpool_pin(
     uint64_t *control, uint64_t control_len, uint32_t *states, uint64_t states_len, uint32_t *names, uint64_t names_len,
     uint8_t *pool, uint64_t pool_len, int32_t *free, uint64_t free_len, int32_t *heads, uint64_t heads_len,
@@ -130,7 +133,8 @@ BUFPOOL_RESULT uint32_t bufpool_read(
     uint64_t *answer, uint64_t answer_len);
 
 /* Copies bytes into a pinned buffer's page, from byte `from` on, sets the page's log position, and marks it dirty. Answers nothing.
-   Refuses with 1, 2, 7 to 12. */
+   Bytes 8 and 9 are the caller's only while the page is held: loaded again, it has its checksum there.
+   Refuses with 1, 2, 7, 8, 9, 10, 11, 12. */
 BUFPOOL_RESULT uint32_t bufpool_write(
     const uint64_t *control, uint64_t control_len, uint32_t *states, uint64_t states_len,
     const uint32_t *names, uint64_t names_len, uint8_t *pool, uint64_t pool_len, const int32_t *free, uint64_t free_len,
@@ -152,7 +156,8 @@ BUFPOOL_RESULT uint32_t bufpool_checkpoint(
     const int32_t *chain, uint64_t chain_len, const uint32_t *rows, uint64_t rows_len, uint8_t *store, uint64_t store_len,
     uint64_t *answer, uint64_t answer_len);
 
-/* Says where a page's P bytes lie. Answers 1 for the pool or 0 for the store, and a byte offset in it. Refuses with 1 to 4. */
+/* Says where a page's P bytes lie. Answers 1 for the pool or 0 for the store, and a byte offset in it.
+   Refuses with 1, 2, 3, 4, 17. */
 BUFPOOL_RESULT uint32_t bufpool_peek(
     const uint64_t *control, uint64_t control_len, const uint32_t *states, uint64_t states_len,
     const uint32_t *names, uint64_t names_len, const uint8_t *pool, uint64_t pool_len, const int32_t *free, uint64_t free_len,
@@ -192,6 +197,12 @@ BUFPOOL_RESULT uint32_t bufpool_log_flushed(
     const uint32_t *names, uint64_t names_len, const uint8_t *pool, uint64_t pool_len, const int32_t *free, uint64_t free_len,
     const int32_t *heads, uint64_t heads_len, const int32_t *chain, uint64_t chain_len, const uint32_t *rows, uint64_t rows_len,
     const uint8_t *store, uint64_t store_len, uint64_t position, uint64_t *answer, uint64_t answer_len);
+
+/* The checksum of a page as the block of that number in its file: PostgreSQL's, of checksum_impl.h, over P bytes, of which 8 and 9 count as
+   zeros. It is what a write-back puts into bytes 8 and 9 of the store's block, unless the page is all zeros. It takes no pool. Answers
+   the checksum, 1 to 65535. Refuses with 1, and leaves the answer as it was, at a page_len that no block size is, and at an answer of
+   another length than four. */
+BUFPOOL_RESULT uint32_t bufpool_checksum(const uint8_t *page, uint64_t page_len, uint32_t block, uint64_t *answer, uint64_t answer_len);
 
 #ifdef __cplusplus
 }

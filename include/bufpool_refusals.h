@@ -12,14 +12,15 @@ extern "C" {
 #define BUFPOOL_KIND_DONE 0
 #define BUFPOOL_KIND_ASK_AGAIN 1 /* 5, 6, 14: others have pins; later, when some were given back, the same call may pass */
 #define BUFPOOL_KIND_MISTAKE 2   /* a mistake in the till program, or a file that is full: asking again changes nothing */
-#define BUFPOOL_KIND_DAMAGE 3    /* 1, 2: the lent memory is not a pool's; bufpool_why.h says what is wrong with it */
+#define BUFPOOL_KIND_DAMAGE 3    /* 1, 2: the lent memory is not a pool's; bufpool_why.h says what is wrong with it; 17: a block of the
+                                    store is damaged, or has no checksum yet; the pool is sound, and goes on with other pages */
 
 struct bufpool_refusal {
     int kind;
     const char *name, *words;
 };
 
-/* The entry of a number: its name in bufpool_calls.h, and its meaning. */
+/* The entry of a number: its name in bufpool_calls.h, and its meaning. They stand here by number. */
 BUFPOOL_INLINE const struct bufpool_refusal *bufpool_refusal_of(uint32_t refusal)
 {
     static const struct bufpool_refusal all[] = {
@@ -40,6 +41,7 @@ BUFPOOL_INLINE const struct bufpool_refusal *bufpool_refusal_of(uint32_t refusal
         {BUFPOOL_KIND_ASK_AGAIN, "BUFPOOL_FILE_PINNED", "a page of the file is pinned"},
         {BUFPOOL_KIND_MISTAKE, "BUFPOOL_LOG_SHORTER", "the log is inserted further already"},
         {BUFPOOL_KIND_MISTAKE, "BUFPOOL_FLUSHED_BEYOND", "the log cannot be flushed further than it is inserted"},
+        {BUFPOOL_KIND_DAMAGE, "BUFPOOL_CHECKSUM", "the block in the store does not have its checksum"},
         {BUFPOOL_KIND_MISTAKE, "unknown", "not a result of these calls"},
     };
     const uint32_t known = sizeof all / sizeof *all - 1;
@@ -58,12 +60,15 @@ BUFPOOL_INLINE int bufpool_refusal_kind(uint32_t refusal) { return bufpool_refus
 /* What to do about it, for messages. */
 BUFPOOL_INLINE const char *bufpool_refusal_advice(uint32_t refusal)
 {
-    switch (bufpool_refusal_kind(refusal)) {
-    case BUFPOOL_KIND_DONE: return "go on";
-    case BUFPOOL_KIND_ASK_AGAIN: return "ask again when pins have been given back";
-    case BUFPOOL_KIND_DAMAGE: return "stop: the lent memory is damaged, or was lent wrongly";
-    default: return "mend the till program or its set-up: asking again changes nothing";
-    }
+    /* by kind; then for a block */
+    static const char *const all[] = {
+        "go on",
+        "ask again when pins have been given back",
+        "mend the till program or its set-up: asking again changes nothing",
+        "stop: the lent memory is damaged, or was lent wrongly",
+        "head office's tool goes over the file (pg_checksums), or the file is dropped",
+    };
+    return all[refusal == BUFPOOL_CHECKSUM ? BUFPOOL_KIND_DAMAGE + 1 : bufpool_refusal_kind(refusal)];
 }
 
 #ifdef __cplusplus

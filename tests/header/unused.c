@@ -75,6 +75,7 @@ void unused_calls(struct bufpool *m, struct bufpool_file f, uint8_t *bytes)
     bufpool_drop(BUFPOOL_LENT(m), f.tablespace, f.database, f.relation, f.fork, ANSWER);           /* unused */
     bufpool_log_inserted(BUFPOOL_LENT(m), 100, ANSWER);                                            /* unused */
     bufpool_log_flushed(BUFPOOL_LENT(m), 100, ANSWER);                                             /* unused */
+    bufpool_checksum(bytes, 1024, 0, ANSWER);                                                      /* unused */
     BUFPOOL_INTERFACE_SYMBOL();                                                                    /* unused */
     bufbooks_check(BUFPOOL_LENT(m), ANSWER);                                                       /* unused */
     buftag_hash(f.tablespace, f.database, f.relation, f.fork, 0);                                  /* unused */

@@ -93,10 +93,68 @@ static int bytes(struct bufpool *m)
     SEE(bufpool_checkpoint_pool(m, &written) == BUFPOOL_DONE && written == 0);
     SEE(bufpool_log_inserted_to(m, 99) == BUFPOOL_LOG_SHORTER && bufpool_log_inserted_to(m, 200) == BUFPOOL_DONE);
     SEE(bufpool_log_flushed_to(m, 201) == BUFPOOL_FLUSHED_BEYOND && bufpool_log_flushed_to(m, 150) == BUFPOOL_DONE);
-    SEE(bufpool_write_buffer(m, first, 8, word, 4, 200) == BUFPOOL_DONE);
-    SEE(bufpool_write_buffer(m, second, 8, word, 4, 200) == BUFPOOL_DONE);
+    SEE(bufpool_write_buffer(m, first, 10, word, 4, 200) == BUFPOOL_DONE);
+    SEE(bufpool_write_buffer(m, second, 10, word, 4, 200) == BUFPOOL_DONE);
     SEE(bufpool_checkpoint_pool(m, &written) == BUFPOOL_DONE && written == 2);
-    SEE(bufpool_inserted(m) == 200 && bufpool_flushed(m) == 200 && memcmp(store + 8, word, 4) == 0);
+    SEE(bufpool_inserted(m) == 200 && bufpool_flushed(m) == 200 && memcmp(store + 10, word, 4) == 0);
+    return 0;
+}
+
+/* The checksum of a page as a block, or 0. */
+static uint64_t checksum(const uint8_t *page, uint32_t block)
+{
+    uint64_t answer[BUFPOOL_ANSWER_WORDS] = {9, 9, 9, 9};
+    if (bufpool_checksum(page, PAGE, block, answer, BUFPOOL_ANSWER_WORDS) != BUFPOOL_DONE) return 0;
+    return answer[1] == 0 && answer[2] == 0 && answer[3] == 0 ? answer[0] : 0;
+}
+
+/* what PostgreSQL's header says of some pages, and what is no page or no answer */
+static int checksums(void)
+{
+    static uint8_t page[65536];
+    uint64_t answer[BUFPOOL_ANSWER_WORDS] = {9, 9, 9, 9};
+    size_t k;
+    SEE(checksum(page, 0) == 35928);
+    for (k = 0; k < sizeof page; k++) page[k] = (uint8_t)((7 * k + 3) % 251);
+    SEE(checksum(page, 0) == 6928 && checksum(page, 1) == 6927);
+    page[8] ^= 255;
+    page[9] ^= 255;
+    SEE(checksum(page, 0) == 6928);
+    memset(page, 255, sizeof page);
+    SEE(checksum(page, 65535) == 16265);
+    for (k = 0; k < sizeof page; k++) page[k] = (uint8_t)((13 * k + 1) % 251);
+    SEE(checksum(page, BUFPOOL_BLOCK_NONE) == 24463);
+    SEE(bufpool_checksum(page, 32768, 0, answer, BUFPOOL_ANSWER_WORDS) == BUFPOOL_DONE && answer[0] == 50611);
+    SEE(bufpool_checksum(page, 512, 0, answer, BUFPOOL_ANSWER_WORDS) == BUFPOOL_SIZES && answer[0] == 50611);
+    SEE(bufpool_checksum(page, 1025, 0, answer, BUFPOOL_ANSWER_WORDS) == BUFPOOL_SIZES && answer[0] == 50611);
+    SEE(bufpool_checksum(page, 65536, 0, answer, BUFPOOL_ANSWER_WORDS) == BUFPOOL_SIZES && answer[0] == 50611);
+    SEE(bufpool_checksum(page, 1024, 0, answer, BUFPOOL_ANSWER_WORDS - 1) == BUFPOOL_SIZES && answer[0] == 50611);
+    return 0;
+}
+
+/* Blocks 0 and 1 were written back, 2 and 3 are zeros; buffers 0 and 1 are pinned. The store has checksums, the pool the caller's bytes;
+   a block that is not held is refused if its own differs. */
+static int blocks(struct bufpool *m)
+{
+    static const uint8_t own[BUFPOOL_CHECKSUM_BYTES] = {77, 78};
+    struct bufpool_buffer first = {0};
+    struct bufpool_pinned p;
+    struct bufpool_part part;
+    uint64_t written;
+    uint8_t *bad = store + 3 * PAGE;
+    SEE(bufpool_write_buffer(m, first, BUFPOOL_POSITION_BYTES, own, sizeof own, 200) == BUFPOOL_DONE);
+    SEE(bufpool_flush_buffer(m, first, &written) == BUFPOOL_DONE && written == 1);
+    SEE(pool[8] == 77 && pool[9] == 78 && store[8] + 256u * store[9] == checksum(pool, 0) && memcmp(store + 10, pool + 10, PAGE - 10) == 0);
+    SEE(store[PAGE + 8] + 256u * store[PAGE + 9] == checksum(store + PAGE, 1) && checksum(store + PAGE, 1) != checksum(store + PAGE, 0));
+    memcpy(bad, store, PAGE); /* right as block 0 */
+    SEE(bufpool_pin_page(m, bufpool_name_of(table, 3), &p) == BUFPOOL_CHECKSUM && p.buffer.number == BUFPOOL_BUFFER_NONE);
+    SEE(bufpool_peek_page(m, bufpool_name_of(table, 3), &part) == BUFPOOL_CHECKSUM && part.bytes == NULL && part.length == 0);
+    SEE(bufpool_pin_page(m, bufpool_name_of(table, 4), &p) == BUFPOOL_NO_BLOCK);
+    memset(bad, 0, PAGE);
+    store[100] ^= 1; /* a page that is held is not looked at in the store */
+    SEE(bufpool_pin_page(m, bufpool_name_of(table, 0), &p) == BUFPOOL_DONE && p.hit && bufpool_unpin_buffer(m, first) == BUFPOOL_DONE);
+    SEE(bufpool_peek_page(m, bufpool_name_of(table, 0), &part) == BUFPOOL_DONE && part.in_pool);
+    store[100] ^= 1;
     return 0;
 }
 
@@ -135,5 +193,5 @@ static int refusals(struct bufpool *m)
 int main(void)
 {
     struct bufpool m = lend();
-    return helpers() || pins(&m) || bytes(&m) || files(&m) || refusals(&m);
+    return helpers() || pins(&m) || bytes(&m) || checksums() || blocks(&m) || files(&m) || refusals(&m);
 }

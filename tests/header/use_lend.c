@@ -110,14 +110,18 @@ static int headers(void)
 
 static int refusals(void)
 {
-    static const char kinds[] = "03322112222222122"; /* of 0 to 16: 0 done, 1 ask again, 2 mistake, 3 damage */
+    static const char kinds[] = "033221122222221223"; /* of 0 to 17: 0 done, 1 ask again, 2 mistake, 3 damage */
     uint32_t k, j;
-    for (k = 0; k <= BUFPOOL_FLUSHED_BEYOND; k++) {
+    for (k = 0; kinds[k] != 0; k++) {
         SEE(bufpool_refusal_kind(k) == kinds[k] - '0' && strcmp(bufpool_refusal_name(k), "unknown") != 0);
         for (j = 0; j < k; j++) SEE(strcmp(bufpool_refusal_words(k), bufpool_refusal_words(j)) != 0);
-        for (j = 0; j < k; j++) SEE((strcmp(bufpool_refusal_advice(k), bufpool_refusal_advice(j)) == 0) == (kinds[j] == kinds[k]));
+        for (j = 0; j < k; j++) { /* damage to a block has advice of its own */
+            int same = kinds[j] == kinds[k] && k != BUFPOOL_CHECKSUM;
+            SEE((strcmp(bufpool_refusal_advice(k), bufpool_refusal_advice(j)) == 0) == same);
+        }
     }
-    SEE(strcmp(bufpool_refusal_name(k), "unknown") == 0 && bufpool_refusal_kind(UINT32_MAX) == BUFPOOL_KIND_MISTAKE);
+    SEE(k == BUFPOOL_CHECKSUM + 1 && strcmp(bufpool_refusal_name(k), "unknown") == 0);
+    SEE(bufpool_refusal_kind(k) == BUFPOOL_KIND_MISTAKE && bufpool_refusal_kind(UINT32_MAX) == BUFPOOL_KIND_MISTAKE);
     return 0;
 }
 

@@ -1,7 +1,7 @@
 /* pools wide       prints a pool of 128 buffers of which one is in use
    pools runs       prints one whose free list is long and has no rising runs, with a name for one file
    pools dump FILE  writes two pools' snapshots, step by step, to one file
-   pools told FILE  writes one pool's, of pages that go and of damage that comes and goes
+   pools told FILE  writes one pool's, of pages that go, of a block that is damaged, and of damage that comes and goes
    pools full       status 0 if a dump on a full device results in -1 */
 #include <stdlib.h>
 
@@ -154,6 +154,13 @@ static void page_between(struct day *day)
     pin(day, "several steps in one: till 1", table_file, 0, BUFPOOL_DONE);
 }
 
+/* A block changes on the card: its pin is refused before a buffer is sought, though the only one is pinned. */
+static void block_changes(struct day *day)
+{
+    day->m.store[bufpool_page_size(&day->m) + 100] ^= 1;
+    pin(day, "its block has changed: till 2", table_file, 1, BUFPOOL_CHECKSUM);
+}
+
 static void damage_comes(struct day *day)
 {
     day->m.rows[BUFPOOL_ROW_AT_CAPACITY]++;
@@ -180,6 +187,7 @@ static void write_told(const char *path)
     see(day.dump != NULL, "a file for the dump");
     pages_go(&day);
     page_between(&day);
+    block_changes(&day);
     damage_comes(&day);
     see(fclose(day.dump) == 0, "the dump is closed");
     give_back(&day.m);
