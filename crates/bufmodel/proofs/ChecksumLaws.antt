@@ -4,14 +4,14 @@ use mathlib.Core.Path.{_≡_, refl, sym, ap, ap₂, _∙_, subst}
 use mathlib.Core.Bool.{Bool, true, false, cond, _||_, or-false}
 use mathlib.Core.Logic.{_≢_, ⊎-elim}
 use mathlib.Core.List.{List, [], _∷_, _++_}
-use lib.ListN.{getD, length, take, drop, replicate, take-append-drop}
-use lib.Seq.{length-take-le}
+use lib.ListN.{getD, length, take, drop, replicate, take-append-drop, length-take}
+use lib.Seq.{length-take-le, getD-take}
 use lib.Dec.{eqb, ltb}
 use lib.Bits.{bitXor}
 use native.Mathlib.Omega.{arith}
 use borrow.Author.Tests.{ne-eqb, eq-eqb, eqb-true, ltb-true}
 use Rattle.laws.specs.Every.{all}
-use Rattle.laws.proofs.Tests.{and-true, and-left, and-right, same-tests, true-or-false}
+use Rattle.laws.proofs.Tests.{and-true, and-left, and-right, same-tests, true-or-false, never}
 use Rattle.laws.proofs.Every.{all-at, all-of}
 use Rattle.laws.proofs.Lists.{listed, take-listed, getD-replicate-all}
 use Rattle.bufmodel.specs.Position.{position, positionBytes, paste, written}
@@ -152,6 +152,13 @@ zero-every page =
     same-tests (allZero page) (all (length page) here)
     (λ t. all-of here (length page) (λ k l. eq-eqb (getD page k 0) 0 (zero-at page t k)))
     (λ t. zero-of page (λ k l. eqb-true (getD page k 0) 0 (all-at here (length page) t k l)))
+
+-- a page whose first bytes are not all zeros is not
+zero-first : (n : ℕ) (page : List ℕ) → allZero page ≡ true → allZero (take n page) ≡ true
+zero-first n page h = zero-of (take n page) (λ k l. getD-take n page k 0 (omega (arith, length-take n page)) ∙ zero-at page h k)
+
+pub zero-not : (n : ℕ) (page : List ℕ) → allZero (take n page) ≡ false → allZero page ≡ false
+zero-not n page h = ⊎-elim (λ t. never (zero-first n page t) h) (λ f. f) (true-or-false (allZero page))
 
 -- ---- a page as it goes to the store, and as it passes
 module _ (b : ℕ) (page : List ℕ) where

@@ -95,14 +95,18 @@ pub permitted-says : (p : ℕ) → Says (permitted p) (OneOf blockSizes p)
 unfolding permitted
 permitted-says p = says-as (times-one p blockSizes) (one-times p blockSizes) (says-lt _ _)
 
--- the least and the greatest: a page has room for its log position
-pub permitted-fits : {p : ℕ} → permitted p ≡ true → (8 ≤ p) × (p ≤ 32768)
-permitted-fits {p} h =
+-- the least and the greatest
+pub permitted-within : {p : ℕ} → permitted p ≡ true → (1024 ≤ p) × (p ≤ 32768)
+permitted-within {p} h =
     ⊎-elim (λ e. (omega arith, omega arith))
     (⊎-elim (λ e. (omega arith, omega arith))
     (⊎-elim (λ e. (omega arith, omega arith))
     (⊎-elim (λ e. (omega arith, omega arith)) (⊎-elim (λ e. (omega arith, omega arith)) (λ e. (omega arith, omega arith))))))
     (permitted-says p .holds h)
+
+-- a page has room for its log position
+pub permitted-fits : {p : ℕ} → permitted p ≡ true → (8 ≤ p) × (p ≤ 32768)
+permitted-fits h = let w = permitted-within h in (omega (arith, w .0), w .1)
 
 pub permitted-sized : {p : ℕ} {m : Memory} → SizedFor p m → permitted p ≡ true
 unfolding permitted
@@ -111,11 +115,6 @@ permitted-sized s = lt-ltb _ _ (s .permitted)
 pub sized-page : {p : ℕ} {m : Memory} → SizedFor p m → (8 ≤ p) × (p ≤ 32768)
 sized-page s = permitted-fits (permitted-sized s)
 
--- a page has a row of words at least
+-- and for a row of the checksum's words
 pub sized-least : {p : ℕ} {m : Memory} → SizedFor p m → 1024 ≤ p
-sized-least {p} s =
-    ⊎-elim (λ e. omega arith)
-    (⊎-elim (λ e. omega arith)
-    (⊎-elim (λ e. omega arith)
-    (⊎-elim (λ e. omega arith) (⊎-elim (λ e. omega arith) (λ e. omega arith)))))
-    (permitted-says p .holds (permitted-sized s))
+sized-least s = permitted-within (permitted-sized s) .0

@@ -291,6 +291,9 @@ sumCases =
     ∷ case unmarked (seen damaged three (block 3 ∷ peek 3 ∷ block 4 ∷ [])) (only 17 ∷ only 17 ∷ only 4 ∷ [])
     ∷ case unmarked
     (seen damaged (Drop file ∷ replicate 4 (Extend file)) (block 3 ∷ peek 3 ∷ [])) (at 0 0 ∷ (0 ∷ 1 ∷ 0 ∷ 0 ∷ 0 ∷ []) ∷ [])
+    -- A page that is held is not verified, whatever its block has become
+    ∷ case unmarked (answers (withStore (damaged .store) (after bench (block 3 ∷ []))) (block 3 ∷ peek 3 ∷ []))
+    ((0 ∷ 0 ∷ 1 ∷ 0 ∷ 0 ∷ []) ∷ (0 ∷ 1 ∷ 0 ∷ 0 ∷ 0 ∷ []) ∷ [])
     ∷ []
 
 unfoldable pub cases : List Case

@@ -1,3 +1,4 @@
 pub mod AnswerLaws
 pub mod ExportLaws
 pub mod CallLaws
+pub mod ChecksumLaws

@@ -95,6 +95,10 @@ words-are : (a b c d : ℕ) (xs : List ℕ) → wordsIn (a ∷ b ∷ c ∷ d ∷
 unfolding wordsIn
 words-are a b c d xs = ap (λ (w : ℕ). w ∷ wordsIn xs) (omega arith)
 
+no-words : wordsIn [] ≡ []
+unfolding wordsIn
+no-words = refl
+
 module _ (ws : List ℕ) (j : ℕ) where
   sum-start : sumTo ws j 0 ≡ getD sumStarts j 0
   unfolding sumTo
@@ -201,6 +205,7 @@ numbers =
       starts = (refl, refl);
       round = round-is;
       words = words-are;
+      noWords = no-words;
       sumStart = sum-start;
       sumRow = sum-row;
       sumEnd = sum-end;

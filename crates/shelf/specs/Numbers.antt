@@ -155,6 +155,7 @@ pub record Numbers : Type 0 where
   -- words are little-endian in bytes
   pub words : (a b c d : ℕ) (xs : List ℕ)
       → wordsIn (a ∷ b ∷ c ∷ d ∷ xs) ≡ (a + b * 256 + c * 65536 + d * 16777216) ∷ wordsIn xs
+  pub noWords : wordsIn [] ≡ []
   -- each row has a word for each sum; then two rounds of zeros
   pub sumStart : (ws : List ℕ) (j : ℕ) → sumTo ws j 0 ≡ getD sumStarts j 0
   pub sumRow : (ws : List ℕ) (j i : ℕ) → sumTo ws j (suc i) ≡ mixSum (getD ws (i * 32 + j) 0) (sumTo ws j i)
