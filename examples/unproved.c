@@ -12,12 +12,14 @@
 #define plain_drop bufpool_drop
 #define plain_log_inserted bufpool_log_inserted
 #define plain_log_flushed bufpool_log_flushed
+#define plain_checksum bufpool_checksum
 
 /* set up hands pool and store to the check, which ends before it comes to their bytes; gcc cannot see that */
 #if defined(__GNUC__) && !defined(__clang__)
 #pragma GCC diagnostic ignored "-Wmaybe-uninitialized"
 #endif
 #include "../bench/calls/plain.c"
+#include "../bench/checksum/plain.c"
 
 uint32_t BUFPOOL_INTERFACE_SYMBOL(void)
 {

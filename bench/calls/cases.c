@@ -1,4 +1,5 @@
 #include "cases.h"
+#include "../checksum/plain.h"
 #include "plain.h"
 #include <stdio.h>
 #include <stdlib.h>
@@ -135,10 +136,11 @@ static uint32_t set_up(const struct side *side, struct pool *pool, size_t k)
 /* unless a case says more, every buffer has a clean page, no pins and usage 0, and is set back for each call */
 const struct bench_case bench_cases[] = {
     {.name = "pin, hit", .call = pin_held, .kind = STILL, IN_USE},
-    {.name = "pin, free buffer", .call = pin_other, .kind = MISS, .batch = QUARTER, .empty = 1},
-    {.name = "pin, clean victim", .call = pin_other, .kind = MISS, .dirty = DIRTY_NEXT, .batch = QUARTER, .all_sizes = 1},
-    {.name = "pin, dirty victim", .call = pin_other, .kind = MISS, .dirty = DIRTY_HAND, .batch = QUARTER},
-    {.name = "pin, longest sweep", .call = pin_other, .kind = MISS, .usage = MOST_USAGE, .dirty = DIRTY_NEXT, .batch = ONE},
+    {.name = "pin, free buffer", .call = pin_other, .kind = SUMMED, .batch = QUARTER, .empty = 1},
+    {.name = "pin, clean victim", .call = pin_other, .kind = SUMMED, .dirty = DIRTY_NEXT, .batch = QUARTER, .all_sizes = 1},
+    {.name = "pin, block of zeros", .call = pin_other, .kind = SUMMED, .dirty = DIRTY_NEXT, .batch = QUARTER, .all_sizes = 1, .zeros = 1},
+    {.name = "pin, dirty victim", .call = pin_other, .kind = SUMMED, .dirty = DIRTY_HAND, .batch = QUARTER, .all_sizes = 1},
+    {.name = "pin, longest sweep", .call = pin_other, .kind = SUMMED, .usage = MOST_USAGE, .dirty = DIRTY_NEXT, .batch = ONE},
     {.name = "unpin", .call = unpin, .kind = STILL, .pins = 100000, .usage = 3, .dirty = DIRTY_NEXT, .batch = ANY_NUMBER},
     {.name = "read 64 bytes", .call = read_some, .kind = STILL, .span = 64, IN_USE},
     {.name = "read 1 KiB", .call = read_some, .span = 1024, IN_USE},
@@ -148,11 +150,12 @@ const struct bench_case bench_cases[] = {
     {.name = "write 1 KiB", .call = write_some, .span = 1024, IN_USE},
     {.name = "write 4,000 bytes", .call = write_some, .span = 4000, IN_USE},
     {.name = "write a whole page", .call = write_some, .span = WHOLE, IN_USE},
-    {.name = "flush", .call = flush, .pins = 1, .usage = 3, .dirty = DIRTY_NEXT, .batch = QUARTER},
+    {.name = "flush", .call = flush, .kind = SUMMED, .all_sizes = 1, .pins = 1, .usage = 3, .dirty = DIRTY_NEXT, .batch = QUARTER},
     {.name = "checkpoint, all clean", .call = checkpoint, .kind = STILL, .pins = 1, .usage = 3, .batch = ANY_NUMBER},
-    {.name = "checkpoint, N / 4 dirty", .call = checkpoint, .pins = 1, .usage = 3, .dirty = DIRTY_NEXT, .batch = ONE},
+    {.name = "checkpoint, N / 4 dirty", .call = checkpoint, .kind = SUMMED, .pins = 1, .usage = 3, .dirty = DIRTY_NEXT, .batch = ONE},
     {.name = "peek, held", .call = peek_held, .kind = STILL, IN_USE},
-    {.name = "peek, not held", .call = peek_other, .kind = STILL, IN_USE},
+    {.name = "peek, not held", .call = peek_other, .kind = SUMMED, .all_sizes = 1, IN_USE},
+    {.name = "peek, block of zeros", .call = peek_other, .kind = SUMMED, .all_sizes = 1, .zeros = 1, IN_USE},
     {.name = "extend", .call = extend, .pins = 1, .usage = 3, .dirty = DIRTY_NEXT, .batch = QUARTER},
     {.name = "drop", .call = drop, .usage = 3, .dirty = DIRTY_NEXT, .batch = FOR_EACH_FILE},
     {.name = "log inserted", .call = log_inserted, .kind = STILL, IN_USE},
@@ -232,6 +235,30 @@ void pool_new(struct pool *pool, const struct bench_shape *shape, int pages_move
     note_held(pool);
     note_others(pool);
     keep(pool);
+}
+
+/* Any bytes behind a log position, with their checksum. */
+static void fill_block(uint8_t *at, size_t size, uint32_t block, uint64_t position)
+{
+    for (size_t k = 0; k < size; k += WORD_BYTES) {
+        uint32_t word = k == 0 ? (uint32_t)(position >> 32) : k == WORD_BYTES ? (uint32_t)position : random_below(UINT32_MAX);
+        memcpy(at + k, &word, sizeof word);
+    }
+    plain_seal(at, size, block);
+}
+
+void pool_fill_store(struct pool *pool, const struct bench_case *c)
+{
+    size_t size = bufpool_page_size(&pool->kept);
+    uint8_t *start = pool->lent.store;
+    for (size_t r = 0; r < pool->files; r++) {
+        const uint32_t *row = pool->kept.rows + BUFPOOL_ROW_WORDS * r;
+        for (uint32_t block = 0; block < row[BUFPOOL_ROW_AT_BLOCKS]; block++) {
+            if (c->zeros) memset(start + block * size, 0, size);
+            else fill_block(start + block * size, size, block, bufpool_inserted(&pool->kept));
+        }
+        start += row[BUFPOOL_ROW_AT_CAPACITY] * size;
+    }
 }
 
 static void set_words(struct pool *pool, const struct bench_case *c)

@@ -38,8 +38,9 @@ enum dirty { CLEAN_POOL, DIRTY_HAND, DIRTY_NEXT };
 /* How many calls are made before the pool is set back. */
 enum batch { ONE, FOR_EACH_FILE, QUARTER, ANY_NUMBER };
 
-/* A call that moves no page, a pin that loads one, or another. Reads and writes move no page if they are of few bytes. */
-enum kind { OTHER, STILL, MISS };
+/* A call that moves no page, one that sums a page up for its checksum, or another. Reads and writes move no page if they are of few
+   bytes. */
+enum kind { OTHER, STILL, SUMMED };
 
 /* As many bytes as a call may read or write of a page. */
 enum { WHOLE = 32768 };
@@ -56,6 +57,7 @@ struct bench_case {
     enum batch batch;
     size_t span;   /* of a read or write */
     int empty;     /* no page is held */
+    int zeros;     /* the store's blocks are zeros, as after an extend: they are looked through, not summed up */
     int no_books;  /* the call does not check the books */
     int all_sizes; /* timed with other block sizes too */
 };
@@ -65,6 +67,9 @@ extern const size_t bench_case_count;
 
 /* A new pool of a shape. If pages are moved there is memory behind all of the store. */
 void pool_new(struct pool *pool, const struct bench_shape *shape, int pages_move);
+
+/* The store of a case: every block below its file's count is zeros, or has bytes and their checksum. */
+void pool_fill_store(struct pool *pool, const struct bench_case *c);
 
 /* The state of a case, with the hand a quarter further each time. */
 void pool_set_back(struct pool *pool, const struct bench_case *c);

@@ -1,6 +1,7 @@
 /* The twelve calls in plain C, as a good C programmer would write them at first. Sizes and books are checked by plain_check of
-   bench/books, once for each call; after it the code relies on them. Link with bench/books/plain.c. */
+   bench/books, once for each call; after it the code relies on them. Link with bench/books/plain.c and bench/checksum/plain.c. */
 #include "plain.h"
+#include "../checksum/plain.h"
 #include "memory.h"
 #include <stdbool.h>
 #include <string.h>
@@ -106,7 +107,7 @@ static void leave_chain(int32_t *heads, size_t buckets, int32_t *chain, const ui
     *link = chain[i];
 }
 
-/* Writes a dirty page back. */
+/* Writes a dirty page back, with its checksum; the page in the pool keeps its own bytes. */
 static void write_back(uint64_t *control, uint32_t *states, const uint32_t *names, const uint8_t *pool, const uint32_t *rows,
                        size_t rows_len, uint8_t *store, size_t i)
 {
@@ -116,7 +117,9 @@ static void write_back(uint64_t *control, uint32_t *states, const uint32_t *name
     uint64_t start, position = get_position(page);
     find_row(rows, rows_len, name, &start);
     if (control[CONTROL_FLUSHED] < position) control[CONTROL_FLUSHED] = position;
-    memcpy(store + (start + name[NAME_BLOCK]) * size, page, size);
+    uint8_t *to = store + (start + name[NAME_BLOCK]) * size;
+    memcpy(to, page, size);
+    plain_seal(to, size, name[NAME_BLOCK]);
     states[i] &= ~DIRTY;
 }
 
@@ -187,6 +190,7 @@ uint32_t plain_pin(LENDS(MUT, MUT, MUT, MUT, const, MUT), FILE_NUMBERS, uint32_t
         return accept(answer, (uint64_t)held, 1, 0, 0);
     }
     size_t i = top = control[CONTROL_TOP], size = control[CONTROL_SIZE];
+    if (!plain_passes(store + place * size, size, block)) return refuse(answer, answer_len, BUFPOOL_CHECKSUM);
     if (top != BUFPOOL_BUFFER_NONE) {
         control[CONTROL_TOP] = (uint64_t)(int64_t)free[i];
         free[i] = -2;
@@ -273,9 +277,11 @@ uint32_t plain_peek(LENDS(const, const, const, const, const, const), FILE_NUMBER
     uint32_t refusal = CHECK_WITH(control);
     if (refusal == 0) refusal = find_page(rows, rows_len, name, &place);
     if (refusal != 0) return refuse(answer, answer_len, refusal);
+    size_t size = control[CONTROL_SIZE];
     int32_t held = find_held(heads[hash(name) % (uint32_t)buckets], chain, names, name);
-    if (held >= 0) return accept(answer, 1, (uint64_t)held * control[CONTROL_SIZE], 0, 0);
-    return accept(answer, 0, place * control[CONTROL_SIZE], 0, 0);
+    if (held >= 0) return accept(answer, 1, (uint64_t)held * size, 0, 0);
+    if (!plain_passes(store + place * size, size, block)) return refuse(answer, answer_len, BUFPOOL_CHECKSUM);
+    return accept(answer, 0, place * size, 0, 0);
 }
 
 uint32_t plain_extend(LENDS(const, const, const, const, MUT, MUT), FILE_NUMBERS, ANSWERS)

@@ -1,10 +1,9 @@
 /* Document 01's pages on the bench, through the library's calls: N = 3, B = 3, P = 1024, log 100; one file (1663, 5, 16384, 0) with
    4 blocks of zeros, capacity 5. Every expected number is the document's. Prints a line for each case, then the counts. */
 #include "buftag.h"
+#include "expect.h"
 #include "named.h"
 #include "../layout.h"
-#include <inttypes.h>
-#include <stdio.h>
 #include <string.h>
 
 static uint64_t control[CONTROL_WORDS], answer[ANSWER_WORDS];
@@ -14,35 +13,12 @@ static uint8_t pool[3 * 1024], store[5 * 1024];
 static struct bufpool m = {control, CONTROL_WORDS, states, 3, names, 3 * NAME_WORDS, pool, sizeof pool, free_links, 3,
                            heads, 3, chain, 3, rows, ROW_WORDS, store, sizeof store};
 
-static const char *current;
-static unsigned wrong, passed, failed;
-
-static void expect(const char *what, uint64_t got, uint64_t wanted)
-{
-    if (got == wanted) return;
-    printf("%s: %s is %" PRIu64 " (0x%" PRIX64 "), not %" PRIu64 " (0x%" PRIX64 ")\n", current, what, got, got, wanted, wanted);
-    wrong++;
-}
-
 static void expect_answer(uint64_t a, uint64_t b, uint64_t c, uint64_t d)
 {
     expect("answer 0", answer[0], a);
     expect("answer 1", answer[1], b);
     expect("answer 2", answer[2], c);
     expect("answer 3", answer[3], d);
-}
-
-static void begin(const char *name)
-{
-    current = name;
-    wrong = 0;
-}
-
-static void end(void)
-{
-    printf("%s: %s\n", wrong == 0 ? "passed" : "FAILED", current);
-    if (wrong == 0) passed++;
-    else failed++;
 }
 
 /* Set up on memory with other contents. */
@@ -288,7 +264,5 @@ int main(void)
 {
     void (*const cases[])(void) = {case_set_up, case_a, case_b, case_c, case_d, case_e,      case_f,
                                    case_g,      case_h, case_i, case_j, case_ranges, case_extend};
-    for (size_t k = 0; k < sizeof cases / sizeof *cases; k++) cases[k]();
-    printf("%u %u\n", passed, failed);
-    return failed != 0;
+    return run_cases(cases, sizeof cases / sizeof *cases);
 }

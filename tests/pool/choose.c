@@ -2,13 +2,13 @@
 #include "generate.h"
 #include <string.h>
 
-/* set up, pin, unpin, read, write, flush, checkpoint, peek, extend, drop, log inserted, log flushed */
+/* set up, pin, unpin, read, write, flush, checkpoint, peek, extend, drop, log inserted, log flushed, checksum */
 static const unsigned moods[][CALLS] = {
-    {0, 30, 25, 6, 14, 4, 2, 5, 5, 2, 4, 4},   /* of everything */
-    {0, 60, 8, 4, 12, 3, 1, 4, 4, 1, 2, 2},    /* many pins */
-    {0, 30, 24, 2, 34, 3, 1, 2, 2, 1, 3, 2},   /* many dirty pages */
-    {0, 24, 24, 4, 14, 6, 6, 8, 16, 6, 4, 4},  /* files come and go */
-    {4, 24, 10, 8, 16, 10, 6, 10, 8, 10, 6, 6} /* after memory that was built */
+    {0, 30, 25, 6, 14, 4, 2, 5, 5, 2, 4, 4, 0},   /* of everything */
+    {0, 60, 8, 4, 12, 3, 1, 4, 4, 1, 2, 2, 0},    /* many pins */
+    {0, 30, 24, 2, 34, 3, 1, 2, 2, 1, 3, 2, 0},   /* many dirty pages */
+    {0, 24, 24, 4, 14, 6, 6, 8, 16, 6, 4, 4, 0},  /* files come and go */
+    {4, 24, 10, 8, 16, 10, 6, 10, 8, 10, 6, 6, 4} /* after memory that was built */
 };
 #define EVEN (sizeof moods / sizeof *moods - 1)
 
@@ -112,7 +112,15 @@ static void some_range(struct request *q)
         return;
     }
     q->own_len = 1 + random_below(40);
-    q->from = 8 + random_below((uint32_t)p - 8 - (uint32_t)q->own_len + 1);
+    q->from = 8 + random_below(random_below(8) == 0 ? 3 : (uint32_t)p - 8 - (uint32_t)q->own_len + 1);
+}
+
+/* a page of any block size, the small ones most often; now and then a length that is none */
+static size_t some_page_length(void)
+{
+    static const size_t others[] = {0, 1, 127, 128, 512, 1023, 1025, 1536, 3072, 8191, 32767, 32769, 33000};
+    if (random_below(4) == 0) return others[random_below(sizeof others / sizeof *others)];
+    return (size_t)1024 << random_below(random_below(4) == 0 ? 6 : 2);
 }
 
 /* a position for a write: from the page's own up to inserted; now and then one beside them */
@@ -172,8 +180,13 @@ void request_of(struct request *q, enum call call)
         if (call == WRITE) q->position = write_position(q->buffer);
         break;
     case CHECKPOINT: break;
+    case CHECKSUM:
+        q->own_len = some_page_length();
+        q->name[NAME_BLOCK] = random_below(2) == 0 ? random_below(8) : (uint32_t)random64();
+        break;
     default: q->position = log_position(call); break;
     }
     if (call == SET_UP) q->page_size = some_page_size();
     random_fill(twin_own, q->own_len);
+    if (random_below(8) == 0) memset(twin_own, random_below(4) == 0 ? 255 : 0, q->own_len);
 }

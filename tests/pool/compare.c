@@ -13,12 +13,17 @@
 #include <string.h>
 #include <unistd.h>
 
-enum event { HIT, FREE_LIST, SWEPT, ROUNDS, WROTE, FLUSHED, SEVERAL, PEEKED_POOL, PEEKED_STORE, EXTENDED, DROPPED, EVENTS };
+enum event {
+    HIT, FREE_LIST, SWEPT, ROUNDS, WROTE, FLUSHED, SEVERAL, PEEKED_POOL, PEEKED_STORE, EXTENDED, DROPPED, BAD_PINNED, BAD_PEEKED, SUMMED,
+    EVENTS
+};
 static const char *const event_names[EVENTS] = {
     "pin, hit", "pin, from the free list", "pin, two probes or more", "pin, more probes than buffers", "pin, wrote", "flush, wrote",
-    "checkpoint, wrote two or more", "peek, pool", "peek, store", "extend, accepted", "drop, buffers emptied"};
+    "checkpoint, wrote two or more", "peek, pool", "peek, store", "extend, accepted", "drop, buffers emptied",
+    "pin, 17 with every buffer pinned", "peek, 17", "checksum, accepted"};
 
-static unsigned long refusals[17], events[EVENTS], calls;
+enum { MOST_REFUSAL = 17 };
+static unsigned long refusals[MOST_REFUSAL + 1], events[EVENTS], calls;
 
 /* where we are, for what is said of a difference */
 static const char *work;
@@ -58,10 +63,18 @@ static void count_pin(const uint64_t *answer, uint64_t top_before)
     events[WROTE] += answer[2] == 1;
 }
 
+static bool every_buffer_pinned(void)
+{
+    for (size_t i = 0; i < twin.states_len; i++)
+        if ((twin.states[i] & 0x3FFFF) == 0) return false;
+    return true;
+}
+
 static void count(enum call call, uint32_t result, const uint64_t *answer, uint64_t top_before)
 {
     calls++;
-    if (result <= 16) refusals[result]++;
+    if (result <= MOST_REFUSAL) refusals[result]++;
+    if (result == 17) events[call == PEEK ? BAD_PEEKED : BAD_PINNED] += call == PEEK || every_buffer_pinned();
     if (result != 0) return;
     switch (call) {
     case PIN: count_pin(answer, top_before); break;
@@ -70,6 +83,7 @@ static void count(enum call call, uint32_t result, const uint64_t *answer, uint6
     case PEEK: events[answer[0] == 1 ? PEEKED_POOL : PEEKED_STORE]++; break;
     case EXTEND: events[EXTENDED]++; break;
     case DROP: events[DROPPED] += twin.control[CONTROL_TOP] != top_before; break;
+    case CHECKSUM: events[SUMMED]++; break;
     default: break;
     }
 }
@@ -200,7 +214,7 @@ static void run_great(int built, unsigned kind)
 /* One page pinned as often as can be, and once more. */
 static void run_pins(void)
 {
-    struct sizes s = {.n = 1, .buckets = 1, .page_size = 1024, .files = 1, .blocks = {1}, .capacity = {1}};
+    struct sizes s = {.n = 1, .buckets = 1, .page_size = 1024, .files = 1, .blocks = {1}, .capacity = {1}, .all_pass = true};
     struct request q = {.call = PIN, .own = twin_own};
     work = "pins up to the greatest count";
     set_up_must(&s);
@@ -231,7 +245,7 @@ int main(int argc, char **argv)
     for (; calls < enough; item++, step = 0) run_item(item % 31);
     for (unsigned k = 0; k < 2 * GREAT_KINDS && !shelf_alone; k++, item++, step = 0) run_great(k % 2, k / 2);
     run_pins();
-    for (int k = 0; k <= 16; k++) printf("%lu refusal %d\n", refusals[k], k);
+    for (int k = 0; k <= MOST_REFUSAL; k++) printf("%lu refusal %d\n", refusals[k], k);
     for (int k = 0; k < EVENTS; k++) printf("%lu %s\n", events[k], event_names[k]);
     printf("%lu calls\n", calls);
     return 0;

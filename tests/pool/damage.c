@@ -1,5 +1,6 @@
 /* Damage to sound memory: words, links, bytes, rows and lengths. */
 #include "generate.h"
+#include "sum.h"
 #include <string.h>
 
 /* a number near a buffer's, the marks of lists and the limits */
@@ -90,6 +91,30 @@ static void damage_page(void)
     twin.pool[i * p + random_below(random_below(2) == 0 ? 8 : (uint32_t)p)] ^= (uint8_t)(1u << random_below(8));
 }
 
+void spoil_block(uint8_t *page, size_t size, uint32_t block)
+{
+    uint32_t sum = sum_in(page);
+    switch (random_below(6)) {
+    case 0: page[random_below((uint32_t)size)] ^= (uint8_t)(1u << random_below(8)); break;
+    case 1: put_sum(page, 0); break;
+    case 2: put_sum(page, sum / 256 + sum % 256 * 256); break;
+    case 3: put_sum(page, page_sum(page, size, block + 1 + random_below(3))); break;
+    case 4:
+        memset(page, 0, size);
+        page[random_below(2) == 0 ? SUM_AT + random_below(SUM_BYTES) : random_below((uint32_t)size)] = 1;
+        break;
+    default: random_fill(page + SUM_AT, size - SUM_AT); break;
+    }
+}
+
+/* a block of the store; it may be one that is held */
+static void damage_block(void)
+{
+    size_t p = twin.control[CONTROL_SIZE];
+    if (p < 1024 || p > 32768 || twin.store_len < p) return;
+    spoil_block(twin.store + any(twin.store_len / p) * p, p, random_below(4));
+}
+
 static void damage_rows(void)
 {
     size_t files = twin.rows_len / ROW_WORDS;
@@ -150,7 +175,7 @@ static void damage_lengths(void)
 static void damage_contents(void)
 {
     static const uint64_t sizes[] = {0, 512, 1023, 2048, 4096, 32768, 65536, (1ull << 32) + 1024};
-    switch (random_below(8)) {
+    switch (random_below(9)) {
     case 0:
     case 1: damage_word(); break;
     case 2: damage_name(); break;
@@ -158,6 +183,7 @@ static void damage_contents(void)
     case 4: damage_link(); break;
     case 5: damage_control(); break;
     case 6: damage_page(); break;
+    case 7: damage_block(); break;
     default:
         if (random_below(4) == 0) twin.control[CONTROL_SIZE] = sizes[random_below(8)];
         else damage_rows();

@@ -11,6 +11,7 @@
 struct sizes {
     size_t n, buckets, page_size, files;
     uint32_t blocks[MOST_ROWS], capacity[MOST_ROWS];
+    bool all_pass; /* no block below its file's count is bad */
 };
 
 uint64_t random64(void);
@@ -28,11 +29,15 @@ uint64_t some_log(void);
 struct sizes some_sizes(void);
 struct sizes great_sizes(unsigned kind);
 
-/* Lengths, rows and store for these sizes; all else has any contents, as before a set up. */
+/* Lengths, rows and store for these sizes; all else has any contents, as before a set up. About one of 16 blocks below their files'
+   counts is bad, and nearly all above. */
 void fill_unset(const struct sizes *s, uint64_t log);
 
 /* Sound memory: any pins, usage counts, dirty pages, orders of lists, hand and positions that the rules allow. */
 void fill_sound(const struct sizes *s);
+
+/* A page with its checksum gets one that is not its own, or other bytes. */
+void spoil_block(uint8_t *page, size_t size, uint32_t block);
 
 /* One thing changed in sound memory. It may leave the memory sound. */
 void some_damage(void);

@@ -140,6 +140,7 @@ static const unsigned changed[CALLS] = {
     [DROP] = LISTS | SET(ROWS),
     [LOG_INSERTED] = SET(CONTROL),
     [LOG_FLUSHED] = SET(CONTROL),
+    [CHECKSUM] = 0,
 };
 
 void *lent_part(enum call call, enum part k)

@@ -1,18 +1,22 @@
-/* A request as a call with all its arguments. */
+/* The library is asked a request on its own memory. */
+#include "calls.h"
 #include "lent.h"
-#include "named.h"
 
-static struct bufpool lend(enum call c)
+/* The memory as a call is lent it. */
+static struct memory lend(enum call c)
 {
-    return (struct bufpool){.control = lent_part(c, CONTROL), .control_len = twin.control_len,
-                            .states = lent_part(c, STATES), .states_len = twin.states_len,
-                            .names = lent_part(c, NAMES), .names_len = twin.names_len,
-                            .pool = lent_part(c, POOL), .pool_len = twin.pool_len,
-                            .free = lent_part(c, FREE), .free_len = twin.free_len,
-                            .heads = lent_part(c, HEADS), .heads_len = twin.heads_len,
-                            .chain = lent_part(c, CHAIN), .chain_len = twin.chain_len,
-                            .rows = lent_part(c, ROWS), .rows_len = twin.rows_len,
-                            .store = lent_part(c, STORE), .store_len = twin.store_len};
+    struct memory m = twin;
+    m.control = lent_part(c, CONTROL);
+    m.states = lent_part(c, STATES);
+    m.names = lent_part(c, NAMES);
+    m.pool = lent_part(c, POOL);
+    m.free = lent_part(c, FREE);
+    m.heads = lent_part(c, HEADS);
+    m.chain = lent_part(c, CHAIN);
+    m.rows = lent_part(c, ROWS);
+    m.store = lent_part(c, STORE);
+    m.answer = lent_part(c, ANSWER);
+    return m;
 }
 
 unsigned touch_way, touch_part;
@@ -31,23 +35,9 @@ static void touch(const struct request *q)
 
 uint32_t library_call(const struct request *q)
 {
+    struct memory m = lend(q->call);
+    struct request own = *q;
+    own.own = lent_part(q->call, OWN);
     if (touch_way != 0) touch(q);
-    struct bufpool m = lend(q->call);
-    uint64_t *answer = lent_part(q->call, ANSWER);
-    size_t words = twin.answer_len;
-    uint8_t *own = lent_part(q->call, OWN);
-    switch (q->call) {
-    case SET_UP: return DO(set_up)(BUFPOOL_LENT(&m), q->page_size, q->position, answer, words);
-    case PIN: return DO(pin)(BUFPOOL_LENT(&m), NAME_OF(q->name), answer, words);
-    case UNPIN: return DO(unpin)(BUFPOOL_LENT(&m), q->buffer, answer, words);
-    case READ: return DO(read)(BUFPOOL_LENT(&m), q->buffer, q->from, own, q->own_len, answer, words);
-    case WRITE: return DO(write)(BUFPOOL_LENT(&m), q->buffer, q->from, own, q->own_len, q->position, answer, words);
-    case FLUSH: return DO(flush)(BUFPOOL_LENT(&m), q->buffer, answer, words);
-    case CHECKPOINT: return DO(checkpoint)(BUFPOOL_LENT(&m), answer, words);
-    case PEEK: return DO(peek)(BUFPOOL_LENT(&m), NAME_OF(q->name), answer, words);
-    case EXTEND: return DO(extend)(BUFPOOL_LENT(&m), FILE_OF(q->name), answer, words);
-    case DROP: return DO(drop)(BUFPOOL_LENT(&m), FILE_OF(q->name), answer, words);
-    case LOG_INSERTED: return DO(log_inserted)(BUFPOOL_LENT(&m), q->position, answer, words);
-    default: return DO(log_flushed)(BUFPOOL_LENT(&m), q->position, answer, words);
-    }
+    return made_call(&m, &own);
 }

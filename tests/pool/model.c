@@ -100,6 +100,11 @@ void pack(const struct pool *p, struct memory *m)
     pack_chains(p, m);
 }
 
+bool is_page_size(uint64_t bytes)
+{
+    return bytes == 1024 || bytes == 2048 || bytes == 4096 || bytes == 8192 || bytes == 16384 || bytes == 32768;
+}
+
 /* The judge takes the block size from a control record: it is given one that has nothing else, as long as the lent one. */
 bool sizes_hold_for(const struct memory *m, uint64_t page_size)
 {

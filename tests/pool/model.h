@@ -45,6 +45,9 @@ void pack(const struct pool *p, struct memory *m);
 /* What place 1 says of the memory for a set up with blocks of this size. */
 bool sizes_hold_for(const struct memory *m, uint64_t page_size);
 
+/* Whether blocks may have this many bytes. */
+bool is_page_size(uint64_t bytes);
+
 /* Does the call on the memory and on the request's own bytes, and gives the refusal number. */
 uint32_t model_call(struct memory *m, const struct request *q);
 

@@ -1,5 +1,6 @@
-/* The twelve calls on the model's pool, sentence by sentence. */
+/* The twelve calls on the model's pool, sentence by sentence, and the checksum of a page. */
 #include "model.h"
+#include "sum.h"
 #include <string.h>
 
 check_fn judge;
@@ -52,6 +53,32 @@ static void set_position(uint8_t *page, uint64_t position)
     for (size_t k = 0; k < 8; k++) page[SLIP == 2 ? k ^ 4 : k] = (uint8_t)(words[k / 4] >> k % 4 * 8);
 }
 
+/* A block's number in its file, which its checksum goes over; slips take its place in the store. */
+static uint32_t number_of(struct pool *p, const uint32_t *name, bool slip)
+{
+    return slip ? (uint32_t)((size_t)(block_of(p, name) - p->store) / p->page_size) : name[NAME_BLOCK];
+}
+
+/* A page that was put into the store gets its checksum there, and only there; zeros have none. */
+static void seal(struct pool *p, struct buffer *b)
+{
+    uint8_t *block = block_of(p, b->name);
+    uint32_t sum = page_sum(block, p->page_size, number_of(p, b->name, SLIP == 39));
+    if (SLIP == 38 || (is_zeros(block, p->page_size) && SLIP != 40)) return;
+    put_sum(block, SLIP == 45 ? sum / 256 + sum % 256 * 256 : sum);
+    if (SLIP == 44) put_sum(b->page, sum);
+    if (SLIP == 49) block[SUM_AT + SUM_BYTES] = 0;
+}
+
+/* Whether the store's block may become a page: it has its checksum, or is zeros. */
+static bool passes(struct pool *p, const uint32_t *name)
+{
+    const uint8_t *block = block_of(p, name);
+    if (is_zeros(block, p->page_size)) return SLIP != 47;
+    if (SLIP == 41 && sum_in(block) == 0) return true;
+    return sum_in(block) == page_sum(block, p->page_size, number_of(p, name, SLIP == 48));
+}
+
 /* Writes a page back if it is dirty, and answers how many it wrote. */
 static uint64_t write_back(struct pool *p, struct buffer *b)
 {
@@ -59,6 +86,7 @@ static uint64_t write_back(struct pool *p, struct buffer *b)
     uint64_t position = position_of(b->page);
     if (position > p->flushed && SLIP != 10) p->flushed = position;
     memcpy(block_of(p, b->name), b->page, p->page_size);
+    seal(p, b);
     b->dirty = false;
     if (SLIP != 7) b->just_dirtied = false;
     return 1;
@@ -114,6 +142,7 @@ static uint32_t pin_miss(struct pool *p, const uint32_t *name, uint64_t *answer)
     } else {
         i = sweep(p, &answer[3]);
         if (i == p->n) return 6;
+        if (SLIP == 43 && !passes(p, name)) return 17;
         answer[2] = SLIP == 5 ? write_back_late(p, &p->buffers[i], name) : write_back(p, &p->buffers[i]);
         if (SLIP == 13) answer[2] = 0;
         list_remove(&p->table, i);
@@ -135,6 +164,7 @@ static uint32_t pin(struct pool *p, const struct request *q, uint64_t *answer)
     uint32_t refusal = name_places(p, q->name);
     size_t i = held(p, q->name);
     if (refusal != 0) return refusal;
+    if ((i == p->n || SLIP == 42) && (SLIP != 43 || p->free.many > 0) && !passes(p, q->name)) return 17;
     if (i == p->n) return pin_miss(p, q->name, answer);
     struct buffer *b = &p->buffers[i];
     if (b->pins >= MOST_PINS - (SLIP == 31)) return 5;
@@ -223,6 +253,7 @@ static uint32_t peek(struct pool *p, const struct request *q, uint64_t *answer)
     uint32_t refusal = name_places(p, q->name);
     size_t i = held(p, q->name);
     if (refusal != 0) return refusal;
+    if ((i == p->n || SLIP == 42) && SLIP != 46 && !passes(p, q->name)) return 17;
     answer[0] = i < p->n && SLIP != 22;
     answer[1] = answer[0] ? i * p->page_size : (uint64_t)(block_of(p, q->name) - p->store);
     return 0;
@@ -312,6 +343,15 @@ static uint32_t act(struct pool *p, const struct request *q, uint64_t *answer)
     }
 }
 
+/* It touches no pool. Where it refuses it writes nothing. */
+static uint32_t checksum(struct memory *m, const struct request *q)
+{
+    bool good = is_page_size(q->own_len) && m->answer_len == ANSWER_WORDS;
+    if (good || SLIP == 50) memset(m->answer, 0, m->answer_len * sizeof *m->answer);
+    if (good) m->answer[0] = page_sum(q->own, q->own_len, q->name[NAME_BLOCK]);
+    return good ? 0 : 1;
+}
+
 /* Places 1 and 2. */
 static uint32_t memory_places(struct memory *m, const struct request *q)
 {
@@ -323,6 +363,7 @@ uint32_t model_call(struct memory *m, const struct request *q)
 {
     static struct pool p;
     uint64_t answer[ANSWER_WORDS] = {0};
+    if (q->call == CHECKSUM) return checksum(m, q);
     uint32_t refusal = memory_places(m, q);
     if (m->answer_len != ANSWER_WORDS && SLIP != 35) return 1;
     if (refusal == 0 && q->call == SET_UP) {

@@ -1,4 +1,4 @@
-/* The library's twelve calls, or with another PREFIX those of other code that takes the same arguments: DO(pin)(..). */
+/* The library's twelve calls and its checksum, or with another PREFIX those of other code that takes the same arguments: DO(pin)(..). */
 #ifndef NAMED_H
 #define NAMED_H
 
@@ -24,5 +24,6 @@ DECLARE(extend);
 DECLARE(drop);
 DECLARE(log_inserted);
 DECLARE(log_flushed);
+DECLARE(checksum);
 
 #endif

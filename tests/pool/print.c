@@ -6,15 +6,16 @@
 #define SHOWN 16
 
 static const char *const call_names[CALLS] = {"set up", "pin", "unpin", "read", "write", "flush", "checkpoint", "peek", "extend", "drop",
-                                              "log inserted", "log flushed"};
+                                              "log inserted", "log flushed", "checksum"};
 
-/* the memory before the call, but for pool and store: of the pool each page's first 8 bytes */
+/* the memory before the call, but for pool and store: of the pool each page's first bytes, position and checksum */
+enum { FIRST = 10 };
 static struct {
     size_t lengths[OWN];
     uint64_t control[MOST_CONTROL];
     uint32_t states[SHOWN], names[NAME_WORDS * SHOWN], rows[ROW_WORDS * SHOWN];
     int32_t free[SHOWN], heads[2 * SHOWN], chain[SHOWN];
-    uint8_t pages[SHOWN][8];
+    uint8_t pages[SHOWN][FIRST];
 } before;
 
 void keep_before(void)
@@ -29,7 +30,7 @@ void keep_before(void)
     memcpy(before.chain, twin.chain, sizeof before.chain);
     for (size_t i = 0; i < SHOWN && i < twin.states_len; i++) {
         uint64_t p = twin.control[CONTROL_SIZE];
-        if (p >= 8 && p <= 32768 && (i + 1) * p <= twin.pool_len) memcpy(before.pages[i], twin.pool + i * p, 8);
+        if (p >= FIRST && p <= 32768 && (i + 1) * p <= twin.pool_len) memcpy(before.pages[i], twin.pool + i * p, FIRST);
     }
 }
 
@@ -55,6 +56,7 @@ void print_request(const struct request *q)
         printf("buffer %" PRIu64 " from %" PRIu64 " %zu bytes position %" PRIu64, q->buffer, q->from, q->own_len, q->position);
         break;
     case CHECKPOINT: break;
+    case CHECKSUM: printf("block %" PRIu32 " %zu bytes", q->name[NAME_BLOCK], q->own_len); break;
     default: printf("position %" PRIu64, q->position); break;
     }
     printf("\n");
@@ -67,7 +69,7 @@ static void print_buffer(size_t i)
            w >> 23 & 1 ? ", dirty" : "");
     print_numbers(n, NAME_WORDS);
     printf(", free %" PRId32 ", chain %" PRId32 ", page", before.free[i], before.chain[i]);
-    for (int k = 0; k < 8; k++) printf(" %02X", before.pages[i][k]);
+    for (int k = 0; k < FIRST; k++) printf(" %02X", before.pages[i][k]);
     printf("\n");
 }
 

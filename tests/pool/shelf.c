@@ -1,4 +1,5 @@
 #include "shelf.h"
+#include "sum.h"
 #include <stdbool.h>
 #include <stdlib.h>
 #include <string.h>
@@ -18,6 +19,7 @@ static uint32_t rows[64 * ROW_WORDS];
 static uint8_t blocks[MOST_SHELF];
 static uint32_t counts[MOST_PLACES];
 static size_t holding[MOST_NUMBERS];
+static bool bad[MOST_PLACES]; /* the block came in bad, and its file was not dropped since */
 
 /* beside it: the dirty pages, the pages put into the store, the page that a pin last got at each number, flushed, and the store after
    the call before */
@@ -25,6 +27,32 @@ static bool dirty[MOST_PLACES], was_put[MOST_PLACES];
 static size_t last[MOST_NUMBERS];
 static uint64_t flushed;
 static uint8_t store[MOST_SHELF];
+
+static size_t place_of(size_t row, uint32_t block)
+{
+    size_t start = 0;
+    for (size_t r = 0; r < row; r++) start += rows[ROW_WORDS * r + ROW_CAPACITY];
+    return start + block;
+}
+
+/* whether some byte is not 0, and bytes 8 and 9 are not the checksum for the number, low byte first */
+static bool is_bad(const uint8_t *page, uint32_t number)
+{
+    size_t k = 0;
+    uint32_t sum = page_sum(page, block_size, number);
+    while (k < block_size && page[k] == 0) k++;
+    return k < block_size && (page[8] != sum % 256 || page[9] != sum / 256);
+}
+
+/* of the blocks below their files' counts */
+static void note_bad(void)
+{
+    memset(bad, 0, sizeof bad);
+    for (size_t r = 0; r < files; r++) {
+        uint32_t below = rows[ROW_WORDS * r + (SHELF_SLIP == 6 ? ROW_CAPACITY : ROW_BLOCKS)];
+        for (uint32_t b = 0; b < below; b++) bad[place_of(r, b)] = is_bad(store + place_of(r, b) * block_size, b);
+    }
+}
 
 void shelf_begin(const struct memory *m, uint64_t page_size, uint64_t position)
 {
@@ -40,6 +68,7 @@ void shelf_begin(const struct memory *m, uint64_t page_size, uint64_t position)
     memset(dirty, 0, sizeof dirty);
     memset(was_put, 0, sizeof was_put);
     for (size_t k = 0; k < MOST_NUMBERS; k++) holding[k] = last[k] = NONE;
+    note_bad();
 }
 
 static size_t row_of(const uint32_t *name)
@@ -47,13 +76,6 @@ static size_t row_of(const uint32_t *name)
     for (size_t r = 0; r < files; r++)
         if (memcmp(rows + ROW_WORDS * r, name, FILE_WORDS * sizeof *rows) == 0) return r;
     return NONE;
-}
-
-static size_t place_of(size_t row, uint32_t block)
-{
-    size_t start = 0;
-    for (size_t r = 0; r < row; r++) start += rows[ROW_WORDS * r + ROW_CAPACITY];
-    return start + block;
 }
 
 static bool in_file(size_t place, size_t row)
@@ -88,10 +110,12 @@ static uint32_t pin_refusal(const struct request *q)
     size_t r = row_of(q->name), place;
     if (r == NONE) return 3;
     if (q->name[NAME_BLOCK] >= rows[ROW_WORDS * r + ROW_BLOCKS]) return 4;
-    if (q->call == PEEK) return 0;
     place = place_of(r, q->name[NAME_BLOCK]);
+    if (bad[place] && (SHELF_SLIP != 5 || q->call == PEEK)) return 17;
+    if (q->call == PEEK) return 0;
     if (counts[place] == 262143) return 5;
-    return counts[place] == 0 && pages_with_pins() == n - (SHELF_SLIP == 1 && n > 1) ? 6 : 0;
+    if (counts[place] == 0 && pages_with_pins() == n - (SHELF_SLIP == 1 && n > 1)) return 6;
+    return bad[place] ? 17 : 0;
 }
 
 static uint32_t write_refusal(const struct request *q, size_t place)
@@ -140,12 +164,32 @@ static uint32_t refusal_of(const struct request *q)
     }
 }
 
-/* A block is put into the store. Gives whether its bytes are the shelf's. */
+/* whether bytes are a page's from one of its bytes on, the page's bytes 8 and 9 left out */
+static bool same(const uint8_t *bytes, const uint8_t *page, size_t from, size_t many)
+{
+    for (size_t k = 0; k < many; k++) {
+        bool left_out = (from + k == 8 || from + k == 9) && SHELF_SLIP != 7;
+        if (bytes[k] != page[from + k] && !left_out) return false;
+    }
+    return true;
+}
+
+/* whether the store has the shelf's bytes at a place, with their checksum unless the block is bad */
+static bool kept(size_t row, uint32_t number, const uint8_t *now)
+{
+    size_t place = place_of(row, number);
+    const uint8_t *block = now + place * block_size;
+    return same(block, bytes_of(place), 0, block_size) && is_bad(block, number) == bad[place];
+}
+
+/* A block is put into the store. Gives whether it is the shelf's. */
 static bool put(size_t place, const uint8_t *now)
 {
+    size_t r = 0;
     memcpy(store + place * block_size, now + place * block_size, block_size);
     was_put[place] = true;
-    return memcmp(now + place * block_size, bytes_of(place), block_size) == 0;
+    while (!in_file(place, r)) r++;
+    return kept(r, (uint32_t)(place - place_of(r, 0)), now);
 }
 
 /* A page is written back: the position counted is the page's at that call. */
@@ -195,7 +239,7 @@ static const char *flushed_page(size_t place, const uint64_t *answer, const uint
     return dirty[place] && !written_back(place, now) ? "the page flushed is the shelf's" : NULL;
 }
 
-/* every byte of each block below its file's block count */
+/* each block below its file's block count */
 static const char *checkpointed(const uint64_t *answer, const uint8_t *now)
 {
     uint64_t many = 0;
@@ -205,8 +249,8 @@ static const char *checkpointed(const uint64_t *answer, const uint8_t *now)
         written_back(k, now);
     }
     for (size_t r = 0; r < files; r++) {
-        size_t start = place_of(r, 0) * block_size, length = rows[ROW_WORDS * r + ROW_BLOCKS] * block_size;
-        if (memcmp(now + start, blocks + start, length) != 0) return "after a checkpoint the store is the shelf";
+        for (uint32_t b = 0; b < rows[ROW_WORDS * r + ROW_BLOCKS]; b++)
+            if (!kept(r, b, now)) return "after a checkpoint the store is the shelf";
     }
     return answer[0] == many ? NULL : "a checkpoint answers how many pages were dirty";
 }
@@ -217,7 +261,7 @@ static const char *extended(const struct request *q, const uint64_t *answer, con
     size_t place = place_of(row_of(q->name), row[ROW_BLOCKS]);
     if (answer[0] != row[ROW_BLOCKS]) return "an extend answers the shelf's block number";
     memset(bytes_of(place), 0, block_size);
-    if (!put(place, now)) return "an extend's new block is zeros";
+    if (!put(place, now) || !is_zeros(now + place * block_size, block_size)) return "an extend's new block is zeros";
     row[ROW_BLOCKS]++;
     return NULL;
 }
@@ -225,8 +269,11 @@ static const char *extended(const struct request *q, const uint64_t *answer, con
 static const char *dropped(size_t r)
 {
     rows[ROW_WORDS * r + ROW_BLOCKS] = 0;
-    for (size_t k = 0; k < places; k++)
-        if (in_file(k, r)) dirty[k] = SHELF_SLIP == 3 && dirty[k];
+    for (size_t k = 0; k < places; k++) {
+        if (!in_file(k, r)) continue;
+        dirty[k] = SHELF_SLIP == 3 && dirty[k];
+        bad[k] = SHELF_SLIP == 4 && bad[k];
+    }
     return NULL;
 }
 
@@ -237,7 +284,7 @@ static const char *peeked(const struct request *q, const struct memory *after)
     const uint8_t *slice = answer[0] == 1 ? after->pool : after->store;
     if (answer[1] > length || length - answer[1] < block_size) return "a peek hands back a part of pool or store";
     const uint8_t *page = bytes_of(place_of(row_of(q->name), q->name[NAME_BLOCK]));
-    return memcmp(slice + answer[1], page, block_size) == 0 ? NULL : "a peek hands back the shelf's bytes";
+    return same(slice + answer[1], page, 0, block_size) ? NULL : "a peek hands back the shelf's bytes";
 }
 
 static const char *accepted(const struct request *q, const uint8_t *own, const struct memory *after)
@@ -246,7 +293,7 @@ static const char *accepted(const struct request *q, const uint8_t *own, const s
     case PIN: return pinned(q, after->answer, after->store);
     case PEEK: return peeked(q, after);
     case UNPIN: return unpinned(q->buffer), NULL;
-    case READ: return memcmp(own, bytes_of(holding[q->buffer]) + q->from, q->own_len) == 0 ? NULL : "a read fills in the shelf's bytes";
+    case READ: return same(own, bytes_of(holding[q->buffer]), q->from, q->own_len) ? NULL : "a read fills in the shelf's bytes";
     case WRITE: return written(q);
     case FLUSH: return flushed_page(holding[q->buffer], after->answer, after->store);
     case CHECKPOINT: return checkpointed(after->answer, after->store);

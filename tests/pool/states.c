@@ -1,4 +1,5 @@
 #include "generate.h"
+#include "sum.h"
 #include <string.h>
 
 uint64_t random64(void)
@@ -98,6 +99,22 @@ static void fill_rows(const struct sizes *s)
     }
 }
 
+/* blocks have their checksums; one of 16 is zeros, and one of 16 is bad */
+static void seal_blocks(const struct sizes *s)
+{
+    uint8_t *start = twin.store;
+    for (size_t r = 0; r < s->files; r++) {
+        for (uint32_t b = 0; b < s->blocks[r]; b++) {
+            uint8_t *page = start + b * s->page_size;
+            uint32_t kind = random_below(16);
+            if (kind == 0) memset(page, 0, s->page_size);
+            else put_sum(page, page_sum(page, s->page_size, b));
+            if (kind == 1 && !s->all_pass) spoil_block(page, s->page_size, b);
+        }
+        start += s->capacity[r] * s->page_size;
+    }
+}
+
 /* the store's pages have positions up to the log's end, few beyond it */
 static void fill_store(const struct sizes *s, uint64_t log)
 {
@@ -107,6 +124,7 @@ static void fill_store(const struct sizes *s, uint64_t log)
     random_fill(twin.store, twin.store_len);
     for (size_t k = 0; k < blocks; k++)
         if (random_below(32) != 0) put_position(twin.store + k * s->page_size, below(log, random_below(50)));
+    seal_blocks(s);
 }
 
 void fill_unset(const struct sizes *s, uint64_t log)
@@ -151,6 +169,13 @@ static uint32_t some_pins(unsigned style)
     return counts[style == 1 ? 1 + random_below(5) : random_below(8)];
 }
 
+/* zeros, also where they are not in the checksum's place */
+static void clear_page(uint8_t *page, size_t size)
+{
+    memset(page, 0, size);
+    if (random_below(3) == 0) page[SUM_AT + random_below(SUM_BYTES)] = (uint8_t)random_below(256);
+}
+
 static void fill_buffer(const struct sizes *s, size_t i, uint32_t page, unsigned style)
 {
     uint32_t *name = twin.names + NAME_WORDS * i, dirty = random_below(2), flags = 1u << 31 | 1u << 25 | 1u << 24;
@@ -162,6 +187,7 @@ static void fill_buffer(const struct sizes *s, size_t i, uint32_t page, unsigned
     twin.free[i] = -2;
     twin.states[i] = flags | dirty << 28 | dirty << 23 | random_below(MOST_USAGE + 1) << 18 | some_pins(style);
     if (dirty || random_below(8) != 0) put_position(twin.pool + i * s->page_size, below(inserted, random_below(60)));
+    if (random_below(8) == 0) clear_page(twin.pool + i * s->page_size, s->page_size);
 }
 
 static void fill_lists(const struct sizes *s)
