@@ -1,5 +1,5 @@
-"""contracts.py CRATES: the contracts of the exports of CRATES/bufpool, as theorem and documents speak of them, and of the other exports
-that they ask nothing. Prints what differs; status 1 if anything does."""
+"""contracts.py CRATES: the contracts of the exports of CRATES/bufpool, as theorem and documents speak of them, and of the other crates'
+exports that they ask nothing. Prints what differs; status 1 if anything does."""
 import glob
 import re
 import sys
@@ -21,7 +21,23 @@ CALLS = {
     'bufpool_log_inserted': ('logInserted m position', None),
     'bufpool_log_flushed': ('logFlushed m position', None),
 }
-INTERFACE = 'bufpool_interface_1', 'ensures { λ r. ⌜ r ≡ interface ⌝ }'  # it takes nothing
+# the exports that touch no pool: parameters and contract
+OTHERS = {
+    'bufpool_interface_2': ('', 'ensures { λ r. ⌜ r ≡ interface ⌝ }'),
+    'bufpool_checksum': (
+        'page: &[u8], block: u32, answer: &mut [u64]',
+        'ensures { λ r. ⌜ r ≡ sumResult (now (page .entry)) (now (answer .entry)) ⌝ } '
+        'ensures { λ _. ⌜ now (answer .exit) ≡ sumAnswer (now (page .entry)) block (now (answer .entry)) ⌝ }'),
+}
+# what these two say, as bufpool's own specs define it
+DEFINITIONS = {
+    'Interface.antt': ['interface = 2'],
+    'Checksum.antt': [
+        'summable page answer = eqb (length answer) answerWords && permitted (length page)',
+        'sumResult page answer = cond (summable page answer) 0 1',
+        'sumAnswer page block answer = cond (summable page answer) (one (checksum block page)) answer',
+    ],
+}
 
 
 def now(name, moment):
@@ -30,8 +46,8 @@ def now(name, moment):
 
 def wanted(name, parameters):
     """The contract of an export: a slice that it takes by `&mut` is at exit what the call's definition makes of it."""
-    if name == INTERFACE[0]:
-        return INTERFACE[1]
+    if name in OTHERS:
+        return OTHERS[name][1] if parameters == OTHERS[name][0] else 'with these parameters: ' + OTHERS[name][0]
     call, own = CALLS[name]
     moment = {slice: 'exit' if re.search(r'\b%s: &mut ' % slice, parameters) else 'entry' for slice in SLICES + [own]}
     after = ' '.join(now(slice, moment[slice]) for slice in SLICES)
@@ -55,8 +71,11 @@ def main(crates):
                 wrong.append('%s asks something of its caller' % name)
             if crate == 'bufpool' and said != wanted(name, parameters):
                 wrong.append('%s says: %s' % (name, said))
-    wrong += ['%s is not exported by bufpool' % name for name in (*CALLS, INTERFACE[0]) if found.get(name) != 'bufpool']
-    if len(found) != len(CALLS) + 5:
+    for name, lines in DEFINITIONS.items():
+        text = open('%s/bufpool/specs/%s' % (crates, name), encoding='utf8').read().split('\n')
+        wrong += ['%s does not have: %s' % (name, line) for line in lines if line not in text]
+    wrong += ['%s is not exported by bufpool' % name for name in (*CALLS, *OTHERS) if found.get(name) != 'bufpool']
+    if len(found) != len(CALLS) + len(OTHERS) + 4:
         wrong.append('%d exports were read' % len(found))
     print('\n'.join(wrong))
     return bool(wrong)
