@@ -39,7 +39,7 @@ use lib.IntN.{ℤ, pos, negsuc}
 use Rattle.laws.specs.First.{found, missing}
 use Rattle.buftag.specs.Name.{fileOf, nameOf}
 use Rattle.bufmodel.specs.Memory.{Memory}
-use Rattle.bufmodel.specs.Checksum.{checksum, sealed, passes}
+use Rattle.bufmodel.specs.Checksum.{checksum, passes}
 use Rattle.bufmodel.specs.Sizes.{soundRows}
 use Rattle.bufmodel.specs.Calls.{setUp}
 use Rattle.bufmodel.specs.Step.{Call, Pin, Unpin, Read, Write, Flush, Checkpoint, Peek, Extend, Drop, LogInserted, LogFlushed}
@@ -248,7 +248,11 @@ def write_damage(room, unfolding):
     for j, one in enumerate(limits.checked_set_ups()):
         state_set_up(module, j, *one)
     crate.add(module, f'{j + 1} set-ups at the limits')
-    module = Module('Limits', unfolding)
+    write_limits(crate, Module('Limits', unfolding))
+    write_sums(crate, Module('Sums', unfolding))
+
+
+def write_limits(crate, module):
     for j, rows in enumerate(limits.rows()):
         module.state(f'rows-{j}', f'soundRows {numbers(rows)}', str(limits.rows_fit(rows)).lower())
     module.define('base', 'Lent', damage.base().lent_term(module.shared))
@@ -267,14 +271,17 @@ def write_damage(room, unfolding):
     for j, (function, case, has) in enumerate(limits.enums()):
         module.state(f'enum-{j}', f'{function} {case}', numbers(has) if isinstance(has, list) else str(has))
     crate.add(module, 'sums of capacities, answer slices of other lengths, a shelf at its limits, the enums of the answers')
-    module = Module('Sums', unfolding)
-    for j, (block, page) in enumerate(limits.sums()):
+
+
+def write_sums(crate, module):
+    pages, blocks = [*limits.sums()], [*limits.blocks()]
+    for j, (block, page) in enumerate(pages):
         module.define(f'page-{j}', 'List ℕ', numbers(page))
         module.state(f'sum-{j}', f'checksum {block} page-{j}', str(checksum(block, page)))
-    for j, (block, page) in enumerate(limits.blocks()):
+    for j, (block, page) in enumerate(blocks):
         module.define(f'block-{j}', 'List ℕ', numbers(page))
         module.state(f'passes-{j}', f'passes {block} block-{j}', str(not came_bad(block, page)).lower())
-    crate.add(module, f'the checksums of {len([*limits.sums()])} pages, and {j + 1} blocks that pass or not')
+    crate.add(module, f'the checksums of {len(pages)} pages, and {len(blocks)} blocks that pass or not')
 
 
 # planted errors
