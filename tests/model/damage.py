@@ -13,7 +13,7 @@ KEY, MAP = (1663, 5, 16384, 0), (1663, 5, 16384, 1)
 def base():
     """N = 5, B = 6: blocks 0, 2 and 1 in buffers 0, unpinned, 1, dirty and pinned, and 2, pinned; 0 and 1 are in one chain.
 
-    Free list 3, 4; inserted 120, flushed 100.
+    Free list 3, 4; inserted 120, flushed 100. Of the store's blocks the first two have their checksums; the map's does not pass.
     """
     rows = [*KEY, 3, 3, *MAP, 1, 2]
     blank = Start([0] * CONTROL_WORDS, [0] * 5, [0] * (5 * NAME_WORDS), [zeros(1024)] * 5, [0] * 5, [0] * BUCKETS, [0] * 5, rows,
@@ -26,7 +26,7 @@ def base():
         m = outcome.memory
     m.control[HAND] = 2
     pool = [Page(position, seed) for position, seed in [(0, 11), (110, 22), (90, 33), (2**63, 44), (0, 55)]]
-    store = [Page(position, seed) for position, seed in [(0, 66), (5, 77), (90, 88), (0, 99), (130, 111)]]
+    store = [Page(0, 66, block=0), Page(5, 77, block=1), Page(90, 88), Page(0, 99), Page(130, 111)]
     return Start(m.control, m.states, m.names, pool, m.free, m.heads, m.chain, m.rows, store)
 
 
@@ -205,7 +205,11 @@ def books():
 TRIES = [('pin', KEY + (2,)), ('unpin', 1), ('read', 1, 4, b'abcdef'), ('write', 1, 9, b'yz', 115), ('flush', 1), ('checkpoint',),
          ('peek', KEY + (0,)), ('extend', MAP), ('drop', MAP), ('log_inserted', 130), ('log_flushed', 110),
          ('pin', (1, 2, 3, 0, 0)), ('unpin', 9), ('read', 0, 0, b'ab'), ('write', 1, 7, b'', 121), ('flush', 2**64 - 1),
-         ('peek', KEY + (3,)), ('extend', KEY), ('drop', KEY), ('log_inserted', 1), ('log_flushed', 200)]
+         ('peek', KEY + (3,)), ('extend', KEY), ('drop', KEY), ('log_inserted', 1), ('log_flushed', 200), ('pin', MAP + (0,)),
+         ('peek', MAP + (0,))]
+
+
+assert [Pool(base().memory()).call(call).number for call in TRIES[-2:]] == [17, 17]
 
 
 def damaged():
@@ -214,7 +218,7 @@ def damaged():
         start = base()
         change(start)
         calls = [TRIES[(3 * k + j) % len(TRIES)] for j in range(3)]
-        numbers = [Pool(start.memory()).call(call).number for call in TRIES[:11]]
+        numbers = [Pool(start.memory()).call(call).number for call in TRIES[:11] + TRIES[-2:]]
         # at the edges a call may have a refusal of its own, but not 1 or 2
         assert all(x == number if number else x not in (1, 2) for x in numbers), (name, number, numbers)
         yield name, start, calls

@@ -1,8 +1,9 @@
 """The limits of set up, of the file rows, of answer slices, and a shelf's refusals at states that no short list reaches."""
+from checksum import bare, checksum, pack_sum, with_sum
 from damage import KEY, MAP, TRIES, base
 from pool import ANSWER_WORDS, CAPACITY, CONTROL_WORDS, FORK, MOST_PINS, NAME_WORDS, NO_TOP, ROW_WORDS, Pool, rows_fit
-from shelf import Shelf
-from terms import Page, Start, zeros
+from shelf import Shelf, came_bad
+from terms import Page, Start, noise, zeros
 
 
 def pages(count, size, seed):
@@ -83,15 +84,42 @@ def enums():
         yield f'{enum}Words', f'({enum}.the-variants.Refused 13)', [0, 0, 0, 0]
 
 
+def sums():
+    """Block numbers and pages: of zeros, of ones, of noise, and others in bytes 8 and 9 alone, in their neighbours, at the end."""
+    page = noise(1024, 3)
+    yield from [(0, bytes(1024)), (65535, b'\xff' * 1024), (0, page), (2**32 - 1, page), (0, with_sum(page, b'\xff\xff'))]
+    for at in (7, 10, 127, 128, 1023):
+        yield 1, page[:at] + bytes([page[at] ^ 128]) + page[at + 1:]
+    yield from [(65534, noise(2048, 4)), (2**31 + 7, bytes(2047) + b'\1')]
+
+
+def blocks():
+    """Block numbers and blocks of the store, and by hand whether they pass."""
+    page = bare(noise(1024, 5))
+    sealed, marked = with_sum(page, pack_sum(checksum(9, page))), with_sum(bytes(1024), b'\1\0')
+    for passes, block, one in [
+            (True, 9, sealed), (False, 8, sealed), (False, 9, page), (True, 9, bytes(1024)), (False, 0, marked),
+            (False, 9, with_sum(sealed, sealed[8:10][::-1])), (False, 9, sealed[:1023] + b'?'),
+            (True, 0, with_sum(bytes(1024), pack_sum(35928)))]:
+        assert passes == (not came_bad(block, one)), (block, passes)
+        yield block, one
+
+
 def shelves():
-    """Shelves given by hand: N, counts of the pages in row order, the places held at each number; and calls to refuse or not."""
+    """Shelves given by hand: N, counts of the pages in row order, the places held at each number, the bad places; and calls to refuse.
+
+    17 stands above 5 and 6: the second and third have a bad page with the greatest count, and with every buffer pinned.
+    """
     pages = [KEY + (0,), KEY + (1,), KEY + (2,), MAP + (0,), MAP + (1,)]
     calls = [*(('pin', page) for page in pages), *TRIES, *(('unpin', b) for b in range(4))]
-    for n, counts, holds in [
-            (2, [0, 0, 0, 0, 0], [None, None]), (2, [MOST_PINS, 0, 0, 0, 0], [0, None]), (2, [MOST_PINS - 1, 0, 0, 1, 0], [3, 0]),
-            (1, [0, MOST_PINS, 0, 0, 0], [1]), (3, [0, 1, 0, 1, 0], [3, None, 1]), (3, [1, 1, 1, 0, 0], [2, 1, 0])]:
+    for n, counts, holds, bad in [
+            (2, [0, 0, 0, 0, 0], [None, None], [3]), (2, [MOST_PINS, 0, 0, 0, 0], [0, None], [0]),
+            (2, [MOST_PINS - 1, 0, 0, 1, 0], [3, 0], [1]), (1, [0, MOST_PINS, 0, 0, 0], [1], []),
+            (3, [0, 1, 0, 1, 0], [3, None, 1], [0, 4]), (3, [1, 1, 1, 0, 0], [2, 1, 0], [])]:
         start = base()
         shelf = Shelf(start.memory())
         shelf.n, shelf.counts = n, dict(zip(pages, counts))
         shelf.holds = {b: pages[place] for b, place in enumerate(holds) if place is not None}
-        yield start, shelf, counts, holds, calls
+        shelf.bad = {pages[place] for place in bad}
+        assert all(shelf.refuses((kind, pages[place])) == 17 for place in bad[:1] for kind in ('pin', 'peek'))
+        yield start, shelf, counts, holds, bad, calls

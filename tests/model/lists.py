@@ -1,11 +1,12 @@
-"""Random lists of calls: memories to start from, calls that fit them, and what has to happen in them somewhere."""
+"""Random lists of calls: memories to start from, and calls that fit them. What has to happen in them somewhere stands in events.py."""
 import random
 
-from pool import BLOCKS, CAPACITY, FILE_WORDS, FLUSHED, HAND, INSERTED, NAME_WORDS, P, ROW_WORDS, TOP
-from pool import DIRTY, MOST_USAGE, NO_TOP, Pool, pins, usage
+from checksum import AT, with_sum
+from pool import BLOCKS, CAPACITY, CONTROL_WORDS, DIRTY, FILE_WORDS, FLUSHED, INSERTED, NAME_WORDS, NO_TOP, P, ROW_WORDS, TOP, Pool, pins
 from terms import Page, Start, noise, zeros
 
 KEYS = [(1663, 5, 16384, 0), (1663, 5, 16384, 1), (0, 0, 0, 0), (2**32 - 1, 2**32 - 1, 2**32 - 1, 2), (1663, 5, 16385, 0), (5, 1663, 0, 2)]
+BY_HAND = 0  # the seed that stands for a list made by hand
 POSITIONS = [5, 100, 2**32 - 2, 2**33 + 7, 2**64 - 4]
 WEIGHTS = {'pin': 36, 'unpin': 22, 'write': 20, 'read': 4, 'flush': 3, 'checkpoint': 3, 'peek': 4, 'extend': 4, 'drop': 5,
            'log_inserted': 6, 'log_flushed': 2}
@@ -15,10 +16,38 @@ def clamped(position):
     return min(max(0, position), 2**64 - 1)
 
 
-def store_page(r, position, size):
-    if r.random() < 0.3:
-        return zeros(size)
-    return Page(clamped(position + r.choice([0, -1, -3, -3, -5, -5, -5, 2])), r.randrange(1, 2**31), size)
+def turned(at, bit):
+    """One bit of a page is another."""
+    return lambda page: page[:at] + bytes([page[at] ^ 1 << bit]) + page[at + 1:]
+
+
+def spoilt(r, position, seed, size, block):
+    """A page that does not pass as this block: one bit turned, no checksum, its bytes exchanged, another block's, zeros but for it."""
+    kind = r.randrange(5)
+    if kind == 0:
+        return Page(position, seed, size, block, turned(r.choice([0, 7, 8, 9, 10, 127, 128, size - 1, r.randrange(size)]), r.randrange(8)))
+    if kind == 1:
+        return Page(position, seed, size, None, lambda page: with_sum(page, bytes(2)))
+    if kind == 2:
+        return Page(position, seed, size, block, lambda page: with_sum(page, page[AT][::-1]))
+    if kind == 3:
+        return Page(position, seed, size, block ^ r.choice([1, 2, 2**31]))
+    return Page(0, 0, size, None, turned(r.choice([8, 9]), r.randrange(8)))
+
+
+def store_page(r, position, size, block, bad):
+    """A block of the store: so often of zeros, with its checksum, or not passing."""
+    position, seed = clamped(position + r.choice([0, -1, -3, -3, -5, -5, -5, 2])), r.randrange(1, 2**31)
+    if r.random() < bad:
+        return spoilt(r, position, seed, size, block)
+    return zeros(size) if r.random() < 0.5 else Page(position, seed, size, block)
+
+
+def store_pages(r, rows, position, size, bad):
+    """The store of these rows. Blocks at or above their file's count have mostly no checksum."""
+    for f in range(0, len(rows), ROW_WORDS):
+        for block in range(rows[f + CAPACITY]):
+            yield store_page(r, position, size, block, bad if block < rows[f + BLOCKS] else 0.7)
 
 
 def start(r):
@@ -41,7 +70,7 @@ def start(r):
         return [r.randrange(2**32) for _ in range(count)]
     control = [r.choice([0, 1024, 7]), r.randrange(9), r.choice([NO_TOP, 0, 9]), r.randrange(9), r.randrange(9)]
     pool = [Page(r.randrange(2**64), r.randrange(1, 2**31), size) for _ in range(n)]
-    store = [store_page(r, position, size) for _ in range(sum(rows[CAPACITY::ROW_WORDS]))]
+    store = [*store_pages(r, rows, position, size, 0.1)]
     made = Start(control, any_words(n), any_words(NAME_WORDS * n), pool, any_links(n), any_links(b), any_links(n), rows, store)
     return made, size, position
 
@@ -76,7 +105,7 @@ def some_range(r, size, least):
     """from and length: mostly inside the page, else at its edges."""
     length = r.choice([0, 1, 1, 2, 2, 3, 3, 4, 4, 5])
     if r.random() < 0.8:
-        return r.choice([least, least + 1, least + r.randrange(32), size - length]), length
+        return r.choice([least, least + 1, AT.start, least + r.randrange(32), size - length]), length
     return r.choice([(least - 1 if least else 0, 1), (size - 3, 4), (size, 0), (size + 1, 0), (2**64 - 1, 1), (0, 8)])
 
 
@@ -138,15 +167,33 @@ def set_up(made, size, position):
     return Pool(made.memory()).call(('set_up', size, position)).memory
 
 
+def by_hand():
+    """A page is written at 8 and 9, written back as a victim, loaded again and read: the shelf's has other bytes there. One buffer; the
+    page's place is not its block number; the other file's block has no checksum."""
+    other, key = KEYS[:2]
+    page, victim, bad = key + (1,), key + (0,), other + (0,)
+    made = Start([0] * CONTROL_WORDS, [7], [7] * NAME_WORDS, [Page(5, 6)], [7], [7], [7], [*other, 1, 1, *key, 2, 2],
+                 [Page(90, 7), zeros(1024), zeros(1024)])
+    return made, 1024, 100, [
+        ('pin', page), ('write', 0, 8, b'abcd', 100), ('pin', bad), ('unpin', 0), ('pin', bad), ('pin', victim), ('unpin', 0),
+        ('pin', page), ('read', 0, 6, bytes(6)), ('unpin', 0), ('peek', page), ('checkpoint',), ('drop', other), ('extend', other),
+        ('pin', bad)]
+
+
 def after_set_up(seed):
     """A start, its block size and position, and a list of calls after set up."""
+    if seed == BY_HAND:
+        return by_hand()
     r = random.Random(seed)
     made, size, position = start(r)
     return made, size, position, random_calls(r, set_up(made, size, position), r.randint(8, 14))[0]
 
 
 def from_sound(seed):
-    """A sound memory as some earlier calls left it, with other bytes in its pages and pin counts near the greatest, and calls."""
+    """A sound memory as some earlier calls left it, with other bytes in its pages and pin counts near the greatest, and calls.
+
+    Pages of zeros may be dirty there, and a page may be held whose block does not pass.
+    """
     r = random.Random(10_000 + seed)
     made, size, position = start(r)
     m = random_calls(r, set_up(made, size, position), r.randint(10, 60))[1]
@@ -156,69 +203,9 @@ def from_sound(seed):
             states[i] += 262142 - pins(states[i]) + r.randrange(2)
 
     def page(word):
+        if r.random() < 0.2:
+            return Page(0, 0, size, None, r.choice([None, turned(r.choice(range(AT.start, AT.stop)), r.randrange(8))]))
         return Page(clamped(inserted + r.randrange(3) * (-1 if word & DIRTY else 1)), r.randrange(1, 2**31), size)
     sound = Start(list(m.control), states, m.names, list(map(page, states)), m.free, m.heads, m.chain, m.rows,
-                  [store_page(r, inserted, size) for _ in made.store])
+                  [*store_pages(r, m.rows, inserted, size, 0.25)])
     return sound, random_calls(r, sound.memory(), r.randint(4, 7))[0]
-
-
-# what has to happen somewhere in the lists
-
-REFUSALS = {'pin': (3, 4, 5, 6), 'peek': (3, 4), 'extend': (3, 13), 'drop': (3, 14), 'unpin': (7, 8), 'flush': (7, 8), 'read': (7, 8, 9),
-            'write': (7, 8, 9, 10, 11, 12), 'log_inserted': (15,), 'log_flushed': (16,), 'checkpoint': ()}
-WANTED = {f'{kind} {number}' for kind, refusals in REFUSALS.items() for number in (0, *refusals)} | {
-    'hit', 'hit at the greatest usage', 'hit with every buffer pinned', 'free', 'swept', 'swept, wrote', 'swept, more than N probes',
-    'swept past a pinned buffer', 'the hand wraps', 'a victim behind another in its chain', 'entered before another', 'a name of zeros',
-    'a write-back raises flushed', 'a write-back leaves flushed', 'a checkpoint writes 2', 'drop discards', 'drop empties 2',
-    'drop puts on a free list', 'drop of none', 'extend clears bytes', 'peek pool', 'peek store', 'peek of a dirty page',
-    'peek store at P 2048', 'swept, wrote at P 2048', 'a position above 32 bits', 'a clean page above inserted',
-    'a position of 64 bits', 'log flushed below flushed', 'log flushed above flushed', 'log inserted to inserted',
-    'a dropped page before another in its chain'}
-
-
-def events(call, before, o):
-    """What of WANTED happens at a call."""
-    kind, after = call[0], o.memory
-    yield f'{kind} {o.number}'
-    if kind == 'write' and o.number == 12 and not before.states[call[1]] & DIRTY:
-        yield from ['a clean page above inserted'] * (Pool(before).position(call[1]) > before.control[INSERTED])
-    if o.number:
-        return
-    happens = {}
-    if kind == 'pin':
-        i, hit, wrote, probes = o.answer
-        swept = not hit and before.control[TOP] == NO_TOP
-        happens = {
-            'hit': hit, 'hit at the greatest usage': hit and usage(before.states[i]) == MOST_USAGE,
-            'hit with every buffer pinned': hit and all(map(pins, before.states)),
-            'free': not hit and not swept, 'swept': swept, 'swept, more than N probes': probes > before.n,
-            'swept, wrote': wrote, 'swept, wrote at P 2048': wrote and before.control[P] == 2048,
-            'swept past a pinned buffer': swept and any(map(pins, before.states)), 'a name of zeros': call[1] == (0,) * NAME_WORDS,
-            'the hand wraps': after.control[HAND] < before.control[HAND],
-            'a victim behind another in its chain': swept and i in before.chain, 'entered before another': not hit and after.chain[i] >= 0}
-    written = o.answer[0] if kind in ('flush', 'checkpoint') else kind == 'pin' and o.answer[2]
-    if written:
-        happens |= {'a write-back raises flushed': after.control[FLUSHED] > before.control[FLUSHED],
-                    'a write-back leaves flushed': after.control[FLUSHED] == before.control[FLUSHED]}
-    if kind == 'checkpoint':
-        happens['a checkpoint writes 2'] = o.answer[0] > 1
-    if kind == 'drop':
-        gone = [i for i in before.used() if after.states[i] == 0]
-        happens |= {'drop discards': any(before.states[i] & DIRTY for i in gone), 'drop empties 2': len(gone) > 1, 'drop of none': not gone,
-                    'drop puts on a free list': gone and before.control[TOP] != NO_TOP,
-                    'a dropped page before another in its chain': any(before.chain[i] >= 0 and before.chain[i] not in gone for i in gone)}
-    if kind == 'extend':
-        part = after.block(call[1] + (o.answer[0],))
-        happens['extend clears bytes'] = before.store[part] != bytes(before.control[P])
-    if kind == 'peek':
-        i = Pool(before).held(call[1])
-        happens |= {'peek pool': i is not None, 'peek store': i is None, 'peek store at P 2048': i is None and before.control[P] == 2048,
-                    'peek of a dirty page': i is not None and before.states[i] & DIRTY}
-    if kind == 'log_inserted':
-        happens['log inserted to inserted'] = call[1] == before.control[INSERTED]
-    if kind == 'log_flushed':
-        happens |= {'log flushed below flushed': call[1] < before.control[FLUSHED],
-                    'log flushed above flushed': call[1] > before.control[FLUSHED]}
-    if kind == 'write':
-        happens |= {'a position above 32 bits': call[4] > 2**32, 'a position of 64 bits': call[4] > 2**63}
-    yield from (what for what, so in happens.items() if so)

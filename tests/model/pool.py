@@ -10,6 +10,8 @@ Calls: ('set_up', page size, position) ('pin', name) ('unpin', buffer) ('read', 
 """
 import struct
 
+from checksum import checksum, pack_sum, unpack_sum, with_sum
+
 PAGE_SIZES = (1024, 2048, 4096, 8192, 16384, 32768)
 MOST_PINS, MOST_USAGE = 262143, 5
 USAGE_ONE = 1 << 18
@@ -236,7 +238,7 @@ class Pool:
         if not m.states[i] & DIRTY:
             return 0
         m.control[FLUSHED] = max(m.control[FLUSHED], self.position(i))
-        m.store[m.block(m.name(i))] = m.pool[m.page(i)]
+        m.store[m.block(m.name(i))] = self.sealed(m.name(i), m.pool[m.page(i)])
         m.states[i] &= ~DIRTY_FLAGS
         return 1
 
@@ -256,6 +258,20 @@ class Pool:
             m.states[i] -= USAGE_ONE
         raise Refused(6)
 
+    # checksums
+
+    def checksum(self, name, page):
+        return checksum(name[BLOCK], page)
+
+    def sealed(self, name, page):
+        """A page as it goes to the store: with its checksum, unless it is all zeros."""
+        return with_sum(page, pack_sum(self.checksum(name, page))) if any(page) else page
+
+    def passes(self, name):
+        """Whether a name's block of the store is all zeros, or has its checksum."""
+        page = self.m.store[self.m.block(name)]
+        return not any(page) or unpack_sum(page) == self.checksum(name, page)
+
     # the calls
 
     def set_up(self, page_size, position):
@@ -267,7 +283,7 @@ class Pool:
 
     def pin(self, name):
         m = self.m
-        self.check_name(name)
+        self.check_page(name)
         i = self.held(name)
         if i is not None:
             refuse(5, pins(m.states[i]) == MOST_PINS)
@@ -317,7 +333,7 @@ class Pool:
         return sum(self.write_back(i) for i in range(self.m.n)),
 
     def peek(self, name):
-        self.check_name(name)
+        self.check_page(name)
         i = self.held(name)
         return (1, self.m.page(i).start) if i is not None else (0, self.m.block(name).start)
 
@@ -362,6 +378,11 @@ class Pool:
     def check_name(self, name):
         f = self.check_key(name[:FILE_WORDS])
         refuse(4, name[BLOCK] >= self.m.blocks(f))
+
+    def check_page(self, name):
+        """A page that is to be loaded or handed back: a block that is not held is verified."""
+        self.check_name(name)
+        refuse(17, self.held(name) is None and not self.passes(name))
 
     def check_buffer(self, i):
         refuse(7, i >= self.m.n)

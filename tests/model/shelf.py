@@ -2,9 +2,21 @@
 
 A page is its name. A shelf takes a call together with what the program answered: only an accepted pin's buffer number is
 the program's, and the ledger takes whether the pin wrote. Bytes of blocks are kept in one store, as the pool's store is.
+Where the pool's bytes are compared with the shelf's, bytes 8 and 9 of a page are left out: only the store's have a checksum.
 """
+from checksum import bare, checksum, unpack_sum
 from pool import BLOCK, BLOCKS, CAPACITY, FILE_WORDS, FLUSHED, INSERTED, MOST_PINS, P, ROW_WORDS, Memory, Refused
 from pool import pack_position, peeked, refuse, unpack_position
+
+
+def came_bad(block, page):
+    """Some byte isn't 0, and bytes 8 and 9 aren't the checksum of this block number: the shelf's own words for it."""
+    return any(page) and unpack_sum(page) != checksum(block, page)
+
+
+def every_page(files):
+    """The pages below their files' block counts."""
+    return [tuple(files.row(f)[:FILE_WORDS]) + (block,) for f in files.files() for block in range(files.blocks(f))]
 
 
 class Shelf:
@@ -15,8 +27,16 @@ class Shelf:
         # rows, and each block's bytes: a memory without buffers
         self.files = Memory(list(memory.control), [], [], b'', [], [], [], list(memory.rows), bytearray(memory.store))
         self.counts, self.holds = {}, {}
+        self.bad = self.bad_pages()
         # the ledger
         self.dirty, self.last, self.flushed = set(), {}, memory.control[FLUSHED]
+
+    def bad_pages(self):
+        """Those that came in bad."""
+        return {page for page in every_page(self.files) if self.is_bad(page)}
+
+    def is_bad(self, page):
+        return came_bad(page[BLOCK], self.bytes_of(page))
 
     def count(self, page):
         return self.counts.get(page, 0)
@@ -67,6 +87,7 @@ class Shelf:
         f = self.files.file(name[:FILE_WORDS])
         refuse(3, f is None)
         refuse(4, name[BLOCK] >= self.files.blocks(f))
+        refuse(17, name in self.bad)
 
     def check_extend(self, key):
         f = self.files.file(key)
@@ -129,7 +150,7 @@ class Shelf:
             put = [page]
         elif kind == 'drop':
             self.files.rows[ROW_WORDS * self.files.file(call[1]) + BLOCKS] = 0
-            self.dirty = {page for page in self.dirty if page[:FILE_WORDS] != tuple(call[1])}
+            self.dirty, self.bad = ({page for page in some if page[:FILE_WORDS] != tuple(call[1])} for some in (self.dirty, self.bad))
         elif kind == 'log_inserted':
             self.inserted = call[1]
         elif kind == 'log_flushed':
@@ -150,7 +171,8 @@ def differs(shelf, call, before, outcome):
 
     want('number', outcome.number == expected)
     if call[0] in ('read', 'peek'):
-        want('bytes', handed == (peeked(outcome) if call[0] == 'peek' else bytes(outcome.own)))
+        start = call[2] if call[0] == 'read' else 0
+        want('bytes', bare(handed, start) == bare(peeked(outcome) if call[0] == 'peek' else outcome.own, start))
     want('rows', after.rows == shelf.files.rows)
     want('inserted', after.control[INSERTED] == shelf.inserted)
     want('flushed', after.control[FLUSHED] == shelf.flushed)
@@ -163,10 +185,10 @@ def differs(shelf, call, before, outcome):
     if expected == 0 and call[0] == 'extend':
         want('block', outcome.answer[0] == put[0][BLOCK])
     if expected == 0 and call[0] == 'checkpoint':
-        for f in after.files():
-            for block in range(after.blocks(f)):
-                part = after.block(tuple(after.row(f)[:FILE_WORDS]) + (block,))
-                want('store', after.store[part] == shelf.files.store[part])
+        for page in every_page(after):
+            want('store', bare(after.store[after.block(page)]) == bare(shelf.bytes_of(page)))
+    for page in every_page(after):
+        want('sums', came_bad(page[BLOCK], after.store[after.block(page)]) == (page in shelf.bad))
     size = shelf.page_size
     changed = {k for k in range(len(after.store) // size)
                if after.store[k * size:(k + 1) * size] != before.store[k * size:(k + 1) * size]}

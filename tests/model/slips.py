@@ -1,8 +1,10 @@
 """Planted errors: models that are wrong in one thing each. Each must give a theorem that the checker refuses."""
 import struct
 
-from pool import CAPACITY, DIRTY, HAND, MOST_USAGE, ROW_WORDS, USAGE_ONE, Pool, Refused, name_bytes, pins, refuse, usage
-from shelf import Shelf
+from checksum import AT, checksum, pack_sum, summed, unpack_sum, with_sum
+from pool import BLOCK, BLOCKS, CAPACITY, DIRTY, FILE_WORDS, HAND, MOST_USAGE, NO_TOP, ROW_WORDS, TOP, USAGE_ONE
+from pool import Pool, Refused, name_bytes, pins, refuse, usage
+from shelf import Shelf, came_bad
 
 
 class UsageUpToSix(Pool):
@@ -110,6 +112,120 @@ class ExtendKeepsBytes(Pool):
         return answer
 
 
+# checksums
+
+class SealsNothing(Pool):
+    def sealed(self, name, page):
+        return page
+
+
+class SealsByPlace(Pool):
+    """By the place in the store, where PostgreSQL has the block number in its file."""
+
+    def sealed(self, name, page):
+        return super().sealed((self.m.place(name),) * (BLOCK + 1), page)
+
+
+class VerifiesByPlace(Pool):
+    def passes(self, name):
+        page = self.m.store[self.m.block(name)]
+        return not any(page) or unpack_sum(page) == checksum(self.m.place(name), page)
+
+
+class SealsHighByteFirst(Pool):
+    def sealed(self, name, page):
+        sealed = super().sealed(name, page)
+        return with_sum(sealed, bytes(sealed[AT])[::-1])
+
+
+class SealsThePoolToo(Pool):
+    def write_back(self, i):
+        written = super().write_back(i)
+        if written:
+            self.m.pool[self.m.page(i)] = self.m.store[self.m.block(self.m.name(i))]
+        return written
+
+
+class SealsWithOneRoundOfZeros(Pool):
+    def sealed(self, name, page):
+        return with_sum(page, pack_sum((summed(with_sum(page, bytes(2)), last=1) ^ name[BLOCK]) % 65535 + 1)) if any(page) else page
+
+
+class SumsItsOwnBytes(Pool):
+    """Bytes 8 and 9 are as they stand in the pool, not zeros."""
+
+    def sealed(self, name, page):
+        return with_sum(page, pack_sum((summed(bytes(page)) ^ name[BLOCK]) % 65535 + 1)) if any(page) else page
+
+
+class PassesWithoutChecksum(Pool):
+    """As a cluster without checksums has its pages."""
+
+    def passes(self, name):
+        return unpack_sum(self.m.store[self.m.block(name)]) == 0 or super().passes(name)
+
+
+class RefusesZeros(Pool):
+    def passes(self, name):
+        return any(self.m.store[self.m.block(name)]) and super().passes(name)
+
+
+class PinVerifiesNothing(Pool):
+    def pin(self, name):
+        self.check_page = self.check_name
+        return super().pin(name)
+
+
+class PeekVerifiesNothing(Pool):
+    def peek(self, name):
+        self.check_page = self.check_name
+        return super().peek(name)
+
+
+class SeventeenBelowSix(Pool):
+    def pin(self, name):
+        self.check_name(name)
+        refuse(6, self.held(name) is None and all(map(pins, self.m.states)))
+        return super().pin(name)
+
+
+class SeventeenAboveFour(Pool):
+    def check_page(self, name):
+        f = self.check_key(name[:FILE_WORDS])
+        refuse(17, name[BLOCK] < self.m.row(f)[CAPACITY] and self.held(name) is None and not self.passes(name))
+        super().check_page(name)
+
+
+class SweepsBeforeItVerifies(Pool):
+    """The hand has moved where the pin is refused."""
+
+    def call(self, call, *answer):
+        outcome = super().call(call, *answer)
+        if call[0] == 'pin' and outcome.number == 17 and self.m.control[TOP] == NO_TOP and not all(map(pins, self.m.states)):
+            self.sweep()
+        return outcome
+
+
+# seen from a sound memory
+
+class SealsZeros(Pool):
+    def sealed(self, name, page):
+        return with_sum(page, pack_sum(self.checksum(name, page)))
+
+
+class TakesMarkedZerosForZeros(Pool):
+    """Zeros but for bytes 8 and 9 go out without a checksum."""
+
+    def sealed(self, name, page):
+        return super().sealed(name, page) if any(with_sum(page, bytes(2))) else page
+
+
+class VerifiesHeldPages(Pool):
+    def check_page(self, name):
+        self.check_name(name)
+        refuse(17, not self.passes(name))
+
+
 # books and sizes, seen in damaged memories
 
 class BooksTakeAnyFlag(Pool):
@@ -142,6 +258,55 @@ class ShelfSixForPinned(Shelf):
         refuse(6, len(self.pinned()) == self.n)
 
 
+class ShelfBadForEver(Shelf):
+    """After a drop too."""
+
+    def step(self, call, answer):
+        bad = set(self.bad)
+        result = super().step(call, answer)
+        self.bad = bad
+        return result
+
+
+class ShelfBadAboveTheCount(Shelf):
+    def __init__(self, memory):
+        super().__init__(memory)
+        blocks = self.files.rows[BLOCKS::ROW_WORDS]
+        self.files.rows[BLOCKS::ROW_WORDS] = self.files.rows[CAPACITY::ROW_WORDS]
+        self.bad = self.bad_pages()
+        self.files.rows[BLOCKS::ROW_WORDS] = blocks
+
+
+class ShelfBadByPlace(Shelf):
+    def is_bad(self, page):
+        return came_bad(self.files.place(page), self.bytes_of(page))
+
+
+class ShelfGoodWithoutChecksum(Shelf):
+    def is_bad(self, page):
+        return super().is_bad(page) and unpack_sum(self.bytes_of(page)) != 0
+
+
+class ShelfSixAboveSeventeen(Shelf):
+    def check_pin(self, name):
+        bad, self.bad = self.bad, set()
+        try:
+            super().check_pin(name)
+        finally:
+            self.bad = bad
+        super().check_pin(name)
+
+
+class ShelfPeeksAtBad(Shelf):
+    def step(self, call, answer):
+        if call[0] != 'peek':
+            return super().step(call, answer)
+        bad, self.bad = self.bad, set()
+        result = super().step(call, answer)
+        self.bad = bad
+        return result
+
+
 class LedgerKeepsDroppedDirty(Shelf):
     def step(self, call, answer):
         dirty = set(self.dirty)
@@ -160,6 +325,16 @@ class LedgerCountsVictimLate(Shelf):
 
 
 POOLS = [UsageUpToSix, SweepLowersPinned, SweepLowersThenTests, PositionAsOneNumber, DropPushesFalling, WriteBackForgetsFlushed,
-         WriteBackLeavesJustDirtied, VictimIsReloadedFirst, ChainEntersAtTail, HashMultipliesFirst, ExtendKeepsBytes]
+         WriteBackLeavesJustDirtied, VictimIsReloadedFirst, ChainEntersAtTail, HashMultipliesFirst, ExtendKeepsBytes, SealsNothing,
+         SealsByPlace, VerifiesByPlace, SealsHighByteFirst, SealsThePoolToo, SealsWithOneRoundOfZeros, SumsItsOwnBytes,
+         PassesWithoutChecksum, RefusesZeros, PinVerifiesNothing, PeekVerifiesNothing, SeventeenBelowSix, SeventeenAboveFour,
+         SweepsBeforeItVerifies]
+LENT = [SealsZeros, TakesMarkedZerosForZeros, VerifiesHeldPages]
 BOOKS = [BooksTakeAnyFlag, BooksTakeLongLinks, SizesTakeLongerStore]
-SHELVES = [ShelfSixForPinned, LedgerKeepsDroppedDirty, LedgerCountsVictimLate]
+SHELVES = [ShelfSixForPinned, ShelfBadForEver, ShelfBadAboveTheCount, ShelfBadByPlace, ShelfGoodWithoutChecksum, ShelfSixAboveSeventeen,
+           ShelfPeeksAtBad, LedgerKeepsDroppedDirty, LedgerCountsVictimLate]
+# what the claim about pool and shelf has to say of a wrong pool in Python
+CLAIMED = {'sums': [SealsNothing, SealsByPlace, SealsHighByteFirst, SealsWithOneRoundOfZeros, SumsItsOwnBytes],
+           'number': [VerifiesByPlace, PassesWithoutChecksum, RefusesZeros, PinVerifiesNothing, PeekVerifiesNothing, SeventeenBelowSix,
+                      SeventeenAboveFour],
+           'bytes': [VictimIsReloadedFirst], 'store': [VictimIsReloadedFirst], 'flushed': [WriteBackForgetsFlushed]}

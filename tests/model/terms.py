@@ -3,6 +3,7 @@ import itertools
 import random
 import struct
 
+from checksum import checksum, pack_sum, with_sum
 from pool import NAME_WORDS, NO_TOP, P, TOP, Memory, peeked
 
 CALLS = {'pin': 'Pin', 'unpin': 'Unpin', 'read': 'Read', 'write': 'Write', 'flush': 'Flush', 'checkpoint': 'Checkpoint',
@@ -66,15 +67,22 @@ def noise(length, seed):
 
 
 class Page:
-    """A page of lent bytes: eight bytes of log position, some noise, a long run, some noise; or zeros where there is no seed."""
+    """A page of lent bytes: eight bytes of log position, some noise, a long run, some noise; or zeros where there is no seed.
 
-    def __init__(self, position, seed, size=1024):
+    With a block number it has its checksum as that block. A change is made last, from bytes to bytes.
+    """
+
+    def __init__(self, position, seed, size=1024, block=None, change=None):
         self.head, self.seed, self.size = struct.pack('<2I', position >> 32, position % 2**32), seed, size
+        self.block, self.change = block, change
 
     def bytes(self):
-        if not self.seed:
-            return bytes(self.size)
-        return self.head + noise(24, self.seed) + bytes([self.seed % 256]) * (self.size - 48) + noise(16, self.seed + 1)
+        page = bytes(self.size)
+        if self.seed:
+            page = self.head + noise(24, self.seed) + bytes([self.seed % 256]) * (self.size - 48) + noise(16, self.seed + 1)
+        if self.block is not None:
+            page = with_sum(page, pack_sum(checksum(self.block, page)))
+        return self.change(page) if self.change else page
 
 
 def zeros(size):
@@ -83,7 +91,7 @@ def zeros(size):
 
 def bytes_term(part):
     """The bytes of some pages as a term; a single page of zeros may be large."""
-    if len(part) == 1 and not part[0].seed:
+    if len(part) == 1 and not part[0].seed and not part[0].change:
         return f'(fill {part[0].size} 0 ([]))'
     return runs(b''.join(page.bytes() for page in part))
 
@@ -146,14 +154,16 @@ def ledger_seen(shelf, number, put):
     places = range(len(shelf.files.store) // shelf.page_size)
     counts = {shelf.files.place(page): count for page, count in shelf.counts.items()}
 
-    def among(some):
-        at = {shelf.files.place(page) for page in some}
-        return [int(g in at) for g in places]
-
     def found(numbered):
         return [1 + shelf.files.place(numbered[b]) if b in numbered else 0 for b in range(shelf.n)]
-    return [[number, len(shelf.pinned()), shelf.inserted, shelf.flushed], among(shelf.dirty), among(put),
+    return [[number, len(shelf.pinned()), shelf.inserted, shelf.flushed], among(shelf, shelf.dirty), among(shelf, put),
             [counts.get(g, 0) for g in places], found(shelf.holds), found(shelf.last), list(shelf.files.rows)]
+
+
+def among(shelf, some):
+    """For each place 1 if one of some pages has it, else 0."""
+    at = {shelf.files.place(page) for page in some}
+    return [int(g in at) for g in range(len(shelf.files.store) // shelf.page_size)]
 
 
 def list_seen(shelf, calls, outcomes):
@@ -164,7 +174,7 @@ def list_seen(shelf, calls, outcomes):
         put_so_far += put
         seen.append(pool_seen(call, o) + ledger_seen(shelf, number, put))
     seen += both_pages(outcomes[-1].memory)
-    return seen + [pages(shelf.files.store, shelf.page_size), [ledger_seen(shelf, 0, put_so_far)[2]]]
+    return seen + [pages(shelf.files.store, shelf.page_size), [among(shelf, put_so_far), among(shelf, shelf.bad)]]
 
 
 def lent_seen(outcomes):

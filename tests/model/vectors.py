@@ -14,17 +14,19 @@ import sys
 import damage
 import limits
 import slips
-from lists import WANTED, after_set_up, events, from_sound, run, set_up
+from checksum import checksum
+from events import ONLY_SOUND, WANTED, events, left_out
+from lists import BY_HAND, after_set_up, from_sound, run, set_up
 from pool import P, Pool
-from shelf import Shelf, differs
+from shelf import Shelf, came_bad, differs
 from terms import call_term, lent_books, lent_seen, list_seen, listed, numbers, words
 
-# seeds of lists in which much happens
+# seeds of lists in which much happens, with few checksums: the checker takes a third of a second for each
 AFTER_SET_UP = [
-    157, 293, 415, 480, 518, 699, 961, 1641, 1710, 1792, 1864, 1945, 2132, 2293, 2331, 2366, 2473, 2581, 2713, 2729, 2749, 2884, 3069,
-    3087, 3379, 3748, 3949, 3999, 4111, 4148, 4230, 4301, 4302, 4482, 4488, 4527, 4605, 4823, 4996, 5024, 5028, 5078, 5271, 5394, 5466,
-    5656, 5671, 5937]
-FROM_SOUND = [29, 30, 122, 123, 135, 168, 226, 280, 316, 360, 392, 461, 494, 503, 721, 724]
+    BY_HAND, 299, 425, 571, 1501, 1730, 1861, 1930, 2576, 2657, 2763, 2823, 3419, 3507, 3951, 4068, 4205, 4653, 4794, 5006, 5112,
+    5157, 5203, 5243, 5570, 5789, 6148, 6484, 6511, 6632, 6991, 7150, 7512, 8235, 8238, 8448, 9689, 10205, 10366, 10455, 10592, 10679,
+    10846, 11525, 11581, 11627, 11644, 11715]
+FROM_SOUND = [348, 660, 661, 728, 935, 1390, 1456, 1490, 1521, 1695, 1997, 2038, 2178, 2311, 2518, 2713]
 BELOW = ['laws', 'bufhash', 'buftag', 'bufmodel', 'shelf']
 
 HEAD = '''-- Written by tests/model/vectors.py.
@@ -37,6 +39,7 @@ use lib.IntN.{ℤ, pos, negsuc}
 use Rattle.laws.specs.First.{found, missing}
 use Rattle.buftag.specs.Name.{fileOf, nameOf}
 use Rattle.bufmodel.specs.Memory.{Memory}
+use Rattle.bufmodel.specs.Checksum.{checksum, passes}
 use Rattle.bufmodel.specs.Sizes.{soundRows}
 use Rattle.bufmodel.specs.Calls.{setUp}
 use Rattle.bufmodel.specs.Step.{Call, Pin, Unpin, Read, Write, Flush, Checkpoint, Peek, Extend, Drop, LogInserted, LogFlushed}
@@ -128,6 +131,22 @@ def define_list(module, seed):
     return f'listSeen (setUp start-{seed} {size} {position} .after) (firstLedger start-{seed} {size} {position}) calls-{seed}'
 
 
+def shelf_observed(seed, shelf_class=Shelf):
+    return observed(seed, Pool, shelf_class)
+
+
+def lent_observed(seed, pool_class=Pool):
+    """What the model gives for the list of this seed from a sound memory."""
+    made, calls = from_sound(seed)
+    return lent_seen(run(pool_class, made.memory(), calls))
+
+
+def define_lent(module, seed):
+    made, calls = from_sound(seed)
+    module.define(f'start-{seed}', 'Lent', made.lent_term(module.shared))
+    return f'lentSeen start-{seed} {calls_term(calls)}'
+
+
 def happenings(memory, calls):
     """What happens in a list, call by call."""
     for call, o in zip(calls, run(Pool, memory, calls)):
@@ -136,7 +155,7 @@ def happenings(memory, calls):
 
 
 def agree_in_python(seed):
-    """Pool and shelf on the list of this seed."""
+    """Pool and shelf on the list of this seed, and what happens where bytes are left out between them."""
     made, size, position, calls = after_set_up(seed)
     memory = set_up(made, size, position)
     shelf = Shelf(memory)
@@ -144,6 +163,7 @@ def agree_in_python(seed):
         wrong = differs(shelf, call, memory, o)
         if wrong:
             sys.exit(f'list {seed}: pool and shelf differ in Python in {wrong} at {call}')
+        yield from left_out(shelf, call, o)
         memory = o.memory
 
 
@@ -156,27 +176,23 @@ def write_lists(room, unfolding):
     for k, seeds in enumerate(eights(AFTER_SET_UP)):
         module, count = Module(f'Lists{k + 1}', unfolding), 0
         for seed in seeds:
-            agree_in_python(seed)
             made, size, position, calls = after_set_up(seed)
-            happened |= set(happenings(set_up(made, size, position), calls))
+            happened |= {*agree_in_python(seed), *happenings(set_up(made, size, position), calls)}
             module.state(f'list-{seed}', define_list(module, seed), numbers(observed(seed)))
             count += len(calls)
         crate.add(module, f'{len(seeds)} lists, {count} calls after set up, on the pool, the shelf and the ledger')
-    # only a memory made by hand has so many pins
-    if WANTED - happened != {'pin 5'}:
-        sys.exit(f'the lists after set up miss: {sorted(WANTED - happened)}')
+    if WANTED - ONLY_SOUND - happened:
+        sys.exit(f'the lists after set up miss: {sorted(WANTED - ONLY_SOUND - happened)}')
     for k, seeds in enumerate(eights(FROM_SOUND)):
         module, count = Module(f'Sound{k + 1}', unfolding), 0
         for seed in seeds:
             made, calls = from_sound(seed)
             happened |= set(happenings(made.memory(), calls))
-            module.define(f'start-{seed}', 'Lent', made.lent_term(module.shared))
-            seen = lent_seen(run(Pool, made.memory(), calls))
-            module.state(f'lent-{seed}', f'lentSeen start-{seed} {calls_term(calls)}', numbers(seen))
+            module.state(f'lent-{seed}', define_lent(module, seed), numbers(lent_observed(seed)))
             count += len(calls)
         crate.add(module, f'{len(seeds)} lists, {count} calls from a sound memory, as C makes them')
-    if 'pin 5' not in happened:
-        sys.exit('the lists miss a pin refused with 5')
+    if WANTED - happened:
+        sys.exit(f'the lists miss: {sorted(WANTED - happened)}')
 
 
 def write_apart(room, seed):
@@ -232,19 +248,24 @@ def write_damage(room, unfolding):
     for j, one in enumerate(limits.checked_set_ups()):
         state_set_up(module, j, *one)
     crate.add(module, f'{j + 1} set-ups at the limits')
-    module = Module('Limits', unfolding)
+    write_limits(crate, Module('Limits', unfolding))
+    write_sums(crate, Module('Sums', unfolding))
+
+
+def write_limits(crate, module):
     for j, rows in enumerate(limits.rows()):
         module.state(f'rows-{j}', f'soundRows {numbers(rows)}', str(limits.rows_fit(rows)).lower())
     module.define('base', 'Lent', damage.base().lent_term(module.shared))
     for j, (call, answer) in enumerate(limits.answers()):
         o = Pool(damage.base().memory()).call(call, answer)
         module.state(f'answer-{j}', f'callSeen base ({call_term(call)}) {numbers(answer)}', numbers([o.number, *o.answer, *o.own]))
-    for j, (start, shelf, counts, holds, calls) in enumerate(limits.shelves()):
+    for j, (start, shelf, counts, holds, bad, calls) in enumerate(limits.shelves()):
         held = listed('missing' if place is None else f'found {place}' for place in holds)
+        spoilt = listed(str(place in bad).lower() for place in range(len(counts)))
         module.define(f'shelf-{j}', 'Shelf', f'''record {{
       buffers = {shelf.n}; size = {shelf.page_size}; inserted = {shelf.inserted}; rows = {numbers(start.rows)};
       bytes = λ g. getD {numbers([page.bytes() for page in start.store])} g [];
-      counts = λ g. getD {numbers(counts)} g 0; holds = λ b. getD {held} b missing
+      counts = λ g. getD {numbers(counts)} g 0; holds = λ b. getD {held} b missing; bad = λ g. getD {spoilt} g false
     }}''')
         module.state(f'refusals-{j}', f'refusals shelf-{j} {calls_term(calls)}', numbers([shelf.refuses(call) for call in calls]))
     for j, (function, case, has) in enumerate(limits.enums()):
@@ -252,28 +273,62 @@ def write_damage(room, unfolding):
     crate.add(module, 'sums of capacities, answer slices of other lengths, a shelf at its limits, the enums of the answers')
 
 
+def write_sums(crate, module):
+    pages, blocks = [*limits.sums()], [*limits.blocks()]
+    for j, (block, page) in enumerate(pages):
+        module.define(f'page-{j}', 'List ℕ', numbers(page))
+        module.state(f'sum-{j}', f'checksum {block} page-{j}', str(checksum(block, page)))
+    for j, (block, page) in enumerate(blocks):
+        module.define(f'block-{j}', 'List ℕ', numbers(page))
+        module.state(f'passes-{j}', f'passes {block} block-{j}', str(not came_bad(block, page)).lower())
+    crate.add(module, f'the checksums of {len(pages)} pages, and {len(blocks)} blocks that pass or not')
+
+
 # planted errors
 
-def first_wrong(slip):
+def first_wrong(slip, seeds, seen):
     """The shortest list on which a wrong model gives something else, and what it gives. It may stop in one."""
-    classes = (slip, Shelf) if slip in slips.POOLS else (Pool, slip)
-    for seed in sorted(AFTER_SET_UP, key=lambda seed: len(after_set_up(seed)[3])):
+    for seed in seeds:
         try:
-            wrong = observed(seed, *classes)
+            wrong = seen(seed, slip)
         except (KeyError, IndexError, ValueError):
             continue
-        if wrong != observed(seed):
+        if wrong != seen(seed):
             return seed, wrong
     sys.exit(f'{slip.__name__} shows in no list')
 
 
+def claimed(slip):
+    """What the claim about pool and shelf has to say of a wrong pool."""
+    for seed in AFTER_SET_UP:
+        made, size, position, calls = after_set_up(seed)
+        memory = set_up(made, size, position)
+        shelf = Shelf(memory)
+        for call, o in zip(calls, run(slip, memory, calls)):
+            wrong = differs(shelf, call, memory, o)
+            yield from wrong
+            if wrong:
+                break
+            memory = o.memory
+
+
 def write_slips(room, unfolding):
     crate = Crate(room, 'model_slips', [*BELOW, 'model_seen'])
+    shortest = sorted(AFTER_SET_UP, key=lambda seed: len(after_set_up(seed)[3]))
     for slip in [*slips.POOLS, *slips.SHELVES]:
-        seed, wrong = first_wrong(slip)
+        seed, wrong = first_wrong(slip, shortest, observed if slip in slips.POOLS else shelf_observed)
         module = Module(slip.__name__, unfolding)
         module.state('wrong', define_list(module, seed), numbers(wrong))
         crate.add(module, f'shows in list-{seed}')
+    for slip in slips.LENT:
+        seed, wrong = first_wrong(slip, FROM_SOUND, lent_observed)
+        module = Module(slip.__name__, unfolding)
+        module.state('wrong', define_lent(module, seed), numbers(wrong))
+        crate.add(module, f'shows in lent-{seed}')
+    for word, pools in slips.CLAIMED.items():
+        for slip in pools:
+            if word not in claimed(slip):
+                sys.exit(f'{slip.__name__}: pool and shelf do not differ in {word} in Python')
     for slip in slips.BOOKS:
         apart = [one for one in damage.damaged() if judged(*one[1:]) != judged(*one[1:], slip)]
         if not apart:

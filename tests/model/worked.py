@@ -1,6 +1,8 @@
-"""The model against what is printed: the worked pages of the paper, and FNV-1a's published values. Status 1 if one differs."""
+"""The model against what is printed: the worked pages of the paper, FNV-1a's published values, and checksums as PostgreSQL's
+checksum_impl.h gives them, compiled for blocks of each size. Status 1 if one differs."""
 import sys
 
+from checksum import checksum
 from lists import run
 from pool import ANSWER_WORDS, CONTROL_WORDS, HAND, NAME_WORDS, NO_TOP, TOP, Memory, Pool
 from pool import fnv_1a, name_bytes, pack_position, unpack_position
@@ -43,6 +45,21 @@ def free_list(m):
     return members
 
 
+def ramp(step, first, size):
+    return bytes((step * k + first) % 251 for k in range(size))
+
+
+def sums():
+    """What it is of, the model's checksum, the header's."""
+    yield 'zeros, block 0', checksum(0, bytes(1024)), 35928
+    yield 'ones, block 65535', checksum(65535, b'\xff' * 1024), 16265
+    yield 'a ramp, blocks 0 and 1', [checksum(block, ramp(7, 3, 1024)) for block in (0, 1)], [6928, 6927]
+    yield 'the last block', checksum(4294967295, ramp(13, 1, 1024)), 24463
+    larger = [2048, 4096, 8192, 16384, 32768]
+    yield 'a ramp, larger', [checksum(0, ramp(7, 3, size)) for size in larger], [27551, 3770, 19518, 10796, 7654]
+    yield 'another ramp, larger', [checksum(0, ramp(13, 1, size)) for size in larger], [43741, 39545, 28217, 20046, 50611]
+
+
 def cases():
     """Letter, what the model gives, what the paper has."""
     yield 'FNV-1a of nothing', fnv_1a(b''), 0x811c9dc5
@@ -63,6 +80,9 @@ def cases():
     yield 'G', seen([*THREE, write(8, b'x')])[1].states[0], 0x93840001
     answers, _ = seen([*THREE, *[pin(2)] * 4, *[('unpin', 2)] * 5, pin(3)])
     yield 'H', answers, [(0, [2, 0, 0, 18])]
+    write_90 = [*THREE, write(10, bytes([77, 78]), 90), ('flush', 0)]
+    yield 'a page written back', seen(write_90)[1].store[4:12].hex(), '5a0000008d8e4d4e'
+    yield 'its pool page', seen(write_90)[1].pool[4:12].hex(), '5a00000000004d4e'
     yield 'I', numbers([*THREE, write(8, b'x', 101), write(8, b'x', 100), write(8, b'x', 99)], 3), [11, 0, 12]
     yield 'J', free_list(seen([*UNPINNED, ('drop', KEY)])[1]), [2, 1, 0]
     edges = [write(7, b'x'), write(8, b'x'), write(1020, b'four'), write(1020, b'fives'), write(1024, b'')]
@@ -73,5 +93,5 @@ def cases():
 
 
 if __name__ == '__main__':
-    wrong = [f'{letter}: {gives}, not {has}' for letter, gives, has in cases() if gives != has]
+    wrong = [f'{letter}: {gives}, not {has}' for letter, gives, has in [*cases(), *sums()] if gives != has]
     sys.exit('\n'.join(wrong) or 0)

@@ -1,8 +1,8 @@
 """A till's card, of blocks of 8,192 bytes, beside the file of a PostgreSQL table.
 card.py table CARD FILE   writes the receipts' blocks to FILE, and prints for each what pageinspect's page_header has to say of it
 card.py plain CARD FILE   writes them with bytes 8 to 23 zero: pages of the same lines without a page header
-card.py table_sums CARD FILE, card.py plain_sums CARD FILE
-                          prints how many pages of such a FILE with lines have a checksum now, of how many; all other bytes are as before
+card.py before CARD FILE  writes them with bytes 8 and 9 zero: as a till wrote them that gave no checksums
+card.py same CARD FILE    FILE has the receipts' blocks, to the last byte
 Status 0, or 1 and a line about what is not as expected."""
 import struct
 import sys
@@ -34,6 +34,8 @@ def table(pages, position, path):
         high, low = struct.unpack_from("<II", page)
         if any(page) and not any(page[LINES:]):
             sys.exit(f"page {block} has no lines and is not zeros")
+        if any(page) and not any(page[8:10]):
+            sys.exit(f"page {block} has lines and no checksum")
         print(f"{block}|{high:X}/{low:X}|" + ("24|64|8192|8192|4" if any(page) else "0|0|0|0|0"))
         last = max(last, high << 32 | low)
     if last != position:
@@ -41,30 +43,25 @@ def table(pages, position, path):
     save(path, pages)
 
 
-def sums(pages, path):
+def same(pages, path):
     with open(path, "rb") as file:
         given = file.read()
     if len(given) != PAGE * len(pages):
         sys.exit(f"the file has {len(given)} bytes")
-    found = []
     for block, page in enumerate(pages):
-        now = given[PAGE * block:PAGE * (block + 1)]
-        if now[:8] + now[10:] != page[:8] + page[10:] or (any(now) and not any(page)):
-            sys.exit(f"page {block} has other bytes than before")
-        if any(page):
-            found.append(now[8:10] != b"\0\0")
-    print(f"{sum(found)} of {len(found)}")
+        if given[PAGE * block:PAGE * (block + 1)] != page:
+            sys.exit(f"page {block} has other bytes")
 
 
 def main(what, card, path):
     pages, position = receipts(card)
-    plain = [page[:8] + bytes(16) + page[24:] for page in pages]
     if what == "table":
         table(pages, position, path)
-    elif what == "plain":
-        save(path, plain)
-    elif what in ("table_sums", "plain_sums"):
-        sums(pages if what == "table_sums" else plain, path)
+    elif what in ("plain", "before"):
+        end = 24 if what == "plain" else 10
+        save(path, [page[:8] + bytes(end - 8) + page[end:] for page in pages])
+    elif what == "same":
+        same(pages, path)
     else:
         sys.exit(__doc__)
 

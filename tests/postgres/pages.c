@@ -1,7 +1,9 @@
 /* Pages that a PostgreSQL server is to read, written by the pool.
-   pages ours STORE: writes a store of new pages, and prints for each what pageinspect's page_header has to say of it.
+   pages ours STORE: writes a store of new pages, and prints for each what pageinspect's page_header has to say of it, and t for a right
+   checksum.
    pages theirs FILE INSERTED: takes a table's file for its store, with the log inserted up to there. Reads the block numbers and log
    positions that the server gave; raises each page's position, puts the file back, and prints block numbers and positions.
+   pages verify FILE: prints how many blocks of the file are pinned and peeked, of how many; 17 refuses the others.
    Status 0, or 1 and a line about what is not as expected. */
 #include "published.h"
 #include "small.h"
@@ -36,7 +38,7 @@ static void make_page(struct bufpool *m, struct bufpool_buffer buffer, uint32_t 
     need(bufpool_write_buffer(m, buffer, BUFPOOL_POSITION_BYTES, header + BUFPOOL_POSITION_BYTES, BEHIND, position) == BUFPOOL_DONE,
          "write of the header is refused, block", block);
     print_position(block, position);
-    printf("|%d|%d|%d|%d|4\n", lower, upper, special, PAGE);
+    printf("|%d|%d|%d|%d|4|t\n", lower, upper, special, PAGE);
 }
 
 /* Pages come to the store in all three ways: by a flush, by a pin that needs their buffer, by a checkpoint. */
@@ -89,15 +91,23 @@ static uint64_t position_of(const char *text)
     return (uint64_t)high << 32 | low;
 }
 
-static void theirs(const char *path, uint64_t inserted)
+/* The blocks of a file into the store: how many. */
+static uint32_t load(const char *path)
 {
     FILE *file = fopen(path, "rb");
-    uint32_t blocks, block, many = 0;
-    uint64_t written;
-    char text[32];
+    uint32_t blocks;
     need(file != NULL, "the table's file cannot be read", 0);
     blocks = (uint32_t)fread(small_store, PAGE, MOST_BLOCKS, file);
+    need(feof(file) || fgetc(file) == EOF, "the file has more blocks than", blocks);
     fclose(file);
+    return blocks;
+}
+
+static void theirs(const char *path, uint64_t inserted)
+{
+    uint32_t blocks = load(path), block, many = 0;
+    uint64_t written;
+    char text[32];
     struct bufpool *m = small_pool(BUFFERS, blocks, inserted);
     while (scanf("%" SCNu32 "|%31s", &block, text) == 2) {
         uint64_t position = position_of(text);
@@ -110,10 +120,28 @@ static void theirs(const char *path, uint64_t inserted)
     save(path, blocks);
 }
 
+static void verify(const char *path)
+{
+    uint32_t blocks = load(path), passed = 0;
+    struct bufpool *m = small_pool(BUFFERS, blocks, 0);
+    for (uint32_t k = 0; k < blocks; k++) {
+        struct bufpool_pinned p;
+        struct bufpool_part part;
+        uint32_t peeked = bufpool_peek_page(m, small_name(k), &part), pinned = bufpool_pin_page(m, small_name(k), &p);
+        need(peeked == pinned, "peek and pin differ, at block", k);
+        need(pinned == BUFPOOL_DONE || pinned == BUFPOOL_CHECKSUM, "a pin gives another number than 0 or 17", pinned);
+        if (pinned != BUFPOOL_DONE) continue;
+        need(bufpool_unpin_buffer(m, p.buffer) == BUFPOOL_DONE, "unpin is refused, block", k);
+        passed++;
+    }
+    printf("%" PRIu32 " of %" PRIu32 "\n", passed, blocks);
+}
+
 int main(int argc, char **argv)
 {
     if (argc == 3 && strcmp(argv[1], "ours") == 0) ours(argv[2]);
     else if (argc == 4 && strcmp(argv[1], "theirs") == 0) theirs(argv[2], position_of(argv[3]));
+    else if (argc == 3 && strcmp(argv[1], "verify") == 0) verify(argv[2]);
     else return 2;
     return 0;
 }

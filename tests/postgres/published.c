@@ -71,6 +71,29 @@ uint64_t published_pointer(const uint8_t *page)
     return PageXLogRecPtrGet(pointer) + (SLIP == 16);
 }
 
+#define DECLARED(size) extern uint16 published_sum_##size(char *page, BlockNumber block);
+PUBLISHED_SIZES(DECLARED)
+
+uint16_t published_sum(const uint8_t *page, size_t length, uint32_t block)
+{
+    static _Alignas(8) char copy[32768]; /* PostgreSQL's takes the checksum out of the page for a moment */
+    uint16_t sum = 0;
+    if (SLIP == 20) block ^= 1;
+    memcpy(copy, page, length);
+    switch (length) {
+#define CASE(size) case size: sum = published_sum_##size(copy, block); break;
+        PUBLISHED_SIZES(CASE)
+    }
+    return SLIP == 21 ? (uint16_t)(sum >> 8 | sum << 8) : sum;
+}
+
+uint16_t published_sum_in(const uint8_t *page)
+{
+    PageHeaderData header;
+    memcpy(&header, page, SizeOfPageHeaderData);
+    return SLIP == 22 ? header.pd_flags : SLIP == 23 ? (uint16_t)(header.pd_checksum >> 8 | header.pd_checksum << 8) : header.pd_checksum;
+}
+
 void published_header(uint16_t lower, uint16_t upper, uint16_t special, uint8_t out[PAGE_HEADER_BYTES])
 {
     PageHeaderData header;

@@ -9,6 +9,9 @@
 /* The header that begins each of PostgreSQL's pages. */
 #define PAGE_HEADER_BYTES 24
 
+/* The sizes that PostgreSQL can be compiled for: X is applied to each. sum.c is compiled once for each. */
+#define PUBLISHED_SIZES(X) X(1024) X(2048) X(4096) X(8192) X(16384) X(32768)
+
 enum flag { FLAG_DIRTY, FLAG_VALID, FLAG_TAG_VALID, FLAG_JUST_DIRTIED, FLAG_PERMANENT, FLAGS };
 
 /* A BufferTag of a name's numbers: its bytes, and how many they are. */
@@ -30,6 +33,11 @@ uint32_t published_word(uint32_t pins, uint32_t usage, int dirty);
 /* The log position of a page, from its first bytes: by PageGetLSN, and by PageXLogRecPtrGet. */
 uint64_t published_position(const uint8_t *page);
 uint64_t published_pointer(const uint8_t *page);
+
+/* The checksum of a page of so many bytes as a block of its file, by checksum_impl.h for blocks of that size; the page itself stays as it
+   is. And the one that stands in a page. */
+uint16_t published_sum(const uint8_t *page, size_t length, uint32_t block);
+uint16_t published_sum_in(const uint8_t *page);
 
 /* The header of a page of 8,192 bytes with these places, its log position left 0. */
 void published_header(uint16_t lower, uint16_t upper, uint16_t special, uint8_t out[PAGE_HEADER_BYTES]);

@@ -2,15 +2,14 @@
 #include <inttypes.h>
 #include <stdio.h>
 #include <stdlib.h>
-#include <string.h>
 
-const struct bufpool_file small_file = {1663, 5, 16384, 0};
+const struct bufpool_file small_file[SMALL_FILES] = {{1663, 5, 16384, 0}, {1663, 5, 16390, 0}};
 uint8_t small_store[MOST_BLOCKS * PAGE];
 
 static uint64_t control[BUFPOOL_CONTROL_WORDS];
-static uint32_t states[MOST_BUFFERS], names[BUFPOOL_NAME_WORDS * MOST_BUFFERS], rows[BUFPOOL_ROW_WORDS];
+static uint32_t states[MOST_BUFFERS], names[BUFPOOL_NAME_WORDS * MOST_BUFFERS], rows[BUFPOOL_ROW_WORDS * SMALL_FILES];
 static int32_t free_links[MOST_BUFFERS], heads[MOST_BUFFERS], chain[MOST_BUFFERS];
-static uint8_t pool[MOST_BUFFERS * PAGE];
+static uint8_t pool[MOST_BUFFERS * BUFPOOL_MAX_PAGE];
 static struct bufpool m = {.control = control, .states = states, .names = names, .pool = pool, .free = free_links,
                            .heads = heads, .chain = chain, .rows = rows, .store = small_store};
 
@@ -21,17 +20,28 @@ void need(int holds, const char *what, uint64_t number)
     exit(1);
 }
 
-struct bufpool *small_pool(size_t buffers, uint32_t blocks, uint64_t position)
+static struct bufpool *set_up(size_t page, size_t buffers, size_t files, uint64_t position)
 {
-    const uint32_t row[BUFPOOL_ROW_WORDS] = {1663, 5, 16384, 0, blocks, blocks};
-    need(buffers <= MOST_BUFFERS && blocks <= MOST_BLOCKS, "more blocks than there is room for", blocks);
-    memcpy(rows, row, sizeof row);
-    bufpool_fit(&m, buffers, buffers, 1, PAGE);
-    need(bufpool_set_up_pool(&m, PAGE, position) == BUFPOOL_DONE, "set up is refused at log position", position);
+    bufpool_fit(&m, buffers, buffers, files, page);
+    need(buffers <= MOST_BUFFERS && m.store_len <= sizeof small_store, "more bytes than there is room for", m.store_len);
+    need(bufpool_set_up_pool(&m, page, position) == BUFPOOL_DONE, "set up is refused at log position", position);
     return &m;
 }
 
-struct bufpool_name small_name(uint32_t block) { return bufpool_name_of(small_file, block); }
+struct bufpool *small_pool(size_t buffers, uint32_t blocks, uint64_t position)
+{
+    bufpool_fill_row(rows, small_file[0], blocks, blocks);
+    return set_up(PAGE, buffers, 1, position);
+}
+
+struct bufpool *small_files(size_t page, size_t buffers, const uint32_t capacities[SMALL_FILES], uint32_t unused, uint64_t position)
+{
+    for (size_t f = 0; f < SMALL_FILES; f++)
+        bufpool_fill_row(rows + BUFPOOL_ROW_WORDS * f, small_file[f], capacities[f] - unused, capacities[f]);
+    return set_up(page, buffers, SMALL_FILES, position);
+}
+
+struct bufpool_name small_name(uint32_t block) { return bufpool_name_of(small_file[0], block); }
 
 /* splitmix64 */
 uint64_t random64(void)
