@@ -80,4 +80,5 @@ pub mod Numbers
 pub mod TestLaws
 pub mod JudgePublishedLaws
 pub mod JudgeLaws
+pub mod Computes
 pub mod ShutOut
