@@ -1,7 +1,6 @@
 -- A pool that meets the claims for a set up and a list of calls is judged fine on them: each test passes where its clause holds.
-use Prim.Native.Nat.{ℕ, zero, suc, _+_, _*_, _^_, _≤_, _<_}
-use native.Mathlib.Omega.{arith}
-use mathlib.Core.Path.{_≡_, refl, sym, ap, _∙_, subst}
+use Prim.Native.Nat.{ℕ, zero, suc, _+_, _^_, _<_}
+use mathlib.Core.Path.{_≡_, refl, ap, _∙_}
 use mathlib.Core.Bool.{Bool, true, false, not, cond}
 use mathlib.Core.Logic.{_↔_}
 use mathlib.Core.List.{List, [], _∷_}
@@ -13,25 +12,20 @@ use Rattle.laws.specs.Block.{block}
 use Rattle.laws.proofs.Tests.{and-true}
 use Rattle.laws.proofs.Every.{all-of}
 use Rattle.laws.proofs.Says.{says-eq, says-and, says-as, says-it}
-use Rattle.buftag.specs.declared.link.Link.{Link}
-use Rattle.buftag.specs.declared.lookup.Held.{Held}
-use Rattle.buftag.specs.declared.lookup.Held.the-variants.{At, Nowhere}
 use Rattle.buftag.specs.declared.name.PageName.{PageName}
 use Rattle.bufmodel.specs.Rows.{files, blocksAt, startOf, placeOf}
-use Rattle.bufmodel.specs.Memory.{Memory, buffers, wordOf}
+use Rattle.bufmodel.specs.Checksum.{bare, bareFrom}
+use Rattle.bufmodel.specs.Memory.{Memory, wordOf, nameOf}
 use Rattle.bufmodel.specs.Books.{isFound}
-use Rattle.bufmodel.specs.Sweep.{Swept}
 use Rattle.bufmodel.specs.Outcome.{Outcome, one, two}
-use Rattle.bufmodel.specs.Pin.{heldIn}
 use Rattle.bufmodel.specs.Calls.{part}
 use Rattle.bufmodel.specs.Step.{Call, Pin, Unpin, Read, Write, Flush, Checkpoint, Peek, Extend, Drop, LogInserted, LogFlushed}
 use Rattle.bufmodel.specs.Lent.{Lent, Called, answerWords, opened}
 use Rattle.bufmodel.proofs.SizesLaws.{sizes-say}
 use Rattle.bufmodel.proofs.BooksLaws.{books-say}
-use Rattle.bufmodel.proofs.SweepLaws.{sweep-is}
 use Rattle.shelf.specs.Shelf.{Shelf, firstOf, hasPins, pinnedPages, above}
 use Rattle.shelf.specs.Ledger.{Ledger, firstLedger, isPlace, bufferIn, ledgerAfter, puts}
-use Rattle.shelf.specs.Published.{Marks, Leaves, Probes, hit, free, early, taken, stuck, Peeks, Published}
+use Rattle.shelf.specs.Published.{Leaves}
 use Rattle.shelf.specs.Statement.{
   Answers,
   PinRule,
@@ -64,25 +58,15 @@ use Rattle.shelf.specs.Judge.{
   othersTest,
   storedTest,
   heldTest,
+  sumsTest,
   agreesTests,
   leftTests,
-  sweepOf,
-  sweptMarks,
-  newMarks,
-  pinMarks,
-  marksAfter,
-  sweptTest,
-  newTest,
-  pinTest,
-  peekTest,
-  saidTests,
-  clockTests,
-  nameTests,
   whenDone,
   judgeCalls,
   ifAccepted,
   judge,
 }
+use Rattle.shelf.specs.JudgePublished.{marksAfter, pagesAfter, blocksAfter}
 use Rattle.shelf.proofs.TestLaws.{
   Passes,
   all,
@@ -98,13 +82,16 @@ use Rattle.shelf.proofs.TestLaws.{
   same-list,
   list-same,
   lent-same,
+  same-bools,
   starts-same,
-  start-same,
+  bare-starts,
+  bare-start-same,
   words-pass,
   names-pass,
   links-pass,
   chains-pass,
 }
+use Rattle.shelf.proofs.JudgePublishedLaws.{said-pass, leaves-after, clock-pass, name-pass, page-pass}
 
 -- ---- SetsUp
 fresh-pass : (m k : Lent) (p at : ℕ) → Fresh m k p at → freshTest m p k ≡ true
@@ -163,12 +150,14 @@ module _ (s : Shelf) (o : Outcome) where
   shows-pass (Pin n) h = and-true (at-place (pinRuleTest s o) (h .1) (rule-pass (h .0) (h .2))) (same-list (h .3))
   shows-pass (Unpin b) h = same-list h
   shows-pass (Read b from out) h =
-      at-place (λ g. sameList (o .bytes) (take (length out) (drop from (s .bytes g)))) (h .1) (same-list (h .2))
+      at-place (λ g. sameList (bareFrom from (o .bytes)) (take (length out) (drop from (bare (s .bytes g))))) (h .1) (same-list (h .2))
   shows-pass (Write b from bytes at) h = same-list h
   shows-pass (Flush b) h = same-list h
   shows-pass Checkpoint h = same-list h
   shows-pass (Peek n) h =
-      and-true (at-place (λ g. sameList (take some (part o)) (take some (s .bytes g))) (h .1) (same-list (ap (take some) (h .2))))
+      and-true
+      (at-place (λ g. sameList (bare (take some (part o))) (bare (take some (s .bytes g)))) (h .1)
+      (bare-starts (part o) (s .bytes (h .0)) (h .2)))
       (same-list (h .3))
   shows-pass (Extend f) h =
       and-true (at-place (λ r. eqb (getD (o .answer) 0 0) (blocksAt (s .rows) r)) (h .1) (eq-eqb _ _ (h .2))) (same-list (h .3))
@@ -203,11 +192,11 @@ module _ (s : Shelf) (o : Outcome) where
 
   abbrev AllSettled : Type 0
   AllSettled = (r b : ℕ) → r < files (s .rows) → b < blocksAt (s .rows) r
-      → block (s .size) (startOf (s .rows) r + b) (o .after .store) ≡ s .bytes (startOf (s .rows) r + b)
+      → bare (block (s .size) (startOf (s .rows) r + b) (o .after .store)) ≡ bare (s .bytes (startOf (s .rows) r + b))
 
   all-settled : AllSettled → settledAll s o ≡ true
   unfolding settledAll
-  all-settled h = all-of _ _ (λ r l. all-of _ _ (λ b k. start-same _ _ _ _ (h r b l k)))
+  all-settled h = all-of _ _ (λ r l. all-of _ _ (λ b k. bare-start-same _ _ _ _ (h r b l k)))
 
   settled-pass : (c : Call) → (c ≡ Checkpoint → AllSettled) → settledTest s o c ≡ true
   unfolding settledTest
@@ -234,13 +223,19 @@ module _ {m : Memory} {l : Ledger} {c : Call} {o : Outcome} {l′ : Ledger} (a :
 
   stored-pass : storedTest m l c o l′ ≡ true
   unfolding storedTest
-  stored-pass = all-of _ _ (λ g k. then-true (puts l c (o .answer) (o .refusal) g) (λ t. start-same _ _ _ _ (a .stored g k t)))
+  stored-pass = all-of _ _ (λ g k. then-true (puts l c (o .answer) (o .refusal) g) (λ t. bare-start-same _ _ _ _ (a .stored g k t)))
 
   held-pass : heldTest m l c o l′ ≡ true
   unfolding heldTest
   held-pass =
       all-of _ _ (λ i k. else-true (eqb (wordOf (o .after) i) 0)
-      (λ f. if-place _ _ (λ g e. start-same _ _ _ _ (a .held i g k (eqb-false _ _ f) e))))
+      (λ f. if-place _ _ (λ g e. bare-start-same _ _ _ _ (a .held i g k (eqb-false _ _ f) e))))
+
+  sums-pass : sumsTest m l c o l′ ≡ true
+  unfolding sumsTest
+  sums-pass =
+      all-of _ _ (λ i k. if-place _ _ (λ g e. then-true (puts l c (o .answer) (o .refusal) g)
+      (λ t. same-bools (a .sums (nameOf m i) g e))))
 
   agrees-pass : Passes (agreesTests m l c o l′)
   unfolding agreesTests
@@ -261,6 +256,7 @@ module _ {m : Memory} {l : Ledger} {c : Call} {o : Outcome} {l′ : Ledger} (a :
       & if-done (o .refusal) (λ z. settled-pass (l .shelf) o c (λ e. a .settled e z))
       & stored-pass
       & held-pass
+      & sums-pass
       & all
 
 -- ---- Left
@@ -272,89 +268,6 @@ left-pass m r l′ h =
     & sizes-say (l′ .shelf .size) (opened (r .lent)) .shown (h .sizes)
     & books-say (opened (r .lent)) .shown (h .books)
     & all
-
--- ---- Published
-module _ (m : Memory) (o : Outcome) where
-  -- a pin's answer, and the marks that it leaves
-  record PinFine (n : PageName) (x : Held) : Type 0 where
-    said : pinTest m (o .answer) x ≡ true
-    leaves : Leaves m o (pinMarks m n x)
-
-  pin-fine : (n : PageName) (k : ℕ) → Probes m n o k → k ≤ 6 * buffers m → o .refusal ≡ 0 → PinFine n (heldIn m n)
-  unfolding pinTest newTest sweptTest pinMarks newMarks sweptMarks
-  pin-fine n _ (hit {b} e z a h) l q = subst (PinFine n) (sym e) (record { said = same-list a; leaves = h })
-  pin-fine n _ (free {i} e f z a h) l q =
-      subst (PinFine n) (sym e)
-      (record {
-        said = ap (newTest m (o .answer)) f ∙ same-list a;
-        leaves = subst (λ (x : Link). Leaves m o (newMarks m n x)) (sym f) h;
-      })
-  pin-fine n _ (early a b) l q = absurd (a q)
-  pin-fine n _ (taken {s} {v} e f z w t a h) l q =
-      let is : sweepOf m ≡ s = sweep-is (6 * buffers m) w l in
-      subst (PinFine n) (sym e)
-      (record {
-        said =
-            ap (newTest m (o .answer)) f ∙ ap (λ (x : Swept). sweptTest m (o .answer) x (x .victim)) is
-            ∙ ap (sweptTest m (o .answer) s) t
-            ∙ same-list a;
-        leaves =
-            subst (λ (x : Link). Leaves m o (newMarks m n x)) (sym f)
-            (subst (λ (x : Swept). Leaves m o (sweptMarks m n x (x .victim))) (sym is)
-            (subst (λ (x : Found). Leaves m o (sweptMarks m n s x)) (sym t) h));
-      })
-  pin-fine n _ (stuck e f z w t) l q = absurd (omega arith)
-
-  peek-pass : (n : PageName) (x : Held) → heldIn m n ≡ x → Peeks m n o → peekTest m (o .answer) n x ≡ true
-  unfolding peekTest
-  peek-pass n (At b) e h = same-list (h .inPool b e)
-  peek-pass n Nowhere e h = if-place _ _ (λ g q. same-list (h .inStore g e q))
-
-  module _ (z : o .refusal ≡ 0) where
-    pinned : (n : PageName) → Published m (Pin n) o → PinFine n (heldIn m n)
-    pinned n h = let s = h .sought n refl in pin-fine n (s .probes) (s .looked) (s .bound) z
-
-    said-pass : (c : Call) → Published m c o → Passes (saidTests m (o .answer) c)
-    unfolding saidTests
-    said-pass (Pin n) h = pinned n h .said & all
-    said-pass (Unpin b) h = all
-    said-pass (Read b from out) h = all
-    said-pass (Write b from bytes at) h = all
-    said-pass (Flush b) h = same-list (h .accepts z .1) & all
-    said-pass Checkpoint h = same-list (h .accepts z .1) & all
-    said-pass (Peek n) h = peek-pass n (heldIn m n) refl (h .accepts z .1) & all
-    said-pass (Extend f) h = all
-    said-pass (Drop f) h = all
-    said-pass (LogInserted p) h = all
-    said-pass (LogFlushed p) h = all
-
-    leaves-after : (c : Call) → Published m c o → Leaves m o (marksAfter m c)
-    unfolding marksAfter
-    leaves-after (Pin n) h = pinned n h .leaves
-    leaves-after (Unpin b) h = h .accepts z
-    leaves-after (Read b from out) h = h .accepts z
-    leaves-after (Write b from bytes at) h = h .accepts z
-    leaves-after (Flush b) h = h .accepts z .0
-    leaves-after Checkpoint h = h .accepts z .0
-    leaves-after (Peek n) h = h .accepts z .0
-    leaves-after (Extend f) h = h .accepts z
-    leaves-after (Drop f) h = h .accepts z
-    leaves-after (LogInserted p) h = h .accepts z
-    leaves-after (LogFlushed p) h = h .accepts z
-
-  module _ {k : Marks} (h : Leaves m o k) where
-    clock-pass : Passes (clockTests m o k)
-    unfolding clockTests
-    clock-pass =
-        and-true (eq-eqb _ _ (h .many)) (words-pass (h .alike)) & eq-eqb _ _ (h .alike .hand) & links-pass (h .alike) & all
-
-    name-pass : Passes (nameTests m o k)
-    unfolding nameTests
-    name-pass =
-        names-pass (h .alike)
-        & and-true (eq-eqb _ _ (h .wide)) (chains-pass (h .alike))
-        & all-of _ _ (λ i l. then-true (eqb (wordOf (o .after) i) 0) (λ t. starts-same _ _ _ _ _ _ (h .idle i l (eqb-true _ _ t))))
-        & all
 
 when-done : (r : ℕ) {ts : List Test} → (r ≡ 0 → Passes ts) → Passes (whenDone r ts)
 when-done zero h = h refl
@@ -368,13 +281,15 @@ calls-fine pool m l (c ∷ cs) h =
     let r = pool .calls (c .call) m (own (c .call)) (c .answer) in
     let o = outcomeOf r in
     let l′ = ledgerAfter l (c .call) (r .answer) (r .result) in
-    let left : r .result ≡ 0 → Leaves (opened m) o (marksAfter (opened m) (c .call)) =
+    let left : r .result ≡ 0
+    → Leaves (opened m) o (marksAfter (opened m) (c .call)) (pagesAfter (opened m) (c .call)) (blocksAfter (opened m) (c .call)) =
     λ z. leaves-after (opened m) o z (c .call) (h .2) in
     none-fails _ (agrees-pass (h .0))
     ∙ none-fails _ (when-done (r .result) (λ z. said-pass (opened m) o z (c .call) (h .2)))
     ∙ none-fails _ (when-done (r .result) (λ z. clock-pass (opened m) o (left z)))
     ∙ none-fails _ (left-pass m r l′ (h .1))
     ∙ none-fails _ (when-done (r .result) (λ z. name-pass (opened m) o (left z)))
+    ∙ none-fails _ (when-done (r .result) (λ z. page-pass (opened m) o (left z)))
     ∙ calls-fine pool (r .lent) l′ cs (h .3)
 
 -- ---- a set up, and a list of calls

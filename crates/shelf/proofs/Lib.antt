@@ -82,5 +82,7 @@ pub mod OnePool
 pub mod Numbers
 -- the statement as a test, and the wrong pools that it shuts out
 pub mod TestLaws
+pub mod JudgePublishedLaws
 pub mod JudgeLaws
+pub mod Computes
 pub mod ShutOut

@@ -1,11 +1,11 @@
--- Two ends of one accepted call have the same answer, bytes and books.
+-- Two ends of one accepted call have the same answer and bytes, and leave the same books, pages and blocks of the store.
 use Prim.Native.Nat.{ℕ}
 use native.Mathlib.Omega.{arith}
 use mathlib.Core.Path.{_≡_, refl, sym, ap, _∙_, subst}
 use mathlib.Core.Bool.{cond}
 use mathlib.Core.List.{List, [], _∷_}
-use lib.ListN.{length, getD, take, drop}
-use Rattle.laws.specs.First.{found}
+use lib.ListN.{getD}
+use Rattle.laws.specs.First.{Found, found}
 use Rattle.laws.proofs.First.{found-same}
 use Rattle.buftag.specs.declared.link.Link.{Link}
 use Rattle.buftag.specs.declared.link.Link.the-variants.{To, End}
@@ -13,7 +13,7 @@ use Rattle.buftag.specs.declared.lookup.Held.{Held}
 use Rattle.buftag.specs.declared.lookup.Held.the-variants.{At, Nowhere}
 use Rattle.buftag.specs.declared.number.BufferNumber.{BufferNumber}
 use Rattle.buftag.specs.declared.name.PageName.{PageName}
-use Rattle.bufmodel.specs.Memory.{Memory, wordOf}
+use Rattle.bufmodel.specs.Memory.{Memory, wordOf, pageOf}
 use Rattle.bufmodel.specs.Word.{dirty}
 use Rattle.bufmodel.specs.Rows.{blocksAt, placeOf}
 use Rattle.bufmodel.specs.Outcome.{Outcome, one}
@@ -23,30 +23,39 @@ use Rattle.bufmodel.specs.Step.{Call, Pin, Unpin, Read, Write, Flush, Checkpoin
 use Rattle.bufmodel.proofs.SweepLaws.{sweeps-same}
 use Rattle.shelf.specs.Shelf.{with}
 use Rattle.shelf.specs.Ledger.{Ledger}
-use Rattle.shelf.specs.Published.{Marks, marksOf, withWords, morePins, emptied, loaded}
+use Rattle.shelf.specs.Published.{Marks, marksOf, withWords, morePins, emptied, loaded, blocksOf, backed}
 use Rattle.shelf.specs.Published.{Leaves, Probes, hit, free, early, taken, stuck, Peeks, Published}
 use Rattle.shelf.specs.Statement.{Agrees}
 
--- the same answer and the same books
+-- what a call leaves: the books, the pool's pages and the store's blocks
+pub record Rest : Type 0 where
+  pub marks : Marks
+  pub page : ℕ → List ℕ
+  pub store : ℕ → List ℕ
+
+abbrev pub LeavesIt : Memory → Outcome → Rest → Type 0
+LeavesIt m o x = Leaves m o (x .marks) (x .page) (x .store)
+
+-- the same answer, and the same left
 pub record Both (m : Memory) (o o′ : Outcome) : Type 0 where
   pub answer : o .answer ≡ o′ .answer
-  pub marks : Marks
-  pub left : Leaves m o marks
-  pub right : Leaves m o′ marks
+  pub rest : Rest
+  pub left : LeavesIt m o rest
+  pub right : LeavesIt m o′ rest
+
+same-left : {m : Memory} {o o′ : Outcome} {k : Marks} {page store : ℕ → List ℕ} → o .answer ≡ o′ .answer → Leaves m o k page store
+    → Leaves m o′ k page store → Both m o o′
+same-left {k} {page} {store} e a a′ =
+    record { answer = e; rest = record { marks = k; page = page; store = store }; left = a; right = a′ }
 
 -- two ends that are those of one choice
-chosen : {A : Type 0} {m : Memory} {o o′ : Outcome} (answer : A → List ℕ) (marks : A → Marks) {x y : A} → x ≡ y → o .answer ≡ answer x
+chosen : {A : Type 0} {m : Memory} {o o′ : Outcome} (answer : A → List ℕ) (rest : A → Rest) {x y : A} → x ≡ y → o .answer ≡ answer x
     → o′ .answer ≡ answer y
-    → Leaves m o (marks x)
-    → Leaves m o′ (marks y)
+    → LeavesIt m o (rest x)
+    → LeavesIt m o′ (rest y)
     → Both m o o′
-chosen {m} {o′} answer marks {x} e a a′ k k′ =
-    record {
-      answer = a ∙ ap answer e ∙ sym a′;
-      marks = marks x;
-      left = k;
-      right = subst (λ y. Leaves m o′ (marks y)) (sym e) k′;
-    }
+chosen {m} {o′} answer rest e a a′ k k′ =
+    same-left (a ∙ ap answer e ∙ sym a′) k (subst (λ y. LeavesIt m o′ (rest y)) (sym e) k′)
 
 -- ---- a pin
 held-clash : {A : Type 0} {h : Held} {b : BufferNumber} → h ≡ At b → h ≡ Nowhere → A
@@ -61,34 +70,63 @@ same-at e f = cc
 same-to : {l : Link} {i j : ℕ} → l ≡ To i → l ≡ To j → i ≡ j
 same-to e f = cc
 
+-- a place, and a buffer for its page
+same-load : {l : Link} {i j : ℕ} {f : Found} {g h : ℕ} → l ≡ To i → l ≡ To j → f ≡ found g → f ≡ found h
+    → _≡_ {A = ℕ × ℕ} (i, g) (j, h)
+same-load e f p q = let x = same-to e f in let y = found-same (sym p ∙ q) in cc
+
 -- a sweep has one end, and one victim
-same-victim : {s t : Swept} {v w : ℕ} → s ≡ t → s .victim ≡ found v → t .victim ≡ found w → _≡_ {A = Swept × ℕ} (s, v) (t, w)
-same-victim e f g = let q = found-same (sym f ∙ ap (λ (s : Swept). s .victim) e ∙ g) in cc
+same-victim : {s t : Swept} {v w : ℕ} {f : Found} {g h : ℕ} → s ≡ t → s .victim ≡ found v → t .victim ≡ found w → f ≡ found g
+    → f ≡ found h
+    → _≡_ {A = Swept × ℕ × ℕ} (s, v, g) (t, w, h)
+same-victim e f g p q =
+    let x = found-same (sym f ∙ ap (λ (s : Swept). s .victim) e ∙ g) in let y = found-same (sym p ∙ q) in cc
+
+-- what a pin of page n leaves: of a held page; loaded from a place into the free list's top; into a sweep's victim
+module _ (m : Memory) where
+  abbrev hits : BufferNumber → Rest
+  hits b =
+      record {
+        marks = withWords (with (b .0) (morePins (wordOf m (b .0))) (wordOf m)) (m .control .hand) (marksOf m);
+        page = pageOf m;
+        store = blocksOf m;
+      }
+
+  abbrev loads : PageName → ℕ × ℕ → Rest
+  loads n x =
+      record { marks = loaded m n (x .0) (marksOf m); page = with (x .0) (blocksOf m (x .1)) (pageOf m); store = blocksOf m }
+
+  abbrev takes : PageName → Swept × ℕ × ℕ → Rest
+  takes n x =
+      let s = x .0 in
+      let v = x .1 in
+      record {
+        marks = loaded m n v (emptied v (withWords (λ i. getD (s .words) i 0) (s .hand) (marksOf m)));
+        page = with v (blocksOf m (x .2)) (pageOf m);
+        store = backed m v (blocksOf m);
+      }
 
 module _ {m : Memory} {n : PageName} {o o′ : Outcome} (z : o .refusal ≡ 0) (z′ : o′ .refusal ≡ 0) where
   both-pins : {a b : ℕ} → Probes m n o a → Probes m n o′ b → Both m o o′
-  both-pins (hit h e a k) (hit h′ e′ a′ k′) =
-      chosen (λ b. b .0 ∷ 1 ∷ 0 ∷ 0 ∷ [])
-      (λ b. withWords (with (b .0) (morePins (wordOf m (b .0))) (wordOf m)) (m .control .hand) (marksOf m)) (same-at h h′) a a′ k k′
-  both-pins (hit h e a k) (free h′ t′ e′ a′ k′) = held-clash h h′
+  both-pins (hit h e a k) (hit h′ e′ a′ k′) = chosen (λ b. b .0 ∷ 1 ∷ 0 ∷ 0 ∷ []) (hits m) (same-at h h′) a a′ k k′
+  both-pins (hit h e a k) (free h′ t′ e′ a′ p′ k′) = held-clash h h′
   both-pins (hit h e a k) (early e′ s′) = absurd (e′ z′)
-  both-pins (hit h e a k) (taken h′ t′ e′ w′ v′ a′ k′) = held-clash h h′
+  both-pins (hit h e a k) (taken h′ t′ e′ w′ v′ a′ p′ k′) = held-clash h h′
   both-pins (hit h e a k) (stuck h′ t′ e′ w′ v′) = absurd (omega arith)
-  both-pins (free h t e a k) (hit h′ e′ a′ k′) = held-clash h′ h
-  both-pins (free h t e a k) (free h′ t′ e′ a′ k′) =
-      chosen (λ i. i ∷ 0 ∷ 0 ∷ 0 ∷ []) (λ i. loaded m n i (marksOf m)) (same-to t t′) a a′ k k′
-  both-pins (free h t e a k) (early e′ s′) = absurd (e′ z′)
-  both-pins (free h t e a k) (taken h′ t′ e′ w′ v′ a′ k′) = link-clash t t′
-  both-pins (free h t e a k) (stuck h′ t′ e′ w′ v′) = absurd (omega arith)
+  both-pins (free h t e a p k) (hit h′ e′ a′ k′) = held-clash h′ h
+  both-pins (free h t e a p k) (free h′ t′ e′ a′ p′ k′) =
+      chosen (λ x. x .0 ∷ 0 ∷ 0 ∷ 0 ∷ []) (loads m n) (same-load t t′ p p′) a a′ k k′
+  both-pins (free h t e a p k) (early e′ s′) = absurd (e′ z′)
+  both-pins (free h t e a p k) (taken h′ t′ e′ w′ v′ a′ p′ k′) = link-clash t t′
+  both-pins (free h t e a p k) (stuck h′ t′ e′ w′ v′) = absurd (omega arith)
   both-pins (early e s) q = absurd (e z)
-  both-pins (taken h t e w v a k) (hit h′ e′ a′ k′) = held-clash h′ h
-  both-pins (taken h t e w v a k) (free h′ t′ e′ a′ k′) = link-clash t′ t
-  both-pins (taken h t e w v a k) (early e′ s′) = absurd (e′ z′)
-  both-pins (taken h t e w v a k) (taken h′ t′ e′ w′ v′ a′ k′) =
-      chosen (λ x. x .1 ∷ 0 ∷ cond (dirty (wordOf m (x .1))) 1 0 ∷ x .0 .probes ∷ [])
-      (λ x. loaded m n (x .1) (emptied (x .1) (withWords (λ i. getD (x .0 .words) i 0) (x .0 .hand) (marksOf m))))
-      (same-victim (sweeps-same w w′) v v′) a a′ k k′
-  both-pins (taken h t e w v a k) (stuck h′ t′ e′ w′ v′) = absurd (omega arith)
+  both-pins (taken h t e w v a p k) (hit h′ e′ a′ k′) = held-clash h′ h
+  both-pins (taken h t e w v a p k) (free h′ t′ e′ a′ p′ k′) = link-clash t′ t
+  both-pins (taken h t e w v a p k) (early e′ s′) = absurd (e′ z′)
+  both-pins (taken h t e w v a p k) (taken h′ t′ e′ w′ v′ a′ p′ k′) =
+      chosen (λ x. x .1 ∷ 0 ∷ cond (dirty (wordOf m (x .1))) 1 0 ∷ x .0 .probes ∷ []) (takes m n)
+      (same-victim (sweeps-same w w′) v v′ p p′) a a′ k k′
+  both-pins (taken h t e w v a p k) (stuck h′ t′ e′ w′ v′) = absurd (omega arith)
   both-pins (stuck h t e w v) q = absurd (omega arith)
 
 -- ---- peek
@@ -108,56 +146,38 @@ same-one e f x y = e ∙ ap one (sym (ap (λ l. getD l 0 0) e) ∙ x ∙ sym y �
 module _ {m : Memory} {l x x′ : Ledger} {o o′ : Outcome} (rows : m .rows ≡ l .shelf .rows) (z : o .refusal ≡ 0) (z′ : o′ .refusal ≡ 0) where
   pub both : (c : Call) → Agrees m l c o x → Agrees m l c o′ x′ → Published m c o → Published m c o′ → Both m o o′
   both (Pin n) a a′ p p′ = both-pins z z′ (p .sought n refl .looked) (p′ .sought n refl .looked)
-  both (Unpin b) a a′ p p′ =
-      record { answer = a .answers z ∙ sym (a′ .answers z′); marks = _; left = p .accepts z; right = p′ .accepts z′ }
-  both (Read b from out) a a′ p p′ =
-      record { answer = a .answers z ∙ sym (a′ .answers z′); marks = _; left = p .accepts z; right = p′ .accepts z′ }
-  both (Write b from bytes at) a a′ p p′ =
-      record { answer = a .answers z ∙ sym (a′ .answers z′); marks = _; left = p .accepts z; right = p′ .accepts z′ }
+  both (Unpin b) a a′ p p′ = same-left (a .answers z ∙ sym (a′ .answers z′)) (p .accepts z) (p′ .accepts z′)
+  both (Read b from out) a a′ p p′ = same-left (a .answers z ∙ sym (a′ .answers z′)) (p .accepts z .0) (p′ .accepts z′ .0)
+  both (Write b from bytes at) a a′ p p′ = same-left (a .answers z ∙ sym (a′ .answers z′)) (p .accepts z) (p′ .accepts z′)
   both (Flush b) a a′ p p′ =
-      let k = p .accepts z in
-      let k′ = p′ .accepts z′ in
-      record { answer = k .1 ∙ sym (k′ .1); marks = _; left = k .0; right = k′ .0 }
+      let k = p .accepts z in let k′ = p′ .accepts z′ in same-left (k .1 ∙ sym (k′ .1)) (k .0) (k′ .0)
   both Checkpoint a a′ p p′ =
-      let k = p .accepts z in
-      let k′ = p′ .accepts z′ in
-      record { answer = k .1 ∙ sym (k′ .1); marks = _; left = k .0; right = k′ .0 }
+      let k = p .accepts z in let k′ = p′ .accepts z′ in same-left (k .1 ∙ sym (k′ .1)) (k .0) (k′ .0)
   both (Peek n) a a′ p p′ =
       let k = p .accepts z in
       let k′ = p′ .accepts z′ in
       let e = ap (λ (rs : List ℕ). placeOf rs n) rows ∙ a .shows z .1 in
-      record { answer = same-peek e (k .1) (k′ .1); marks = _; left = k .0; right = k′ .0 }
+      same-left (same-peek e (k .1) (k′ .1)) (k .0) (k′ .0)
   both (Extend f) a a′ p p′ =
       let s = a .shows z in
       let s′ = a′ .shows z′ in
       let q : s′ .0 ≡ s .0 = found-same (sym (s′ .1) ∙ s .1) in
-      record {
-        answer = same-one (a .answers z .1) (a′ .answers z′ .1) (s .2) (s′ .2 ∙ ap (blocksAt (l .shelf .rows)) q);
-        marks = _;
-        left = p .accepts z;
-        right = p′ .accepts z′;
-      }
-  both (Drop f) a a′ p p′ =
-      record { answer = a .answers z ∙ sym (a′ .answers z′); marks = _; left = p .accepts z; right = p′ .accepts z′ }
-  both (LogInserted p) a a′ q q′ =
-      record { answer = a .answers z ∙ sym (a′ .answers z′); marks = _; left = q .accepts z; right = q′ .accepts z′ }
-  both (LogFlushed p) a a′ q q′ =
-      record { answer = a .answers z ∙ sym (a′ .answers z′); marks = _; left = q .accepts z; right = q′ .accepts z′ }
+      same-left (same-one (a .answers z .1) (a′ .answers z′ .1) (s .2) (s′ .2 ∙ ap (blocksAt (l .shelf .rows)) q))
+      (p .accepts z) (p′ .accepts z′)
+  both (Drop f) a a′ p p′ = same-left (a .answers z ∙ sym (a′ .answers z′)) (p .accepts z) (p′ .accepts z′)
+  both (LogInserted p) a a′ q q′ = same-left (a .answers z ∙ sym (a′ .answers z′)) (q .accepts z) (q′ .accepts z′)
+  both (LogFlushed p) a a′ q q′ = same-left (a .answers z ∙ sym (a′ .answers z′)) (q .accepts z) (q′ .accepts z′)
 
   -- the caller's bytes
-  pub same-bytes : (c : Call) → Agrees m l c o x → Agrees m l c o′ x′ → o .bytes ≡ o′ .bytes
-  same-bytes (Pin n) a a′ = a .shows z .3 ∙ sym (a′ .shows z′ .3)
-  same-bytes (Unpin b) a a′ = a .shows z ∙ sym (a′ .shows z′)
-  same-bytes (Read b from out) a a′ =
-      let s = a .shows z in
-      let s′ = a′ .shows z′ in
-      let q : s .0 ≡ s′ .0 = found-same (sym (s .1) ∙ s′ .1) in
-      s .2 ∙ ap (λ (g : ℕ). take (length out) (drop from (l .shelf .bytes g))) q ∙ sym (s′ .2)
-  same-bytes (Write b from bytes at) a a′ = a .shows z ∙ sym (a′ .shows z′)
-  same-bytes (Flush b) a a′ = a .shows z ∙ sym (a′ .shows z′)
-  same-bytes Checkpoint a a′ = a .shows z ∙ sym (a′ .shows z′)
-  same-bytes (Peek n) a a′ = a .shows z .3 ∙ sym (a′ .shows z′ .3)
-  same-bytes (Extend f) a a′ = a .shows z .3 ∙ sym (a′ .shows z′ .3)
-  same-bytes (Drop f) a a′ = a .shows z ∙ sym (a′ .shows z′)
-  same-bytes (LogInserted p) a a′ = a .shows z ∙ sym (a′ .shows z′)
-  same-bytes (LogFlushed p) a a′ = a .shows z ∙ sym (a′ .shows z′)
+  pub same-bytes : (c : Call) → Agrees m l c o x → Agrees m l c o′ x′ → Published m c o → Published m c o′ → o .bytes ≡ o′ .bytes
+  same-bytes (Pin n) a a′ p p′ = a .shows z .3 ∙ sym (a′ .shows z′ .3)
+  same-bytes (Unpin b) a a′ p p′ = a .shows z ∙ sym (a′ .shows z′)
+  same-bytes (Read b from out) a a′ p p′ = p .accepts z .1 ∙ sym (p′ .accepts z′ .1)
+  same-bytes (Write b from bytes at) a a′ p p′ = a .shows z ∙ sym (a′ .shows z′)
+  same-bytes (Flush b) a a′ p p′ = a .shows z ∙ sym (a′ .shows z′)
+  same-bytes Checkpoint a a′ p p′ = a .shows z ∙ sym (a′ .shows z′)
+  same-bytes (Peek n) a a′ p p′ = a .shows z .3 ∙ sym (a′ .shows z′ .3)
+  same-bytes (Extend f) a a′ p p′ = a .shows z .3 ∙ sym (a′ .shows z′ .3)
+  same-bytes (Drop f) a a′ p p′ = a .shows z ∙ sym (a′ .shows z′)
+  same-bytes (LogInserted p) a a′ q q′ = a .shows z ∙ sym (a′ .shows z′)
+  same-bytes (LogFlushed p) a a′ q q′ = a .shows z ∙ sym (a′ .shows z′)

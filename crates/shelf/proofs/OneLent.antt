@@ -1,28 +1,19 @@
 -- Two ends of one accepted call, with the same ledger after it, leave the same lent memory.
-use Prim.Native.Nat.{ℕ, _*_, _<_}
-use native.Mathlib.Omega.{arith}
+use Prim.Native.Nat.{ℕ, _*_}
 use mathlib.Core.Path.{_≡_, sym, ap, _∙_}
-use mathlib.Core.Bool.{false}
-use mathlib.Core.Logic.{_≢_, ⊎-elim}
 use mathlib.Core.List.{List, _∷_}
 use lib.ListN.{length, getD}
 use lib.IntN.{ℤ}
-use borrow.Author.Tests.{ne-eqb}
-use Rattle.laws.specs.First.{found}
-use Rattle.laws.specs.Block.{block}
-use Rattle.laws.proofs.Tests.{eq-or-ne, true-or-false}
-use Rattle.bufmodel.specs.Word.{empty}
-use Rattle.bufmodel.specs.Rows.{storeBlocks, placeOf}
-use Rattle.bufmodel.specs.Memory.{Memory, buffers, size, wordOf, nameOf, pageOf}
-use Rattle.bufmodel.specs.Books.{emptyAt}
+use Rattle.bufmodel.specs.Rows.{storeBlocks}
+use Rattle.bufmodel.specs.Memory.{buffers, size}
 use Rattle.bufmodel.specs.Step.{Call}
 use Rattle.bufmodel.specs.Lent.{Lent, Called, controlOf, opened}
-use Rattle.shelf.specs.Ledger.{Ledger, bufferIn, acceptedBy, ledgerAfter, puts}
-use Rattle.shelf.specs.Published.{Marks, Leaves}
+use Rattle.shelf.specs.Ledger.{Ledger, bufferIn, acceptedBy, ledgerAfter}
 use Rattle.shelf.specs.Statement.{Agrees, Left, outcomeOf}
 use Rattle.shelf.proofs.ShelfSizes.{SameSizes, sizes-after}
 use Rattle.shelf.proofs.OneLists.{ext-blocks}
 use Rattle.shelf.proofs.OneMarks.{Booked, SameBooks, same-books}
+use Rattle.shelf.proofs.OneAnswer.{Rest, LeavesIt}
 
 -- ---- an accepted call leaves the block size and the number of the store's blocks
 pub store-accepted : (l : Ledger) (c : Call) (answer : List ℕ) → SameSizes (l .shelf) (ledgerAfter l c answer 0 .shelf)
@@ -52,18 +43,23 @@ unfolding opened controlOf
 size-of a e = ap (λ (ws : List ℕ). getD ws 0 0) e
 
 -- ---- after an accepted call
-in-use : (m : Memory) (i : ℕ) → wordOf m i ≢ 0 → emptyAt m i ≡ false
-unfolding emptyAt empty
-in-use m i ne = ne-eqb (wordOf m i) 0 ne
+-- the memory before it has the ledger's rows and block size
+pub record Matches (m : Lent) (l : Ledger) : Type 0 where
+  pub rows : opened m .rows ≡ l .shelf .rows
+  pub size : size (opened m) ≡ l .shelf .size
 
--- an end of it: r, with the ledger x after it and the books k
-pub record Ends (m : Lent) (l x : Ledger) (c : Call) (k : Marks) (r : Called) : Type 0 where
+-- an end of it: r, with the ledger x after it, and what is left
+pub record Ends (m : Lent) (l x : Ledger) (c : Call) (k : Rest) (r : Called) : Type 0 where
   pub agrees : Agrees (opened m) l c (outcomeOf r) x
   pub left : Left m r x
-  pub leaves : Leaves (opened m) (outcomeOf r) k
+  pub leaves : LeavesIt (opened m) (outcomeOf r) k
 
-module _ {m : Lent} {l x : Ledger} {c : Call} {k : Marks} {r : Called} (a : Ends m l x c k r) where
-  booked : Booked (x .shelf .size) (buffers (opened m)) (length (opened m .heads)) k (opened (r .lent))
+-- so has the memory after it
+pub matches : {m : Lent} {l x : Ledger} {c : Call} {r : Called} → Agrees (opened m) l c (outcomeOf r) x → Left m r x → Matches (r .lent) x
+matches {r} a b = record { rows = a .rows; size = size-of (r .lent) (b .control) }
+
+module _ {m : Lent} {l x : Ledger} {c : Call} {k : Rest} {r : Called} (a : Ends m l x c k r) where
+  booked : Booked (x .shelf .size) (buffers (opened m)) (length (opened m .heads)) (k .marks) (opened (r .lent))
   booked = record { sizes = a .left .sizes; many = a .leaves .many; wide = a .leaves .wide; alike = a .leaves .alike }
 
   end-size : size (opened (r .lent)) ≡ x .shelf .size
@@ -72,54 +68,23 @@ module _ {m : Lent} {l x : Ledger} {c : Call} {k : Marks} {r : Called} (a : Ends
   end-pool : length (opened (r .lent) .pool) ≡ buffers (opened m) * x .shelf .size
   end-pool = a .left .sizes .pool ∙ ap (λ (n : ℕ). n * x .shelf .size) (a .leaves .many)
 
-  end-store : SameSizes (l .shelf) (x .shelf) → length (opened (r .lent) .store) ≡ storeBlocks (l .shelf .rows) * l .shelf .size
-  end-store s = a .left .sizes .store ∙ rw (a .agrees .rows, s .blocks, s .size)
+  end-store : Matches m l → SameSizes (l .shelf) (x .shelf)
+      → length (opened (r .lent) .store) ≡ storeBlocks (opened m .rows) * size (opened m)
+  end-store h s = a .left .sizes .store ∙ rw (a .agrees .rows, s .blocks, s .size, h .rows, h .size)
 
-module _ {m : Lent} {l x : Ledger} {c : Call} {k : Marks} {r r′ : Called} (a : Ends m l x c k r) (a′ : Ends m l x c k r′) where
+module _ {m : Lent} {l x : Ledger} {c : Call} {k : Rest} {r r′ : Called} (a : Ends m l x c k r) (a′ : Ends m l x c k r′) where
   books : SameBooks (opened (r .lent)) (opened (r′ .lent))
   books = same-books (booked a) (booked a′)
-
-  same-rows : opened (r .lent) .rows ≡ opened (r′ .lent) .rows
-  same-rows = a .agrees .rows ∙ sym (a′ .agrees .rows)
-
-  -- an empty buffer's page is as it was, another's the shelf's
-  same-page : (i : ℕ) → i < buffers (opened m) → pageOf (opened (r .lent)) i ≡ pageOf (opened (r′ .lent)) i
-  same-page i h = ⊎-elim empties uses (eq-or-ne (wordOf (opened (r .lent)) i) 0)
-    where
-      word : wordOf (opened (r .lent)) i ≡ wordOf (opened (r′ .lent)) i
-      word = ap (λ (ws : List ℕ). getD ws i 0) (books .states)
-
-      empties : wordOf (opened (r .lent)) i ≡ 0 → pageOf (opened (r .lent)) i ≡ pageOf (opened (r′ .lent)) i
-      empties z = a .leaves .idle i h z ∙ sym (a′ .leaves .idle i h (sym word ∙ z))
-
-      uses : wordOf (opened (r .lent)) i ≢ 0 → pageOf (opened (r .lent)) i ≡ pageOf (opened (r′ .lent)) i
-      uses ne =
-          let j : i < buffers (opened (r .lent)) = omega (arith, a .leaves .many) in
-          let j′ : i < buffers (opened (r′ .lent)) = omega (arith, a′ .leaves .many) in
-          let g = a .left .books .page i j (in-use (opened (r .lent)) i ne) in
-          let b = opened (r′ .lent) in
-          let e : placeOf (b .rows) (nameOf b i) ≡ found (g .0) = rw (← same-rows, ← books .names) (g .1) in
-          a .agrees .held i (g .0) j ne (g .1) ∙ sym (a′ .agrees .held i (g .0) j′ (λ z. ne (word ∙ z)) e)
 
   same-pool : opened (r .lent) .pool ≡ opened (r′ .lent) .pool
   same-pool =
       ext-blocks (x .shelf .size) _ _ (buffers (opened m)) (end-pool a) (end-pool a′)
-      (λ i h. rw (end-size a, end-size a′) at (same-page i h))
+      (λ i h. rw (end-size a, end-size a′) at (a .leaves .pages i h ∙ sym (a′ .leaves .pages i h)))
 
-  -- a block that the call puts into the store is the shelf's, another is as it was
-  same-block : r .answer ≡ r′ .answer → r .result ≡ r′ .result → (g : ℕ) → g < storeBlocks (l .shelf .rows)
-      → block (l .shelf .size) g (opened (r .lent) .store) ≡ block (l .shelf .size) g (opened (r′ .lent) .store)
-  same-block e f g h = ⊎-elim
-      (λ t. a .agrees .stored g h t ∙ sym (a′ .agrees .stored g h (sym both ∙ t)))
-      (λ t. a .agrees .others g h t ∙ sym (a′ .agrees .others g h (sym both ∙ t)))
-      (true-or-false (puts l c (r .answer) (r .result) g))
-    where
-      both : puts l c (r .answer) (r .result) g ≡ puts l c (r′ .answer) (r′ .result) g
-      both = rw (e, f)
-
-  pub same-end : SameSizes (l .shelf) (x .shelf) → r .answer ≡ r′ .answer → r .result ≡ r′ .result → r .lent ≡ r′ .lent
-  same-end s e f =
+  pub same-end : Matches m l → SameSizes (l .shelf) (x .shelf) → r .lent ≡ r′ .lent
+  same-end h s =
       same-lent (r .lent) (r′ .lent)
       (a .left .control ∙ rw (books .hand, books .top) (sym (a′ .left .control)))
-      books same-pool same-rows
-      (ext-blocks (l .shelf .size) _ _ (storeBlocks (l .shelf .rows)) (end-store a s) (end-store a′ s) (same-block e f))
+      books same-pool (a .agrees .rows ∙ sym (a′ .agrees .rows))
+      (ext-blocks (size (opened m)) _ _ (storeBlocks (opened m .rows)) (end-store a h s) (end-store a′ h s)
+      (λ g t. a .leaves .blocks g t ∙ sym (a′ .leaves .blocks g t)))

@@ -16,7 +16,7 @@ use Rattle.shelf.proofs.Demand.{demand-3}
 use Rattle.shelf.proofs.OneMarks.{Booked, same-books}
 use Rattle.shelf.proofs.OneAnswer.{both, same-bytes}
 use Rattle.shelf.proofs.ShelfSizes.{SameSizes}
-use Rattle.shelf.proofs.OneLent.{same-lent, store-accepted, Ends, same-end}
+use Rattle.shelf.proofs.OneLent.{same-lent, size-of, store-accepted, Matches, Ends, matches, same-end}
 
 called-parts : {a a′ : ℕ} {b b′ c c′ : List ℕ} {d d′ : Lent} → a ≡ a′ → b ≡ b′ → c ≡ c′ → d ≡ d′
     → _≡_ {A = Called} (record { result = a; answer = b; bytes = c; lent = d }) (record { result = a′; answer = b′; bytes = c′; lent = d′ })
@@ -57,8 +57,7 @@ record Claimed (m : Lent) (l : Ledger) (c : Call) (r : Called) : Type 0 where
   left : Left m r (ledgerAfter l c (r .answer) (r .result))
   published : Published (opened m) c (outcomeOf r)
 
-module _ {m : Lent} {l : Ledger} {c : Call} {r r′ : Called} (rows : opened m .rows ≡ l .shelf .rows) (a : Claimed m l c r)
-    (a′ : Claimed m l c r′) where
+module _ {m : Lent} {l : Ledger} {c : Call} {r r′ : Called} (h : Matches m l) (a : Claimed m l c r) (a′ : Claimed m l c r′) where
   same-result : r .result ≡ r′ .result
   same-result = a .agrees .number ∙ sym (a′ .agrees .number)
 
@@ -71,37 +70,38 @@ module _ {m : Lent} {l : Ledger} {c : Call} {r r′ : Called} (rows : opened m .
   one-acceptance : r .result ≡ 0 → r ≡ r′
   one-acceptance z =
       let z′ : r′ .result ≡ 0 = sym same-result ∙ z in
-      let k = both rows z z′ c (a .agrees) (a′ .agrees) (a .published) (a′ .published) in
+      let k = both (h .rows) z z′ c (a .agrees) (a′ .agrees) (a .published) (a′ .published) in
       let x = ledgerAfter l c (r .answer) (r .result) in
       let e : ledgerAfter l c (r′ .answer) (r′ .result) ≡ x = rw (k .answer, same-result) in
-      let end : Ends m l x c (k .marks) r = record { agrees = a .agrees; left = a .left; leaves = k .left } in
-      let end′ = subst (λ y. Ends m l y c (k .marks) r′) e (record { agrees = a′ .agrees; left = a′ .left; leaves = k .right }) in
+      let end : Ends m l x c (k .rest) r = record { agrees = a .agrees; left = a .left; leaves = k .left } in
+      let end′ = subst (λ y. Ends m l y c (k .rest) r′) e (record { agrees = a′ .agrees; left = a′ .left; leaves = k .right }) in
       let s : SameSizes (l .shelf) (x .shelf) = rw z (store-accepted l c (r .answer)) in
-      called-parts same-result (k .answer) (same-bytes rows z z′ c (a .agrees) (a′ .agrees)) (same-end end end′ s (k .answer) same-result)
+      called-parts same-result (k .answer) (same-bytes (h .rows) z z′ c (a .agrees) (a′ .agrees) (a .published) (a′ .published))
+      (same-end end end′ h s)
 
   one-call : r ≡ r′
   one-call = ⊎-elim one-acceptance one-refusal (eq-or-ne (r .result) 0)
 
 -- ---- a list of calls
 module _ (pool pool′ : Pool) where
-  one-list : (m : Lent) (l : Ledger) (cs : List Made) → opened m .rows ≡ l .shelf .rows → ClaimFor pool m l cs → ClaimFor pool′ m l cs
+  one-list : (m : Lent) (l : Ledger) (cs : List Made) → Matches m l → ClaimFor pool m l cs → ClaimFor pool′ m l cs
       → receipts pool m cs ≡ receipts pool′ m cs
-  one-list m l [] rows k k′ = refl
-  one-list m l (c ∷ cs) rows k k′ =
+  one-list m l [] h k k′ = refl
+  one-list m l (c ∷ cs) h k k′ =
       let r = pool .calls (c .call) m (own (c .call)) (c .answer) in
       let after : Called → Ledger = λ q. ledgerAfter l (c .call) (q .answer) (q .result) in
       let r′ = pool′ .calls (c .call) m (own (c .call)) (c .answer) in
       let a : Claimed m l (c .call) r = record { agrees = k .0; left = k .1; published = k .2 } in
       let a′ : Claimed m l (c .call) r′ = record { agrees = k′ .0; left = k′ .1; published = k′ .2 } in
-      let e = one-call rows a a′ in
+      let e = one-call h a a′ in
       let rest = subst (λ (q : Called). ClaimFor pool′ (q .lent) (after q) cs) (sym e) (k′ .3) in
-      ap (λ t. r ∷ t) (one-list (r .lent) (after r) cs (k .0 .rows) (k .3) rest) ∙ ap (λ q. q ∷ receipts pool′ (q .lent) cs) e
+      ap (λ t. r ∷ t) (one-list (r .lent) (after r) cs (matches (k .0) (k .1)) (k .3) rest) ∙ ap (λ q. q ∷ receipts pool′ (q .lent) cs) e
 
 -- ---- all that the till program receives
--- the list begins with the rows of the set-up
-first-rows : {m k : Lent} {p at : ℕ} → Fresh m k p at → opened k .rows ≡ firstLedger (opened m) p at .shelf .rows
+-- the list begins with the rows and the block size of the set-up
+first-matches : {m k : Lent} {p at : ℕ} → Fresh m k p at → Matches k (firstLedger (opened m) p at)
 unfolding opened firstLedger firstShelf
-first-rows f = f .rows
+first-matches {k} f = record { rows = f .rows; size = size-of k (f .control) }
 
 module _ (pool pool′ : Pool) (m : Lent) (p at : ℕ) (calls : List Made) where
   -- what demand 3 says of a set-up that ended so
@@ -112,7 +112,7 @@ module _ (pool pool′ : Pool) (m : Lent) (p at : ℕ) (calls : List Made) where
   same-rest : {r : Called} → Starts pool r → Starts pool′ r → (k : ℕ) → r .result ≡ k
       → ifAccepted k (receipts pool (r .lent) calls) ≡ ifAccepted k (receipts pool′ (r .lent) calls)
   same-rest {r} s s′ zero z =
-      one-list pool pool′ (r .lent) (firstLedger (opened m) p at) calls (first-rows (s .0 .fresh z)) (s .1 z) (s′ .1 z)
+      one-list pool pool′ (r .lent) (firstLedger (opened m) p at) calls (first-matches (s .0 .fresh z)) (s .1 z) (s′ .1 z)
   same-rest s s′ (suc k) z = refl
 
   one-received : {r r′ : Called} → Starts pool r → Starts pool′ r′

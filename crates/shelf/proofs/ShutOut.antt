@@ -2,33 +2,39 @@
 use Prim.Native.Nat.{ℕ, zero, suc, _^_}
 use native.Mathlib.Nat.{le-of-suc-le-suc, not-suc-le-zero}
 use native.Mathlib.Omega.{arith}
-use mathlib.Core.Path.{_≡_, refl, ap}
+use mathlib.Core.Path.{_≡_, refl, sym, ap, ap₂, _∙_}
 use mathlib.Core.Bool.{Bool, true, cond}
-use mathlib.Core.List.{List, [], _∷_, map}
-use lib.ListN.{getD}
+use mathlib.Core.List.{List, [], _∷_, _++_, map, map-append}
+use lib.ListN.{length, getD, drop}
 use lib.IntN.{ℤ}
 use lib.Signed.{mag}
 use lib.Dec.{eqb, ltb}
 use borrow.Author.Tests.{ltb-true, ne-eqb}
-use Rattle.laws.proofs.Tests.{and-left, and-right}
+use Rattle.laws.proofs.Tests.{and-true, and-left, and-right}
 use Rattle.buftag.specs.declared.name.FileName.{FileName}
 use Rattle.buftag.specs.declared.name.PageName.{PageName}
 use Rattle.buftag.specs.Name.{FitsFile, Fits}
-use Rattle.bufmodel.specs.Memory.{Memory, withHand}
+use Rattle.bufmodel.specs.Checksum.{passes as sumPasses}
+use Rattle.bufmodel.specs.Memory.{Memory, withStore, withHand}
 use Rattle.bufmodel.specs.Sizes.{sizedFor}
 use Rattle.bufmodel.specs.Books.{sound}
-use Rattle.bufmodel.specs.Outcome.{Outcome}
+use Rattle.bufmodel.specs.Outcome.{Outcome, refused}
 use Rattle.bufmodel.specs.Step.{Call, Pin, Unpin, Read, Write, Flush, Checkpoint, Peek, Extend, Drop, LogInserted, LogFlushed, step}
-use Rattle.bufmodel.specs.Lent.{Lent, opened, ended, called}
+use Rattle.bufmodel.specs.Lent.{Lent, opened, closed, ended, called}
 use Rattle.bufmodel.proofs.SizesLaws.{sizes-say}
 use Rattle.bufmodel.proofs.BooksLaws.{books-say}
+use Rattle.shelf.specs.Shelf.{firstOf}
 use Rattle.shelf.specs.Published.{Demand2For}
 use Rattle.shelf.specs.Statement.{Below, Signed, FitsLent, FitsCall, FitsMade, Pool, calling, Demand3For, Demand3}
+use Rattle.shelf.specs.Guards.{table, Demand1For}
 use Rattle.shelf.specs.Tests.{Clause, Verdict, Fine, Fails}
 use Rattle.shelf.specs.Trial.{
   size,
   log,
   bench,
+  unsummed,
+  stock,
+  pin,
   slice,
   Wrong,
   made,
@@ -43,9 +49,14 @@ use Rattle.shelf.specs.Trial.{
   fitsCalls,
   fits,
 }
-use Rattle.shelf.specs.Changes.{Change, ifRefused, stepping, calls, leaving}
+use Rattle.shelf.specs.Changes.{Change, ifRefused, stepping, calls, pins, leaving}
+use Rattle.shelf.specs.WrongCalls.{wrongRefusals, wrongFlushes, wrongBacks, wrongAnswers, wrongPages, wrongFiles}
+use Rattle.shelf.specs.WrongBooks.{wrongBuffers, wrongCounts}
+use Rattle.shelf.specs.WrongSums.{wrongSums, wrongBytes, wrongVerified, wrongRefused}
+use Rattle.shelf.specs.WrongLent.{wrongLent, wrongSetUps}
 use Rattle.shelf.specs.WrongPools.{wrongPools}
 use Rattle.shelf.proofs.JudgeLaws.{judge-fine}
+use Rattle.shelf.proofs.Computes.{computes}
 
 -- ---- what the statement assumes holds where its test passes
 below : (k : ℕ) (xs : List ℕ) → allBelow k xs ≡ true → Below k xs
@@ -132,88 +143,6 @@ pub refuted : (pool : Pool) (m : Lent) (p at : ℕ) (calls : List Call) {c : Cla
     → verdict pool m p at calls ≡ Fails c → Demand3For pool → ⊥
 refuted pool m p at calls h e d = let f = passes pool d m p at calls h in let z : _≡_ {A = ℕ} 0 1 = cc in omega arith
 
--- ---- all that the trials compute with, each definition after those that it uses
-unfoldable pub computes : Unit {0}
-unfolding Rattle.laws.specs.Every.all Rattle.laws.specs.Every.any Rattle.laws.specs.Sum.sum Rattle.laws.specs.Sum.count
-    Rattle.laws.specs.Times.times Rattle.laws.specs.First.first Rattle.laws.specs.Block.block Rattle.laws.specs.Block.putBlock
-    Rattle.bufhash.specs.Fnv.fnvStep Rattle.buftag.specs.Name.hashOf Rattle.buftag.specs.Name.bucketOf Rattle.buftag.specs.Link.ends
-    Rattle.buftag.specs.Link.members Rattle.buftag.specs.Link.holdsTest Rattle.buftag.specs.Lookup.held Rattle.buftag.specs.Chain.idle
-    Rattle.buftag.specs.Chain.twins Rattle.buftag.specs.Chain.distinctTest Rattle.buftag.specs.Chain.eachTest
-    Rattle.buftag.specs.Chain.chainsTest Rattle.buftag.specs.Chain.enterHeads Rattle.buftag.specs.Chain.enterChain
-    Rattle.buftag.specs.Chain.unchainHeads Rattle.buftag.specs.Chain.unchainChain Rattle.bufmodel.specs.Word.pins
-    Rattle.bufmodel.specs.Word.usage Rattle.bufmodel.specs.Word.flags Rattle.bufmodel.specs.Word.pack Rattle.bufmodel.specs.Word.bit
-    Rattle.bufmodel.specs.Word.dirty Rattle.bufmodel.specs.Word.valid Rattle.bufmodel.specs.Word.tagValid
-    Rattle.bufmodel.specs.Word.justDirtied Rattle.bufmodel.specs.Word.permanent Rattle.bufmodel.specs.Word.noOther
-    Rattle.bufmodel.specs.Word.empty Rattle.bufmodel.specs.Word.soundFlags Rattle.bufmodel.specs.Word.soundWord
-    Rattle.bufmodel.specs.Word.pinned Rattle.bufmodel.specs.Word.pinMore Rattle.bufmodel.specs.Word.pinLess
-    Rattle.bufmodel.specs.Word.useLess Rattle.bufmodel.specs.Word.makeDirty Rattle.bufmodel.specs.Word.makeClean
-    Rattle.bufmodel.specs.Word.loaded Rattle.bufmodel.specs.Position.position Rattle.bufmodel.specs.Position.positionBytes
-    Rattle.bufmodel.specs.Position.paste Rattle.bufmodel.specs.Position.written Rattle.bufmodel.specs.Rows.files
-    Rattle.bufmodel.specs.Rows.fileAt Rattle.bufmodel.specs.Rows.blocksAt Rattle.bufmodel.specs.Rows.capacityAt
-    Rattle.bufmodel.specs.Rows.setBlocks Rattle.bufmodel.specs.Rows.rowOf Rattle.bufmodel.specs.Rows.startOf
-    Rattle.bufmodel.specs.Rows.storeBlocks Rattle.bufmodel.specs.Rows.placeIn Rattle.bufmodel.specs.Rows.placeOf
-    Rattle.bufmodel.specs.Sizes.permitted Rattle.bufmodel.specs.Sizes.newFile Rattle.bufmodel.specs.Sizes.soundRow
-    Rattle.bufmodel.specs.Sizes.soundRows Rattle.bufmodel.specs.Sizes.sizedFor Rattle.bufmodel.specs.Sizes.sized
-    Rattle.bufmodel.specs.Books.emptyAt Rattle.bufmodel.specs.Books.soundWords Rattle.bufmodel.specs.Books.soundBlanks
-    Rattle.bufmodel.specs.Books.soundFree Rattle.bufmodel.specs.Books.soundNames Rattle.bufmodel.specs.Books.soundPages
-    Rattle.bufmodel.specs.Books.sound Rattle.bufmodel.specs.Sweep.next Rattle.bufmodel.specs.Sweep.sweep
-    Rattle.bufmodel.specs.Sweep.sweepAll Rattle.bufmodel.specs.Moves.putAt Rattle.bufmodel.specs.Moves.writeBack
-    Rattle.bufmodel.specs.Moves.writeUpTo Rattle.bufmodel.specs.Moves.release Rattle.bufmodel.specs.Moves.ofFile
-    Rattle.bufmodel.specs.Moves.releaseIf Rattle.bufmodel.specs.Moves.releaseUpTo Rattle.bufmodel.specs.Moves.loadAt
-    Rattle.bufmodel.specs.Moves.loadTop Rattle.bufmodel.specs.Moves.load Rattle.bufmodel.specs.Outcome.refusalOf
-    Rattle.bufmodel.specs.Outcome.checked Rattle.bufmodel.specs.Outcome.outcome Rattle.bufmodel.specs.Pin.noRow
-    Rattle.bufmodel.specs.Pin.noBlock Rattle.bufmodel.specs.Pin.countFull Rattle.bufmodel.specs.Pin.noVictim
-    Rattle.bufmodel.specs.Pin.heldIn Rattle.bufmodel.specs.Pin.namePlaces Rattle.bufmodel.specs.Pin.pinPlaces
-    Rattle.bufmodel.specs.Pin.pinHeld Rattle.bufmodel.specs.Pin.pinFree Rattle.bufmodel.specs.Pin.pinVictim
-    Rattle.bufmodel.specs.Pin.pinSwept Rattle.bufmodel.specs.Pin.pinNew Rattle.bufmodel.specs.Pin.pinTo Rattle.bufmodel.specs.Pin.pin
-    Rattle.bufmodel.specs.Calls.freeLinks Rattle.bufmodel.specs.Calls.fresh Rattle.bufmodel.specs.Calls.setUp
-    Rattle.bufmodel.specs.Calls.bufferPlaces Rattle.bufmodel.specs.Calls.unpin Rattle.bufmodel.specs.Calls.read
-    Rattle.bufmodel.specs.Calls.writePlaces Rattle.bufmodel.specs.Calls.writeTo Rattle.bufmodel.specs.Calls.write
-    Rattle.bufmodel.specs.Calls.flush Rattle.bufmodel.specs.Calls.checkpoint Rattle.bufmodel.specs.Calls.offsetOf
-    Rattle.bufmodel.specs.Calls.partOf Rattle.bufmodel.specs.Calls.partIn Rattle.bufmodel.specs.Calls.partAt
-    Rattle.bufmodel.specs.Calls.part Rattle.bufmodel.specs.Calls.peek Rattle.bufmodel.specs.Calls.fileFull
-    Rattle.bufmodel.specs.Calls.extendAt Rattle.bufmodel.specs.Calls.extend Rattle.bufmodel.specs.Calls.filePinned
-    Rattle.bufmodel.specs.Calls.dropAt Rattle.bufmodel.specs.Calls.dropFile Rattle.bufmodel.specs.Calls.logInserted
-    Rattle.bufmodel.specs.Calls.logFlushed Rattle.bufmodel.specs.Step.step Rattle.bufmodel.specs.Lent.topOf
-    Rattle.bufmodel.specs.Lent.topWord Rattle.bufmodel.specs.Lent.controlOf Rattle.bufmodel.specs.Lent.wordsOf
-    Rattle.bufmodel.specs.Lent.opened Rattle.bufmodel.specs.Lent.closed Rattle.bufmodel.specs.Lent.ended Rattle.bufmodel.specs.Lent.called
-    Rattle.shelf.specs.Shelf.firstShelf Rattle.shelf.specs.Shelf.firstOf Rattle.shelf.specs.Shelf.noFile
-    Rattle.shelf.specs.Shelf.hasPins Rattle.shelf.specs.Shelf.pinnedPages Rattle.shelf.specs.Shelf.noPage
-    Rattle.shelf.specs.Shelf.countFull Rattle.shelf.specs.Shelf.noBuffer Rattle.shelf.specs.Shelf.numberPlaces
-    Rattle.shelf.specs.Shelf.tooLow Rattle.shelf.specs.Shelf.noRoom Rattle.shelf.specs.Shelf.filePinned
-    Rattle.shelf.specs.Shelf.nameFirst Rattle.shelf.specs.Shelf.above Rattle.shelf.specs.Shelf.places
-    Rattle.shelf.specs.Shelf.refuses Rattle.shelf.specs.Shelf.pinnedAt Rattle.shelf.specs.Shelf.unpinnedAt
-    Rattle.shelf.specs.Shelf.writtenPage Rattle.shelf.specs.Shelf.writtenAt Rattle.shelf.specs.Shelf.nextBlock
-    Rattle.shelf.specs.Shelf.extendedAt Rattle.shelf.specs.Shelf.droppedAt Rattle.shelf.specs.Shelf.shelfAfter
-    Rattle.shelf.specs.Ledger.firstLedger Rattle.shelf.specs.Ledger.isPlace Rattle.shelf.specs.Ledger.inRow
-    Rattle.shelf.specs.Ledger.bufferIn Rattle.shelf.specs.Ledger.wroteIn Rattle.shelf.specs.Ledger.backBy
-    Rattle.shelf.specs.Ledger.newAt Rattle.shelf.specs.Ledger.newBy Rattle.shelf.specs.Ledger.putBy
-    Rattle.shelf.specs.Ledger.dirtiedBy Rattle.shelf.specs.Ledger.dirtyAfter Rattle.shelf.specs.Ledger.lastAfter
-    Rattle.shelf.specs.Ledger.highest Rattle.shelf.specs.Ledger.saidFlushed Rattle.shelf.specs.Ledger.flushedAfter
-    Rattle.shelf.specs.Ledger.acceptedBy Rattle.shelf.specs.Ledger.ledgerAfter Rattle.shelf.specs.Ledger.puts
-    Rattle.shelf.specs.Published.morePins Rattle.shelf.specs.Published.dirtied Rattle.shelf.specs.Published.cleaned
-    Rattle.shelf.specs.Published.emptied Rattle.shelf.specs.Published.loadedInto Rattle.shelf.specs.Published.filed
-    Rattle.shelf.specs.Published.droppedTo Rattle.shelf.specs.Tests.failing Rattle.shelf.specs.Tests.sameList
-    Rattle.shelf.specs.Tests.sameLinks Rattle.shelf.specs.Tests.sameLent Rattle.shelf.specs.Tests.start
-    Rattle.shelf.specs.Tests.wordsTest Rattle.shelf.specs.Tests.namesTest Rattle.shelf.specs.Tests.linksTest
-    Rattle.shelf.specs.Tests.chainsTest Rattle.shelf.specs.Judge.freshTest Rattle.shelf.specs.Judge.setUpTests
-    Rattle.shelf.specs.Judge.answersTest Rattle.shelf.specs.Judge.pinRuleTest Rattle.shelf.specs.Judge.showsTest
-    Rattle.shelf.specs.Judge.sixAt Rattle.shelf.specs.Judge.sixTest Rattle.shelf.specs.Judge.settledAll
-    Rattle.shelf.specs.Judge.settledTest Rattle.shelf.specs.Judge.orderedTest Rattle.shelf.specs.Judge.othersTest
-    Rattle.shelf.specs.Judge.storedTest Rattle.shelf.specs.Judge.heldTest Rattle.shelf.specs.Judge.agreesTests
-    Rattle.shelf.specs.Judge.leftTests Rattle.shelf.specs.Judge.sweptMarks Rattle.shelf.specs.Judge.newMarks
-    Rattle.shelf.specs.Judge.pinMarks Rattle.shelf.specs.Judge.marksAfter Rattle.shelf.specs.Judge.sweptTest
-    Rattle.shelf.specs.Judge.newTest Rattle.shelf.specs.Judge.pinTest Rattle.shelf.specs.Judge.peekTest
-    Rattle.shelf.specs.Judge.saidTests Rattle.shelf.specs.Judge.clockTests Rattle.shelf.specs.Judge.nameTests
-    Rattle.shelf.specs.Judge.judgeCalls Rattle.shelf.specs.Judge.judge Rattle.shelf.specs.Trial.blocks
-    Rattle.shelf.specs.Trial.bench Rattle.shelf.specs.Trial.verdict Rattle.shelf.specs.Trial.every
-    Rattle.shelf.specs.Trial.allBelow Rattle.shelf.specs.Trial.allSigned Rattle.shelf.specs.Trial.fitsLent
-    Rattle.shelf.specs.Trial.fitsFile Rattle.shelf.specs.Trial.fitsName Rattle.shelf.specs.Trial.fitsCall
-    Rattle.shelf.specs.Trial.fitsCalls Rattle.shelf.specs.Trial.fits Rattle.shelf.specs.WrongCalls.wrongCalls
-    Rattle.shelf.specs.WrongBooks.lowersFirst Rattle.shelf.specs.WrongBooks.wrongBooks
-    Rattle.shelf.specs.WrongLent.wrongLent Rattle.shelf.specs.WrongPools.wrongPools
-computes = tt
-
 -- ---- the wrong pools of the list
 -- a pool on the trial of an entry, and that this is a trial
 abbrev pub tried : Pool → Wrong → Verdict
@@ -222,14 +151,92 @@ tried pool w = verdict pool (w .lent) (w .size) (w .log) (w .calls)
 abbrev isTrial : Wrong → Bool
 isTrial w = fits (w .lent) (w .size) (w .log) (w .calls)
 
-all-trials : every (map isTrial wrongPools) ≡ true
-unfolding computes
-all-trials = refl
+-- each entry is a trial; each pool is caught, by the clause that the list says; the right pool passes the same trials
+pub record Shown (ws : List Wrong) : Type 0 where
+  pub trials : every (map isTrial ws) ≡ true
+  pub caught : map (λ w. tried (w .pool) w) ws ≡ map (λ w. Fails (w .refusedBy)) ws
+  pub passed : map (tried (calling step)) ws ≡ map (λ w. Fine) ws
 
--- each is caught, by the clause that the list says
-pub caught : map (λ w. tried (w .pool) w) wrongPools ≡ map (λ w. Fails (w .refusedBy)) wrongPools
+every-append : (xs ys : List Bool) → every xs ≡ true → every ys ≡ true → every (xs ++ ys) ≡ true
+unfolding every
+every-append [] ys h k = k
+every-append (x ∷ xs) ys h k = and-true (and-left x (every xs) h) (every-append xs ys (and-right x (every xs) h) k)
+
+same-append : (f g : Wrong → Verdict) (xs ys : List Wrong) → map f xs ≡ map g xs → map f ys ≡ map g ys → map f (xs ++ ys) ≡ map g (xs ++ ys)
+same-append f g xs ys e d = map-append f xs ys ∙ ap₂ _++_ e d ∙ sym (map-append g xs ys)
+
+infixr 5 _&_
+_&_ : {xs ys : List Wrong} → Shown xs → Shown ys → Shown (xs ++ ys)
+_&_ {xs} {ys} a b =
+    record {
+      trials = ap every (map-append isTrial xs ys) ∙ every-append (map isTrial xs) (map isTrial ys) (a .trials) (b .trials);
+      caught = same-append _ _ xs ys (a .caught) (b .caught);
+      passed = same-append _ _ xs ys (a .passed) (b .passed);
+    }
+
+refusals : Shown wrongRefusals
 unfolding computes
-caught = refl
+refusals = record { trials = refl; caught = refl; passed = refl }
+
+flushes : Shown wrongFlushes
+unfolding computes
+flushes = record { trials = refl; caught = refl; passed = refl }
+
+backs : Shown wrongBacks
+unfolding computes
+backs = record { trials = refl; caught = refl; passed = refl }
+
+answers : Shown wrongAnswers
+unfolding computes
+answers = record { trials = refl; caught = refl; passed = refl }
+
+pages : Shown wrongPages
+unfolding computes
+pages = record { trials = refl; caught = refl; passed = refl }
+
+files : Shown wrongFiles
+unfolding computes
+files = record { trials = refl; caught = refl; passed = refl }
+
+buffers : Shown wrongBuffers
+unfolding computes
+buffers = record { trials = refl; caught = refl; passed = refl }
+
+counts : Shown wrongCounts
+unfolding computes
+counts = record { trials = refl; caught = refl; passed = refl }
+
+sums : Shown wrongSums
+unfolding computes
+sums = record { trials = refl; caught = refl; passed = refl }
+
+sumBytes : Shown wrongBytes
+unfolding computes
+sumBytes = record { trials = refl; caught = refl; passed = refl }
+
+verified : Shown wrongVerified
+unfolding computes
+verified = record { trials = refl; caught = refl; passed = refl }
+
+refusedSums : Shown wrongRefused
+unfolding computes
+refusedSums = record { trials = refl; caught = refl; passed = refl }
+
+lent : Shown wrongLent
+unfolding computes
+lent = record { trials = refl; caught = refl; passed = refl }
+
+setUps : Shown wrongSetUps
+unfolding computes
+setUps = record { trials = refl; caught = refl; passed = refl }
+
+pub shown : Shown wrongPools
+unfolding wrongPools
+shown =
+    refusals & flushes & backs & answers & pages & files & buffers & counts & sums & sumBytes & verified & refusedSums & lent & setUps
+
+pub caught : map (λ w. tried (w .pool) w) wrongPools ≡ map (λ w. Fails (w .refusedBy)) wrongPools
+caught = shown .caught
 
 abbrev pub AllShut : List Wrong → Type 0
 AllShut [] = Unit {0}
@@ -247,7 +254,7 @@ all-shut (w ∷ ws) h e =
 
 -- WRONG POOLS ARE SHUT OUT
 pub shut-out : AllShut wrongPools
-shut-out = all-shut wrongPools all-trials caught
+shut-out = all-shut wrongPools (shown .trials) caught
 
 -- ---- the right pool passes the same trials: by the theorem, and by computation
 abbrev pub AllFine : Pool → List Wrong → Type 0
@@ -261,11 +268,10 @@ all-fine pool d (w ∷ ws) h =
     (passes pool d (w .lent) (w .size) (w .log) (w .calls) (and-left (isTrial w) _ h), all-fine pool d ws (and-right (isTrial w) _ h))
 
 pub right-passes : Demand3 → AllFine (calling step) wrongPools
-right-passes d = all-fine (calling step) d wrongPools all-trials
+right-passes d = all-fine (calling step) d wrongPools (shown .trials)
 
 pub right-computes : map (tried (calling step)) wrongPools ≡ map (λ w. Fine) wrongPools
-unfolding computes
-right-computes = refl
+right-computes = shown .passed
 
 -- ---- a function whose refusals move the hand: demand 2 shuts it out, and `calling` puts back what it moved, so that no call shows it
 abbrev moves : Change
@@ -321,3 +327,42 @@ unfolding called
 moves-unseen c m own answer =
     let o = step (opened m) c in
     rw (ended-same m o (leaving (withHand 1) o) refl refl refl)
+
+-- ---- pins that verify the block of a held page too: no list of calls after a set up shows them, since that block passes; demand 1, which
+-- is of any lent memory, shuts them out
+abbrev verifiesHeld : Pool
+verifiesHeld = pins (λ m c o. let bad = refused 17 [] m in cond (sumPasses (c .page .block .0) (drop size (m .store))) o bad)
+
+-- the page of stock is pinned, and its block in the store is bad
+abbrev holding : Lent
+holding =
+    let begun = calling step .setsUp size log (bench 1) slice .lent in
+    let k = opened (calling step .calls (pin stock 0) begun [] slice .lent) in
+    closed (withStore (unsummed 1 .store) k)
+
+holding-sized : sizedFor (opened holding .control .size) (opened holding) ≡ true
+unfolding computes
+holding-sized = refl
+
+holding-control : length (holding .control) ≡ 5
+unfolding computes
+holding-control = refl
+
+holding-sound : sound (opened holding) ≡ true
+unfolding computes
+holding-sound = refl
+
+holding-accepts : firstOf (table (opened holding) (pin stock 0)) ≡ 0
+unfolding computes
+holding-accepts = refl
+
+holding-refused : verifiesHeld .calls (pin stock 0) holding [] slice .result ≡ 17
+unfolding computes
+holding-refused = refl
+
+pub held-shut : Demand1For verifiesHeld → ⊥
+held-shut d =
+    let sized = sizes-say _ (opened holding) .holds holding-sized in
+    let sounds = books-say (opened holding) .holds holding-sound in
+    let h = d .calls (pin stock 0) holding slice .number refl (sized, holding-control) sounds in
+    omega (arith, h, holding-accepts, holding-refused)

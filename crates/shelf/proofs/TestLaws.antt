@@ -16,7 +16,9 @@ use Rattle.laws.proofs.Every.{all-of}
 use Rattle.buftag.specs.declared.name.PageName.{PageName}
 use Rattle.buftag.specs.Name.{sameName}
 use Rattle.buftag.proofs.NameLaws.{says-same-name}
+use Rattle.bufmodel.specs.Checksum.{bare, bareFrom}
 use Rattle.bufmodel.specs.Lent.{Lent}
+use Rattle.bufmodel.proofs.ChecksumLaws.{bare-take}
 use Rattle.shelf.specs.Published.{Marks, Alike}
 use Rattle.shelf.specs.Tests.{
   Clause,
@@ -72,10 +74,13 @@ beq-same : (a : Bool) → Bool·beq a a ≡ true
 beq-same true = refl
 beq-same false = refl
 
+pub same-bools : {a b : Bool} → a ≡ b → Bool·beq a b ≡ true
+same-bools {b} e = ap (λ (x : Bool). Bool·beq x b) e ∙ beq-same b
+
 -- tests of statements that hold together
 pub both : {P Q : Type 0} {a b : Bool} → Says a P → Says b Q → (P ↔ Q) → Bool·beq a b ≡ true
 both {a} {b} s t h =
-    ap (λ (x : Bool). Bool·beq x b) (same-tests a b (λ p. t .shown (h .0 (s .holds p))) (λ q. s .shown (h .1 (t .holds q)))) ∙ beq-same b
+    same-bools (same-tests a b (λ p. t .shown (h .0 (s .holds p))) (λ q. s .shown (h .1 (t .holds q))))
 
 pub at-place : {f : Found} {g : ℕ} (t : ℕ → Bool) → f ≡ found g → t g ≡ true → atPlace f t ≡ true
 at-place t e h = ap (λ (f : Found). atPlace f t) e ∙ h
@@ -142,6 +147,15 @@ starts-same p g xs q h ys e = same-list (start-is p g xs ∙ ap (take some) e �
 
 pub start-same : (p g : ℕ) (xs ys : List ℕ) → block p g xs ≡ ys → sameList (start p g xs) (take some ys) ≡ true
 start-same p g xs ys e = same-list (start-is p g xs ∙ ap (take some) e)
+
+-- and so they do without bytes 8 and 9
+pub bare-starts : (xs ys : List ℕ) → bare xs ≡ bare ys → sameList (bare (take some xs)) (bare (take some ys)) ≡ true
+bare-starts xs ys e = same-list (bare-take 0 some xs ∙ ap (take some) e ∙ sym (bare-take 0 some ys))
+
+pub bare-start-same : (p g : ℕ) (xs ys : List ℕ) → bare (block p g xs) ≡ bare ys
+    → sameList (bare (start p g xs)) (bare (take some ys)) ≡ true
+bare-start-same p g xs ys e =
+    ap (λ (zs : List ℕ). sameList (bareFrom 0 zs) (bare (take some ys))) (start-is p g xs) ∙ bare-starts (block p g xs) ys e
 
 -- ---- Alike
 module _ {n b : ℕ} {k l : Marks} (a : Alike n b k l) where

@@ -14,4 +14,5 @@ pub mod Changes
 pub mod WrongCalls
 pub mod WrongBooks
 pub mod WrongLent
+pub mod WrongSums
 pub mod WrongPools

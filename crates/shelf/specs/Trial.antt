@@ -1,5 +1,5 @@
 -- A trial of a pool: a bench, a set up, calls as a till makes them, and the verdict.
-use Prim.Native.Nat.{ℕ, zero, suc, _-_, _*_, _^_}
+use Prim.Native.Nat.{ℕ, _-_, _*_, _^_}
 use mathlib.Core.Bool.{Bool, true, _&&_}
 use mathlib.Core.List.{List, [], _∷_, _++_, map}
 use lib.ListN.{replicate}
@@ -10,15 +10,14 @@ use Rattle.buftag.specs.declared.name.FileName.{FileName}
 use Rattle.buftag.specs.declared.name.PageName.{PageName}
 use Rattle.buftag.specs.Name.{fileOf}
 use Rattle.buftag.specs.Names.{nameWords}
-use Rattle.bufmodel.specs.Position.{positionBytes}
 use Rattle.bufmodel.specs.Step.{Call, Pin, Unpin, Read, Write, Flush, Checkpoint, Peek, Extend, Drop, LogInserted, LogFlushed}
 use Rattle.bufmodel.specs.Lent.{Lent}
 use Rattle.shelf.specs.Statement.{Pool, Made}
 use Rattle.shelf.specs.Tests.{Clause, Verdict}
 use Rattle.shelf.specs.Judge.{judge}
 
--- ---- the bench: n buffers and n + 1 pages, n of the file of sales and one of the file of stock; both files are full. The books are as
--- someone left them
+-- ---- the bench: n buffers and n + 1 pages, n of the file of sales and one of the file of stock; both files are full. Books and pool are
+-- as someone left them. Blocks are zeros, which go without a checksum, but for that of stock where a trial needs another
 abbrev pub size : ℕ
 size = 1024
 
@@ -31,26 +30,35 @@ sales = fileOf 1663 5 16384 0
 abbrev pub stock : FileName
 stock = fileOf 1663 5 16385 0
 
--- each block has a log position and bytes of its own
-unfoldable pub blocks : ℕ → List ℕ
-blocks zero = []
-blocks (suc k) = blocks k ++ (positionBytes (suc k) ++ replicate (size - 8) (10 * suc k))
-
-unfoldable pub bench : ℕ → Lent
-bench n =
+unfoldable pub benchWith : ℕ → List ℕ → Lent
+benchWith n page =
     record {
       control = replicate 5 0;
       states = replicate n 9;
       names = replicate (nameWords * n) 9;
-      pool = replicate (n * size) 0;
+      pool = replicate (n * size) 9;
       free = replicate n (pos 0);
       heads = replicate n (pos 0);
       chain = replicate n (pos 0);
       rows = 1663 ∷ 5 ∷ 16384 ∷ 0 ∷ n ∷ n ∷ 1663 ∷ 5 ∷ 16385 ∷ 0 ∷ 1 ∷ 1 ∷ [];
-      store = blocks (suc n);
+      store = replicate (n * size) 0 ++ page;
     }
 
--- ---- the till's calls: a page of a file; one byte, or two bytes, behind the log position; the log position
+abbrev pub bench : ℕ → Lent
+bench n = benchWith n (replicate size 0)
+
+-- a page of zeros but for bytes 8, 9 and 10
+unfoldable pub blockWith : ℕ → ℕ → ℕ → List ℕ
+blockWith low high byte = replicate 8 0 ++ (low ∷ high ∷ byte ∷ replicate (size - 11) 0)
+
+-- the block of stock with its checksum, 57,103; with none
+abbrev pub summed : ℕ → Lent
+summed n = benchWith n (blockWith 15 223 77)
+
+abbrev pub unsummed : ℕ → Lent
+unsummed n = benchWith n (blockWith 0 0 77)
+
+-- ---- the till's calls: a page of a file; one byte, or two bytes, behind the checksum; the log position
 abbrev pub blockOf : FileName → ℕ → PageName
 blockOf f b = record { file = f; block = record { 0 = b } }
 
@@ -61,10 +69,10 @@ abbrev pub peek : FileName → ℕ → Call
 peek f b = Peek (blockOf f b)
 
 abbrev pub write : ℕ → ℕ → ℕ → Call
-write buffer byte at = Write buffer 8 (byte ∷ []) at
+write buffer byte at = Write buffer 10 (byte ∷ []) at
 
 abbrev pub read : ℕ → Call
-read buffer = Read buffer 8 (0 ∷ 0 ∷ [])
+read buffer = Read buffer 10 (0 ∷ 0 ∷ [])
 
 abbrev pub readPosition : ℕ → Call
 readPosition buffer = Read buffer 0 (replicate 8 0)
@@ -150,8 +158,11 @@ pub record Wrong : Type 0 where
   pub calls : List Call
   pub refusedBy : Clause
 
+abbrev pub wrongOn : Lent → Pool → List Call → Clause → Wrong
+wrongOn m pool calls clause = record { pool = pool; lent = m; size = size; log = log; calls = calls; refusedBy = clause }
+
 abbrev pub wrong : Pool → ℕ → List Call → Clause → Wrong
-wrong pool n calls clause = record { pool = pool; lent = bench n; size = size; log = log; calls = calls; refusedBy = clause }
+wrong pool n = wrongOn (bench n) pool
 
 abbrev pub wrongSetUp : Pool → Lent → ℕ → ℕ → Clause → Wrong
 wrongSetUp pool m p at clause = record { pool = pool; lent = m; size = p; log = at; calls = []; refusedBy = clause }

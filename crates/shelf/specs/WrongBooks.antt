@@ -29,7 +29,7 @@ use Rattle.bufmodel.specs.Sweep.{Swept, swept, next, sweep, sweepAll}
 use Rattle.bufmodel.specs.Moves.{release}
 use Rattle.bufmodel.specs.Step.{Pin, Unpin, LogFlushed, step}
 use Rattle.shelf.specs.Tests.{Six, Answers, Stored, Held, Books, Probes, Words, Hand, Names, Chains}
-use Rattle.shelf.specs.Trial.{size, sales, stock, blockOf, pin, write, unpinned, exchange, Wrong, wrong}
+use Rattle.shelf.specs.Trial.{size, unsummed, sales, stock, blockOf, pin, write, unpinned, exchange, Wrong, wrongOn, wrong}
 use Rattle.shelf.specs.Changes.{ifAccepted, pins, unpins, logFlushes, saying, leaving, unwritten, said, pinsAgain, sweeps}
 
 -- both of two buffers are free; the free list 1, 0 of two buffers
@@ -70,9 +70,9 @@ exchanged m =
     (withNames (drop nameWords (m .names) ++ take nameWords (m .names))
     (withPool (drop size (m .pool) ++ take size (m .pool)) (withHeads (drop 1 (m .heads) ++ take 1 (m .heads)) m)))
 
-unfoldable pub wrongBooks : List Wrong
-wrongBooks =
-    -- ---- where a page goes
+-- ---- where a page goes
+unfoldable pub wrongBuffers : List Wrong
+wrongBuffers =
     -- the last place of the free list is taken
     wrong (pins (λ m c o. cond (bothFree m) (step (otherEnd m) (Pin (c .page))) o)) 2 (pin sales 0 ∷ []) Probes
     -- a dirty victim is not written back
@@ -81,7 +81,7 @@ wrongBooks =
     ∷ wrong (pins (λ m c o. cond (eqb (said o 2) 1) (leaving (λ k. withStore (putBlock size 0 (pageOf k 0) (k .store)) k) o) o)) 1
     exchange Stored
     -- a load takes the next block
-    ∷ wrong (pins (λ m c o. leaving (λ k. withPool (drop size (k .store)) k) o)) 1 (pin sales 0 ∷ []) Held
+    ∷ wrongOn (unsummed 1) (pins (λ m c o. leaving (λ k. withPool (drop size (k .store)) k) o)) (pin sales 0 ∷ []) Held
     -- a load leaves the buffer's bytes
     ∷ wrong (pins (λ m c o. leaving (withPool (m .pool)) o)) 1 (pin sales 0 ∷ []) Held
     -- a hit loads the page again
@@ -96,15 +96,19 @@ wrongBooks =
     -- log flushed reorders a chain
     ∷ wrong (logFlushes (λ m c o. leaving rising o)) 2 (pin sales 1 ∷ pin stock 0 ∷ LogFlushed 100 ∷ []) Chains
     -- a buffer gets another name when its last pin goes
-    ∷ wrong (unpins (λ m c o. leaving (withNames (wordsOf (blockOf stock 0))) o)) 1 (pin sales 0 ∷ Unpin 0 ∷ []) Held
+    ∷ wrongOn (unsummed 1) (unpins (λ m c o. leaving (withNames (wordsOf (blockOf stock 0))) o)) (pin sales 0 ∷ Unpin 0 ∷ []) Held
     -- it gets the other name and its page, and the next pin of its own is a load
-    ∷ wrong (unpins (λ m c o. leaving (λ k. withNames (wordsOf (blockOf stock 0)) (withPool (drop size (k .store)) k)) o)) 1
+    ∷ wrongOn (unsummed 1) (unpins (λ m c o. leaving (λ k. withNames (wordsOf (blockOf stock 0)) (withPool (drop size (k .store)) k)) o))
     (pin sales 0 ∷ Unpin 0 ∷ []) Names
     -- log flushed exchanges two buffers
     ∷ wrong (logFlushes (λ m c o. leaving exchanged o)) 2 (unpinned ++ (LogFlushed 100 ∷ [])) Names
-    -- ---- the sweep
+    ∷ []
+
+-- ---- the sweep
+unfoldable pub wrongCounts : List Wrong
+wrongCounts =
     -- document 004's lowers first and tests after
-    ∷ wrong (sweeps (λ words hand. lowersFirst (length words) 0 words hand)) 1 (pin sales 0 ∷ Unpin 0 ∷ pin stock 0 ∷ []) Probes
+    wrong (sweeps (λ words hand. lowersFirst (length words) 0 words hand)) 1 (pin sales 0 ∷ Unpin 0 ∷ pin stock 0 ∷ []) Probes
     -- and gives up after N tries
     ∷ wrong (sweeps (λ words hand. sweep (length words) (length words) 0 0 hand words)) 1
     (pin sales 0 ∷ Unpin 0 ∷ pin stock 0 ∷ []) Six

@@ -55,7 +55,23 @@ use Rattle.shelf.specs.Tests.{
   FreeList,
   Pages,
 }
-use Rattle.shelf.specs.Trial.{size, log, sales, stock, pin, peek, write, read, readPosition, unpinned, exchange, Wrong, wrong}
+use Rattle.shelf.specs.Trial.{
+  size,
+  log,
+  unsummed,
+  sales,
+  stock,
+  pin,
+  peek,
+  write,
+  read,
+  readPosition,
+  unpinned,
+  exchange,
+  Wrong,
+  wrongOn,
+  wrong,
+}
 use Rattle.shelf.specs.Changes.{
   ifRefused,
   ifAccepted,
@@ -79,9 +95,9 @@ use Rattle.shelf.specs.Changes.{
   said,
 }
 
-unfoldable pub wrongCalls : List Wrong
-wrongCalls =
-    -- ---- refusals
+-- ---- refusals
+unfoldable pub wrongRefusals : List Wrong
+wrongRefusals =
     -- 6 while one buffer is unpinned
     wrong (pins (λ m c o. cond (eqb (suc (count (buffers m) (λ i. pinned (wordOf m i)))) (buffers m)) (refused 6 [] m) o)) 2
     (pin sales 0 ∷ pin sales 1 ∷ []) Six
@@ -120,18 +136,13 @@ wrongCalls =
     ∷ wrong (logInserts (ifRefused (λ m c o. done zeros [] (withInserted (c .number) m)))) 1 (LogInserted 99 ∷ []) Number
     -- a file with a pinned page is dropped
     ∷ wrong (drops (ifRefused (λ m c o. done zeros [] m))) 1 (pin stock 0 ∷ Drop stock ∷ []) Number
-    -- ---- what is written back, and the log
-    -- a checkpoint writes nothing
-    ∷ wrong (checkpoints (λ m c o. unwritten m o)) 1 (pin sales 0 ∷ write 0 77 100 ∷ Checkpoint ∷ []) Settled
-    -- a checkpoint writes only the first time: as long as flushed is the set-up's
-    ∷ wrong (checkpoints (λ m c o. cond (ltb log (m .control .flushed)) (unwritten m o) o)) 1
-    (LogInserted 200 ∷ pin sales 0 ∷ write 0 77 200 ∷ Checkpoint ∷ write 0 78 200 ∷ Checkpoint ∷ []) Settled
-    -- a checkpoint counts one too few
-    ∷ wrong (checkpoints (λ m c o. saying 0 (said o 0 - 1) o)) 1 (pin sales 0 ∷ write 0 77 100 ∷ Checkpoint ∷ []) Counts
-    -- a checkpoint empties an unpinned buffer
-    ∷ wrong (checkpoints (λ m c o. leaving (λ k. release k 0) o)) 1 (pin sales 0 ∷ Unpin 0 ∷ Checkpoint ∷ []) Words
+    ∷ []
+
+-- ---- flush
+unfoldable pub wrongFlushes : List Wrong
+wrongFlushes =
     -- a flush writes nothing
-    ∷ wrong (flushes (λ m c o. unwritten m o)) 1 (pin sales 0 ∷ write 0 77 100 ∷ Flush 0 ∷ []) Stored
+    wrong (flushes (λ m c o. unwritten m o)) 1 (pin sales 0 ∷ write 0 77 100 ∷ Flush 0 ∷ []) Stored
     -- a flush leaves its page dirty
     ∷ wrong (flushes (λ m c o. leaving (withStates (m .states)) o)) 1 (pin sales 0 ∷ write 0 77 100 ∷ Flush 0 ∷ []) Words
     -- a flush counts 0
@@ -142,6 +153,32 @@ wrongCalls =
     -- a flush puts a forged position into the store
     ∷ wrong (flushes (λ m c o. leaving (λ k. withStore (positionBytes 101 ++ drop 8 (k .store)) k) o)) 1
     (pin sales 0 ∷ write 0 77 100 ∷ Flush 0 ∷ []) Ordered
+    -- a flush puts the page at the next block
+    ∷ wrong (flushes (λ m c o. leaving (withStore (putBlock size 1 (pageOf m 0) (m .store))) o)) 1
+    (pin sales 0 ∷ write 0 77 100 ∷ Flush 0 ∷ []) Others
+    -- a flush writes every dirty page
+    ∷ wrong (flushes (λ m c o. leaving (λ k. writeUpTo (buffers m) m) o)) 2
+    (pin sales 0 ∷ pin sales 1 ∷ write 0 77 100 ∷ write 1 78 100 ∷ Flush 0 ∷ []) Others
+    -- a flush puts the page without the bytes behind its position
+    ∷ wrong (flushes (λ m c o. leaving (λ k. withStore (take 8 (k .store) ++ drop 8 (m .store)) k) o)) 1
+    (pin sales 0 ∷ write 0 77 100 ∷ Flush 0 ∷ []) Stored
+    -- a flush clears the dirty bit alone
+    ∷ wrong (flushes (λ m c o. leaving (λ k. withStates (map (λ w. w + 0x10000000) (k .states)) k) o)) 1
+    (pin sales 0 ∷ write 0 77 100 ∷ Flush 0 ∷ []) Words
+    ∷ []
+
+-- ---- checkpoint, what else is written back, and the log
+unfoldable pub wrongBacks : List Wrong
+wrongBacks =
+    -- a checkpoint writes nothing
+    wrong (checkpoints (λ m c o. unwritten m o)) 1 (pin sales 0 ∷ write 0 77 100 ∷ Checkpoint ∷ []) Settled
+    -- a checkpoint writes only the first time: as long as flushed is the set-up's
+    ∷ wrong (checkpoints (λ m c o. cond (ltb log (m .control .flushed)) (unwritten m o) o)) 1
+    (LogInserted 200 ∷ pin sales 0 ∷ write 0 77 200 ∷ Checkpoint ∷ write 0 78 200 ∷ Checkpoint ∷ []) Settled
+    -- a checkpoint counts one too few
+    ∷ wrong (checkpoints (λ m c o. saying 0 (said o 0 - 1) o)) 1 (pin sales 0 ∷ write 0 77 100 ∷ Checkpoint ∷ []) Counts
+    -- a checkpoint empties an unpinned buffer
+    ∷ wrong (checkpoints (λ m c o. leaving (λ k. release k 0) o)) 1 (pin sales 0 ∷ Unpin 0 ∷ Checkpoint ∷ []) Words
     -- log flushed lowers flushed
     ∷ wrong (logFlushes (λ m c o. leaving (withFlushed (c .number)) o)) 1 (LogFlushed 50 ∷ []) Flushed
     -- log inserted raises flushed
@@ -164,27 +201,19 @@ wrongCalls =
     -- a victim's write-back leaves flushed as it was
     ∷ wrong (pins (λ m c o. leaving (withFlushed (m .control .flushed)) o)) 1
     (LogInserted 200 ∷ pin sales 0 ∷ write 0 77 200 ∷ Unpin 0 ∷ pin stock 0 ∷ []) Flushed
-    -- a flush puts the page at the next block
-    ∷ wrong (flushes (λ m c o. leaving (withStore (putBlock size 1 (pageOf m 0) (m .store))) o)) 1
-    (pin sales 0 ∷ write 0 77 100 ∷ Flush 0 ∷ []) Others
-    -- a flush writes every dirty page
-    ∷ wrong (flushes (λ m c o. leaving (λ k. writeUpTo (buffers m) m) o)) 2
-    (pin sales 0 ∷ pin sales 1 ∷ write 0 77 100 ∷ write 1 78 100 ∷ Flush 0 ∷ []) Others
-    -- a flush puts the page without the bytes behind its position
-    ∷ wrong (flushes (λ m c o. leaving (λ k. withStore (take 8 (k .store) ++ drop 8 (m .store)) k) o)) 1
-    (pin sales 0 ∷ write 0 77 100 ∷ Flush 0 ∷ []) Stored
-    -- a flush clears the dirty bit alone
-    ∷ wrong (flushes (λ m c o. leaving (λ k. withStates (map (λ w. w + 0x10000000) (k .states)) k) o)) 1
-    (pin sales 0 ∷ write 0 77 100 ∷ Flush 0 ∷ []) Words
     -- a write goes to the store at once
     ∷ wrong (writes (λ m c o. leaving (λ k. writeBack k 0) o)) 1 (pin sales 0 ∷ write 0 77 100 ∷ []) Others
     -- so does a dirty page at its last unpin
     ∷ wrong (unpins (λ m c o. leaving (λ k. writeBack k 0) o)) 1 (pin sales 0 ∷ write 0 77 100 ∷ Unpin 0 ∷ []) Others
     -- log inserted puts the hand back
     ∷ wrong (logInserts (λ m c o. leaving (withHand 0) o)) 2 (unpinned ++ (pin stock 0 ∷ LogInserted 100 ∷ [])) Hand
-    -- ---- what a pin answers
+    ∷ []
+
+-- ---- what a pin answers
+unfoldable pub wrongAnswers : List Wrong
+wrongAnswers =
     -- buffer 0 always
-    ∷ wrong (pins (λ m c o. saying 0 0 o)) 2 (pin sales 0 ∷ pin sales 1 ∷ []) Shows
+    wrong (pins (λ m c o. saying 0 0 o)) 2 (pin sales 0 ∷ pin sales 1 ∷ []) Shows
     -- another number for a pinned page
     ∷ wrong (pins (λ m c o. saying 0 (said o 0 + said o 1) o)) 2 (pin sales 0 ∷ pin sales 0 ∷ []) Shows
     -- the number N
@@ -201,11 +230,15 @@ wrongCalls =
     ∷ wrong (pins (λ m c o. saying 2 0 o)) 1 exchange Others
     -- a pin touches the caller's bytes
     ∷ wrong (pins (λ m c o. filling (1 ∷ []) o)) 1 (pin sales 0 ∷ []) Shows
-    -- ---- read, write, peek
+    ∷ []
+
+-- ---- read, write, peek
+unfoldable pub wrongPages : List Wrong
+wrongPages =
     -- a read fills other bytes
-    ∷ wrong (reads (ifAccepted (λ m c o. filling (map suc (o .bytes)) o))) 1 (pin sales 0 ∷ read 0 ∷ []) Shows
+    wrong (reads (ifAccepted (λ m c o. filling (map suc (o .bytes)) o))) 1 (pin sales 0 ∷ read 0 ∷ []) Shows
     -- a write copies nothing
-    ∷ wrong (writes (λ m c o. leaving (λ k. withPool (set (k .pool) 8 (getD (m .pool) 8 0)) k) o)) 1
+    ∷ wrong (writes (λ m c o. leaving (λ k. withPool (set (k .pool) 10 (getD (m .pool) 10 0)) k) o)) 1
     (pin sales 0 ∷ write 0 77 100 ∷ []) Held
     -- a write sets no position
     ∷ wrong (writes (λ m c o. leaving (λ k. withPool (take 8 (m .pool) ++ drop 8 (k .pool)) k) o)) 1
@@ -225,27 +258,32 @@ wrongCalls =
     ∷ wrong (peeks (λ m c o. leaving (λ k. withStates (map (λ w. w + 0x40000) (k .states)) k) o)) 1
     (pin sales 0 ∷ peek sales 0 ∷ []) Words
     -- a read gives a position's low word first
-    ∷ wrong (reads (λ m c o. filling (drop 4 (o .bytes) ++ take 4 (o .bytes)) o)) 1 (pin sales 0 ∷ readPosition 0 ∷ []) Shows
+    ∷ wrong (reads (λ m c o. filling (drop 4 (o .bytes) ++ take 4 (o .bytes)) o)) 1
+    (pin sales 0 ∷ write 0 77 100 ∷ readPosition 0 ∷ []) Shows
     -- a read counts as a use
     ∷ wrong (reads (λ m c o. leaving (λ k. withStates (map (λ w. w + 0x40000) (k .states)) k) o)) 1 (pin sales 0 ∷ read 0 ∷ []) Words
     -- a write copies one byte too many
-    ∷ wrong (writes (λ m c o. leaving (λ k. withPool (set (k .pool) 9 0) k) o)) 1 (pin sales 0 ∷ write 0 77 100 ∷ []) Held
+    ∷ wrong (writes (λ m c o. leaving (λ k. withPool (set (k .pool) 11 1) k) o)) 1 (pin sales 0 ∷ write 0 77 100 ∷ []) Held
     -- a write touches the caller's bytes
     ∷ wrong (writes (ifAccepted (λ m c o. filling (map suc (o .bytes)) o))) 1 (pin sales 0 ∷ write 0 77 100 ∷ []) Shows
     -- a peek of the store gives another block, of equal bytes
     ∷ wrong (peeks (λ m c o. answering (two 0 size) o)) 2 (Drop sales ∷ Extend sales ∷ Extend sales ∷ peek sales 0 ∷ []) Part
-    -- ---- extend and drop
+    ∷ []
+
+-- ---- extend and drop
+unfoldable pub wrongFiles : List Wrong
+wrongFiles =
     -- an extend changes another block
-    ∷ wrong (extends (λ m c o. leaving (λ k. withStore (set (k .store) 8 1) k) o)) 1 (Drop stock ∷ Extend stock ∷ []) Others
+    wrong (extends (λ m c o. leaving (λ k. withStore (set (k .store) 8 1) k) o)) 1 (Drop stock ∷ Extend stock ∷ []) Others
     -- an extend leaves the old bytes
-    ∷ wrong (extends (λ m c o. unwritten m o)) 1 (Drop stock ∷ Extend stock ∷ []) Stored
+    ∷ wrongOn (unsummed 1) (extends (λ m c o. unwritten m o)) (Drop stock ∷ Extend stock ∷ []) Stored
     -- an extend answers another number
     ∷ wrong (extends (λ m c o. saying 0 1 o)) 1 (Drop stock ∷ Extend stock ∷ []) Shows
     -- a drop writes dirty pages
     ∷ wrong (drops (λ m c o. leaving (withStore (writeUpTo (buffers m) m .store)) o)) 1
     (pin sales 0 ∷ write 0 77 100 ∷ Unpin 0 ∷ Drop sales ∷ []) Others
     -- a drop changes the store
-    ∷ wrong (drops (λ m c o. leaving (λ k. withStore (map (λ b. 0) (k .store)) k) o)) 1 (Drop stock ∷ []) Others
+    ∷ wrong (drops (λ m c o. leaving (λ k. withStore (map (λ b. 1) (k .store)) k) o)) 1 (Drop stock ∷ []) Others
     -- a drop leaves the blocks
     ∷ wrong (drops (λ m c o. leaving (withRows (m .rows)) o)) 1 (Drop stock ∷ []) Rows
     -- a drop puts its buffers on the free list falling
@@ -262,7 +300,8 @@ wrongCalls =
     -- a drop leaves its buffers in their chains
     ∷ wrong (drops (λ m c o. leaving (withHeads (m .heads)) o)) 1 (pin sales 0 ∷ Unpin 0 ∷ Drop sales ∷ []) Books
     -- a drop clears its buffers' pages
-    ∷ wrong (drops (λ m c o. leaving (λ k. withPool (map (λ b. 0) (k .pool)) k) o)) 1 (pin sales 0 ∷ Unpin 0 ∷ Drop sales ∷ []) Pages
+    ∷ wrong (drops (λ m c o. leaving (λ k. withPool (map (λ b. 0) (k .pool)) k) o)) 1
+    (pin sales 0 ∷ write 0 77 100 ∷ Unpin 0 ∷ Drop sales ∷ []) Pages
     -- an extend adds two blocks
     ∷ wrong (extends (λ m c o. leaving (λ k. step k (Extend sales) .after) o)) 2 (Drop sales ∷ Extend sales ∷ []) Rows
     -- an extend loads the new page

@@ -1,5 +1,5 @@
 -- Wrong pools: each does one thing wrong. The lent memory as a list of calls shows it, and set ups.
-use Prim.Native.Nat.{ℕ, suc, _+_, _*_, _%_, _^_}
+use Prim.Native.Nat.{ℕ, suc, _*_, _%_, _^_}
 use mathlib.Core.Bool.{cond}
 use mathlib.Core.List.{List, [], _∷_, _++_}
 use lib.ListN.{length, getD, take, set, replicate}
@@ -71,9 +71,9 @@ withSize p m =
 abbrev twoRows : Lent
 twoRows = let m = opened (bench 1) in closed (withRows (take 6 (m .rows) ++ take 6 (m .rows)) m)
 
+-- ---- the lent memory
 unfoldable pub wrongLent : List Wrong
 wrongLent =
-    -- ---- the lent memory
     -- the store grows
     wrong (calls (ifAccepted (λ m c o. leaving (λ k. withStore (k .store ++ (0 ∷ [])) k) o))) 1 (Checkpoint ∷ []) Long
     -- another block size goes into the control record
@@ -111,9 +111,13 @@ wrongLent =
     ∷ wrong (slices (λ a r. cond (eqb (r .result) 0) (r .answer) a)) 1 (Unpin 0 ∷ []) Blank
     -- a call that answers only done leaves the answer slice as it was
     ∷ wrong (slices (λ a r. cond (eqb (r .result) 0) a (r .answer))) 1 (LogFlushed 100 ∷ []) Answers
-    -- ---- set up
+    ∷ []
+
+-- ---- set up
+unfoldable pub wrongSetUps : List Wrong
+wrongSetUps =
     -- every set up is refused
-    ∷ wrongSetUp (setsUp (λ p at m r. ended 1 m r)) (bench 1) size log Accepted
+    wrongSetUp (setsUp (λ p at m r. ended 1 m r)) (bench 1) size log Accepted
     -- log position 0 is refused
     ∷ wrongSetUp (setsUp (λ p at m r. cond (eqb at 0) (ended 1 m r) r)) (bench 1) size 0 Accepted
     -- no buffers are accepted

@@ -1,0 +1,150 @@
+-- Each test of what an accepted call answers and leaves passes where demand 2's clause holds.
+use Prim.Native.Nat.{ℕ, _*_, _≤_}
+use native.Mathlib.Omega.{arith}
+use mathlib.Core.Path.{_≡_, refl, sym, ap, _∙_, subst}
+use mathlib.Core.Bool.{true}
+use mathlib.Core.List.{List}
+use borrow.Author.Tests.{eq-eqb}
+use Rattle.laws.specs.First.{Found, found}
+use Rattle.laws.proofs.Tests.{and-true}
+use Rattle.laws.proofs.Every.{all-of}
+use Rattle.buftag.specs.declared.link.Link.{Link}
+use Rattle.buftag.specs.declared.lookup.Held.{Held}
+use Rattle.buftag.specs.declared.lookup.Held.the-variants.{At, Nowhere}
+use Rattle.buftag.specs.declared.name.PageName.{PageName}
+use Rattle.bufmodel.specs.Memory.{Memory, buffers}
+use Rattle.bufmodel.specs.Rows.{placeOf}
+use Rattle.bufmodel.specs.Sweep.{Swept}
+use Rattle.bufmodel.specs.Outcome.{Outcome}
+use Rattle.bufmodel.specs.Pin.{heldIn}
+use Rattle.bufmodel.specs.Step.{Call, Pin, Unpin, Read, Write, Flush, Checkpoint, Peek, Extend, Drop, LogInserted, LogFlushed}
+use Rattle.bufmodel.proofs.SweepLaws.{sweep-is}
+use Rattle.shelf.specs.Published.{Marks, Leaves, Probes, hit, free, early, taken, stuck, Peeks, Published}
+use Rattle.shelf.specs.JudgePublished.{
+  sweepOf,
+  sweptMarks,
+  newMarks,
+  pinMarks,
+  marksAfter,
+  loadedPages,
+  sweptPages,
+  newPages,
+  pinPages,
+  pagesAfter,
+  sweptBlocks,
+  newBlocks,
+  pinBlocks,
+  blocksAfter,
+  sweptTest,
+  newTest,
+  pinTest,
+  peekTest,
+  saidTests,
+  clockTests,
+  nameTests,
+  pageTests,
+}
+use Rattle.shelf.proofs.TestLaws.{
+  Passes,
+  all,
+  _&_,
+  if-place,
+  same-list,
+  start-same,
+  words-pass,
+  names-pass,
+  links-pass,
+  chains-pass,
+}
+
+module _ (m : Memory) (o : Outcome) where
+  -- ---- a pin: its answer, and what it leaves
+  record PinFine (n : PageName) (x : Held) : Type 0 where
+    said : pinTest m (o .answer) x ≡ true
+    leaves : Leaves m o (pinMarks m n x) (pinPages m n x) (pinBlocks m x)
+
+  -- what a pin leaves that loads the page where a link leads; into a sweep's victim
+  abbrev New : PageName → Link → Type 0
+  New n x = Leaves m o (newMarks m n x) (newPages m n x) (newBlocks m x)
+
+  abbrev Taken : PageName → Swept → Found → Type 0
+  Taken n s x = Leaves m o (sweptMarks m n s x) (sweptPages m n x) (sweptBlocks m x)
+
+  -- the page loaded is the block at its place
+  loads : (n : PageName) {g : ℕ} {k : Marks} {store : ℕ → List ℕ} (i : ℕ) → placeOf (m .rows) n ≡ found g
+      → Leaves m o k (loadedPages m i (found g)) store → Leaves m o k (loadedPages m i (placeOf (m .rows) n)) store
+  loads n {k} {store} i e = subst (λ (x : Found). Leaves m o k (loadedPages m i x) store) (sym e)
+
+  pin-fine : (n : PageName) (k : ℕ) → Probes m n o k → k ≤ 6 * buffers m → o .refusal ≡ 0 → PinFine n (heldIn m n)
+  unfolding pinTest newTest sweptTest pinMarks newMarks sweptMarks loadedPages pinPages newPages sweptPages pinBlocks newBlocks sweptBlocks
+  pin-fine n _ (hit {b} e z a h) l q = subst (PinFine n) (sym e) (record { said = same-list a; leaves = h })
+  pin-fine n _ (free {i} e f z a p h) l q =
+      subst (PinFine n) (sym e)
+      (record { said = ap (newTest m (o .answer)) f ∙ same-list a; leaves = subst (New n) (sym f) (loads n i p h) })
+  pin-fine n _ (early a b) l q = absurd (a q)
+  pin-fine n _ (taken {s} {v} e f z w t a p h) l q =
+      let is : sweepOf m ≡ s = sweep-is (6 * buffers m) w l in
+      subst (PinFine n) (sym e)
+      (record {
+        said =
+            ap (newTest m (o .answer)) f ∙ ap (λ (x : Swept). sweptTest m (o .answer) x (x .victim)) is
+            ∙ ap (sweptTest m (o .answer) s) t
+            ∙ same-list a;
+        leaves =
+            subst (New n) (sym f)
+            (subst (λ (x : Swept). Taken n x (x .victim)) (sym is) (subst (Taken n s) (sym t) (loads n v p h)));
+      })
+  pin-fine n _ (stuck e f z w t) l q = absurd (omega arith)
+
+  peek-pass : (n : PageName) (x : Held) → heldIn m n ≡ x → Peeks m n o → peekTest m (o .answer) n x ≡ true
+  unfolding peekTest
+  peek-pass n (At b) e h = same-list (h .inPool b e)
+  peek-pass n Nowhere e h = if-place _ _ (λ g q. same-list (h .inStore g e q))
+
+  -- ---- every call
+  module _ (z : o .refusal ≡ 0) where
+    pinned : (n : PageName) → Published m (Pin n) o → PinFine n (heldIn m n)
+    pinned n h = let s = h .sought n refl in pin-fine n (s .probes) (s .looked) (s .bound) z
+
+    pub said-pass : (c : Call) → Published m c o → Passes (saidTests m (o .answer) (o .bytes) c)
+    unfolding saidTests
+    said-pass (Pin n) h = pinned n h .said & all
+    said-pass (Unpin b) h = all
+    said-pass (Read b from out) h = same-list (h .accepts z .1) & all
+    said-pass (Write b from bytes at) h = all
+    said-pass (Flush b) h = same-list (h .accepts z .1) & all
+    said-pass Checkpoint h = same-list (h .accepts z .1) & all
+    said-pass (Peek n) h = peek-pass n (heldIn m n) refl (h .accepts z .1) & all
+    said-pass (Extend f) h = all
+    said-pass (Drop f) h = all
+    said-pass (LogInserted p) h = all
+    said-pass (LogFlushed p) h = all
+
+    pub leaves-after : (c : Call) → Published m c o → Leaves m o (marksAfter m c) (pagesAfter m c) (blocksAfter m c)
+    unfolding marksAfter pagesAfter blocksAfter
+    leaves-after (Pin n) h = pinned n h .leaves
+    leaves-after (Unpin b) h = h .accepts z
+    leaves-after (Read b from out) h = h .accepts z .0
+    leaves-after (Write b from bytes at) h = h .accepts z
+    leaves-after (Flush b) h = h .accepts z .0
+    leaves-after Checkpoint h = h .accepts z .0
+    leaves-after (Peek n) h = h .accepts z .0
+    leaves-after (Extend f) h = h .accepts z
+    leaves-after (Drop f) h = h .accepts z
+    leaves-after (LogInserted p) h = h .accepts z
+    leaves-after (LogFlushed p) h = h .accepts z
+
+  module _ {k : Marks} {page store : ℕ → List ℕ} (h : Leaves m o k page store) where
+    pub clock-pass : Passes (clockTests m o k)
+    unfolding clockTests
+    clock-pass =
+        and-true (eq-eqb _ _ (h .many)) (words-pass (h .alike)) & eq-eqb _ _ (h .alike .hand) & links-pass (h .alike) & all
+
+    pub name-pass : Passes (nameTests m o k)
+    unfolding nameTests
+    name-pass = names-pass (h .alike) & and-true (eq-eqb _ _ (h .wide)) (chains-pass (h .alike)) & all
+
+    pub page-pass : Passes (pageTests m o page store)
+    unfolding pageTests
+    page-pass =
+        all-of _ _ (λ i l. start-same _ _ _ _ (h .pages i l)) & all-of _ _ (λ g l. start-same _ _ _ _ (h .blocks g l)) & all
