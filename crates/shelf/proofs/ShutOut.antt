@@ -5,20 +5,22 @@ use native.Mathlib.Omega.{arith}
 use mathlib.Core.Path.{_≡_, refl, sym, ap, ap₂, _∙_}
 use mathlib.Core.Bool.{Bool, true, cond}
 use mathlib.Core.List.{List, [], _∷_, _++_, map, map-append}
-use lib.ListN.{length, getD, drop}
+use lib.ListN.{length, getD}
 use lib.IntN.{ℤ}
 use lib.Signed.{mag}
 use lib.Dec.{eqb, ltb}
 use borrow.Author.Tests.{ltb-true, ne-eqb}
 use Rattle.laws.proofs.Tests.{and-true, and-left, and-right}
+use Rattle.buftag.specs.declared.lookup.Held.the-variants.{Nowhere}
 use Rattle.buftag.specs.declared.name.FileName.{FileName}
 use Rattle.buftag.specs.declared.name.PageName.{PageName}
 use Rattle.buftag.specs.Name.{FitsFile, Fits}
-use Rattle.bufmodel.specs.Checksum.{passes as sumPasses}
+use Rattle.bufmodel.specs.Rows.{placeOf}
 use Rattle.bufmodel.specs.Memory.{Memory, withStore, withHand}
 use Rattle.bufmodel.specs.Sizes.{sizedFor}
 use Rattle.bufmodel.specs.Books.{sound}
 use Rattle.bufmodel.specs.Outcome.{Outcome, refused}
+use Rattle.bufmodel.specs.Pin.{sumDiffers}
 use Rattle.bufmodel.specs.Step.{Call, Pin, Unpin, Read, Write, Flush, Checkpoint, Peek, Extend, Drop, LogInserted, LogFlushed, step}
 use Rattle.bufmodel.specs.Lent.{Lent, opened, closed, ended, called}
 use Rattle.bufmodel.proofs.SizesLaws.{sizes-say}
@@ -174,6 +176,7 @@ _&_ {xs} {ys} a b =
       passed = same-append _ _ xs ys (a .passed) (b .passed);
     }
 
+-- list by list: the whole is more than the prover computes in one declaration
 refusals : Shown wrongRefusals
 unfolding computes
 refusals = record { trials = refl; caught = refl; passed = refl }
@@ -331,7 +334,8 @@ moves-unseen c m own answer =
 -- ---- pins that verify the block of a held page too: no list of calls after a set up shows them, since that block passes; demand 1, which
 -- is of any lent memory, shuts them out
 abbrev verifiesHeld : Pool
-verifiesHeld = pins (λ m c o. let bad = refused 17 [] m in cond (sumPasses (c .page .block .0) (drop size (m .store))) o bad)
+verifiesHeld =
+    pins (λ m c o. let bad = refused 17 [] m in cond (sumDiffers m (c .page) (placeOf (m .rows) (c .page)) Nowhere) bad o)
 
 -- the page of stock is pinned, and its block in the store is bad
 abbrev holding : Lent
