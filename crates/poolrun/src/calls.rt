@@ -102,7 +102,7 @@ pub(crate) fn write_to(mut bench: Bench, buffer: usize, position: u64) -> Bench 
         &rows,
         &store,
         BufferNumber(buffer),
-        8,
+        10,
         b"rye",
         position,
     );

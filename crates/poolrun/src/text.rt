@@ -87,10 +87,10 @@ pub(crate) fn say_log(control: Control) {
 // How many bytes a part has, and the three that are written here.
 pub(crate) fn say_part(part: &[u8]) {
     say_number(b": bytes ", part.len() as u64);
-    if part.len() > 10 {
-        say_byte(b", from 8 on ", part[8]);
-        say_byte(b" ", part[9]);
-        say_byte(b" ", part[10]);
+    if part.len() > 12 {
+        say_byte(b", from 10 on ", part[10]);
+        say_byte(b" ", part[11]);
+        say_byte(b" ", part[12]);
     }
     say(b"\n");
 }

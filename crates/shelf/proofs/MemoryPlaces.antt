@@ -116,7 +116,8 @@ module _ (m : Memory) (n : PageName) where
       go : (h : Held) → heldIn m n ≡ h → (heldIn m n ≡ Nowhere) × ((i : ℕ) → i < buffers m → pinned (wordOf m i) ≡ true)
       go (At b) q = absurd (false≢true (last-six _ _ (pin-last (At b) q e (omega arith) (omega arith) (omega arith)) .1))
       go Nowhere q =
-          (q, all-at (λ i. pinned (wordOf m i)) (buffers m) (last-six _ _ (pin-last Nowhere q e (omega arith) (omega arith) (omega arith)) .1))
+          let six = last-six _ _ (pin-last Nowhere q e (omega arith) (omega arith) (omega arith)) .1 in
+          (q, all-at (λ i. pinned (wordOf m i)) (buffers m) six)
 
 -- ---- an accepted pin
 module _ (m : Memory) (n : PageName) (z : refusalOf (pinPlaces m n) ≡ 0) where
