@@ -64,9 +64,9 @@ twoFiles =
     withRows (1663 ∷ 5 ∷ 16384 ∷ 0 ∷ 1 ∷ 2 ∷ 1663 ∷ 5 ∷ 16384 ∷ 1 ∷ 2 ∷ 3 ∷ [])
     (withStore (page 0 0 ++ (page 11 11 ++ (page 30775 12 ++ (page 51162 13 ++ page 14 14)))) bench)
 
--- The bench with one byte turned in block 3, which has no checksum
+-- The bench with one byte turned in blocks 3 and 4, the latter above the count; neither has a checksum
 unfoldable pub damaged : Memory
-damaged = withStore (replicate 3084 0 ++ (1 ∷ replicate 2035 0)) bench
+damaged = withStore (replicate 3084 0 ++ (1 ∷ (replicate 1023 0 ++ (1 ∷ replicate 1011 0)))) bench
 
 abbrev mapFile : FileName
 mapFile = fileOf 1663 5 16384 1
@@ -287,6 +287,8 @@ unfoldable pub sumCases : List Case
 sumCases =
     -- The pool's page keeps its own bytes 8 and 9
     case unmarked (bytes twoFiles (spread ++ settled) 1 8 2 ∷ []) ((218 ∷ 199 ∷ []) ∷ [])
+    -- A write reaches them
+    ∷ case unmarked (bytes bench (three ++ (Write 0 8 (5 ∷ 6 ∷ []) 90 ∷ [])) 0 8 2 ∷ []) ((5 ∷ 6 ∷ []) ∷ [])
     -- A block without its checksum: 17, after 4 and before a victim is sought. A drop takes it out, and an extend's block is of zeros
     ∷ case unmarked (seen damaged three (block 3 ∷ peek 3 ∷ block 4 ∷ [])) (only 17 ∷ only 17 ∷ only 4 ∷ [])
     ∷ case unmarked

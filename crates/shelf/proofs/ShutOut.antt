@@ -277,7 +277,7 @@ pub right-computes : map (tried (calling step)) wrongPools ≡ map (λ w. Fine) 
 right-computes = shown .passed
 
 -- ---- a function whose refusals move the hand: demand 2 shuts it out, and `calling` puts back what it moved, so that no call shows it
-abbrev moves : Change
+abbrev pub moves : Change
 moves = ifRefused (λ m c o. leaving (withHand 1) o)
 
 -- the bench of two buffers, set up
@@ -333,7 +333,7 @@ moves-unseen c m own answer =
 
 -- ---- pins that verify the block of a held page too: no list of calls after a set up shows them, since that block passes; demand 1, which
 -- is of any lent memory, shuts them out
-abbrev verifiesHeld : Pool
+abbrev pub verifiesHeld : Pool
 verifiesHeld =
     pins (λ m c o. let bad = refused 17 [] m in cond (sumDiffers m (c .page) (placeOf (m .rows) (c .page)) Nowhere) bad o)
 

@@ -1,5 +1,5 @@
--- Document 01's own numbers: what the statement and the pool both use, each as an equation for all arguments, under its sentence.
--- −1 is `negsuc 0`, −2 is `negsuc 1`.
+-- Document 01's own numbers, and the public header's of a checksum: what the statement and the pool both use, each as an equation for all
+-- arguments, under its sentence. −1 is `negsuc 0`, −2 is `negsuc 1`.
 use Prim.Native.Nat.{ℕ, suc, _+_, _-_, _*_, _/_, _%_, _≤_, _<_}
 use mathlib.Core.Path.{_≡_}
 use mathlib.Core.Logic.{_≢_, _⊎_, _↔_}

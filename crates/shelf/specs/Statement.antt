@@ -88,8 +88,8 @@ Answers o (Drop f) = o .answer ≡ zeros
 Answers o (LogInserted p) = o .answer ≡ zeros
 Answers o (LogFlushed p) = o .answer ≡ zeros
 
--- ---- what an accepted call shows is the shelf's. Bytes 8 and 9 of a page are left out when reads, peeks and store are compared with the
--- shelf, and nowhere else; what they are is demand 2's
+-- ---- what an accepted call shows is the shelf's. Bytes 8 and 9 of a page are left out when reads, peeks and store, and the pool's pages, are
+-- compared with the shelf, and nowhere else; what they are is demand 2's
 module _ (s : Shelf) (o : Outcome) where
   -- Its buffer number is the program's: if the page had pins, the number already holding it, else one below N that holds none
   pub record PinRule (g : ℕ) : Type 0 where
@@ -148,7 +148,7 @@ pub record Agrees (m : Memory) (l : Ledger) (c : Call) (o : Outcome) (l′ : Led
       → bare (block (l .shelf .size) g (o .after .store)) ≡ bare (l′ .shelf .bytes g)
   pub held : (i g : ℕ) → i < buffers (o .after) → wordOf (o .after) i ≢ 0 → placeOf (o .after .rows) (nameOf (o .after) i) ≡ found g
       → bare (pageOf (o .after) i) ≡ bare (l′ .shelf .bytes g)
-  -- a block of the store below its file's block count fails its checksum exactly if it came in bad
+  -- a block of the store below its file's block count fails its checksum exactly if the shelf counts it as bad
   pub sums : (n : PageName) (g : ℕ) → placeOf (o .after .rows) n ≡ found g
       → fails (n .block .0) (block (l .shelf .size) g (o .after .store)) ≡ l′ .shelf .bad g
   -- after an accepted checkpoint also, in the store, every byte of each block below its file's block count

@@ -56,6 +56,7 @@ pub pass-hold :
     × (judged (fails 9) tried ≡ true ∷ true ∷ false ∷ false ∷ [])
     × (passes 8 (goesOut 9 (ramp 1024 0 7 3)) ≡ false)
     × (sealed 9 (replicate 1024 0) ≡ replicate 1024 0)
+    × (goesOut 0 (replicate 8 0 ++ (1 ∷ replicate 1015 0)) ≡ replicate 8 0 ++ (88 ∷ 140 ∷ replicate 1014 0))
 unfolding sums sealed passes fails goesOut Rattle.bufmodel.specs.Checksum.sumIn Rattle.bufmodel.specs.Checksum.allZero
     Rattle.bufmodel.specs.Position.paste Rattle.shelf.specs.Sums.blank
-pass-hold = (refl, refl, refl, refl)
+pass-hold = (refl, refl, refl, refl, refl)

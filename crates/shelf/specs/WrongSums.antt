@@ -108,7 +108,9 @@ wrongSums =
     ∷ wrong (flushes (outAs 0 (λ page. summedBy (checksum 0 page - 1) page))) 1 (pin sales 0 ∷ write 0 77 100 ∷ Flush 0 ∷ []) Sums
     -- a page of zeros is given a checksum
     ∷ wrong (flushes (outAs 0 (λ page. summedBy (checksum 0 page) page))) 1 (pin sales 0 ∷ write 0 0 0 ∷ Flush 0 ∷ []) Store
-    -- so is the block of an extend
+    -- a page of zeros but for bytes 8 and 9 goes out as zeros
+    ∷ wrong (flushes (outAs 0 (λ page. replicate size 0))) 1 (pin sales 0 ∷ Write 0 8 (5 ∷ []) 0 ∷ Flush 0 ∷ []) Store
+    -- the block of an extend is given a checksum
     ∷ wrong (extends (outAs 1 (λ page. let blank = replicate size 0 in summedBy (checksum 0 blank) blank))) 1
     (Drop stock ∷ Extend stock ∷ []) Store
     -- a checkpoint gives a block that came in bad its checksum
