@@ -45,7 +45,8 @@ pub fn seal(page: &mut [u8], number: BlockNumber)
     page[9] = (s / 256) as u8;
 }
 
-// Whether a page passes as block `number` of its file. A checksum is never 0, so without one only a page of zeros does: one pass either way.
+// Whether a page passes as block `number` of its file. A checksum is never 0, so without one only a page of zeros does: one pass
+// either way.
 fn passes_page(page: &[u8], number: BlockNumber) -> bool
     requires { ⌜ 128 ≤ length (now page) ⌝ }
     ensures { λ r. ⌜ r ≡ passes (number .0) (now (page .entry)) ⌝ }

@@ -359,7 +359,8 @@ unfolding Rattle.laws.specs.Every.all Rattle.laws.specs.Every.any Rattle.laws
     Rattle.bufmodel.specs.Step.memoryAfter Rattle.bufmodel.specs.Step.answers
     Rattle.bufmodel.specs.Lent.topOf Rattle.bufmodel.specs.Lent.topWord Rattle.bufmodel.specs.Lent.controlOf
     Rattle.bufmodel.specs.Lent.wordsOf Rattle.bufmodel.specs.Lent.opened Rattle.bufmodel.specs.Lent.closed
-    Rattle.bufmodel.specs.Lent.ended Rattle.bufmodel.specs.Lent.called bench twoFiles damaged after seen bytes blocks results told linksAfter
+    Rattle.bufmodel.specs.Lent.ended Rattle.bufmodel.specs.Lent.called bench twoFiles damaged after seen bytes blocks
+    results told linksAfter
 given [] = []
 given (c ∷ cs) = c .gives ∷ given cs
 

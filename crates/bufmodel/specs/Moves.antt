@@ -43,7 +43,8 @@ putAt p page store (found g) = putBlock p g page store
 putAt p page store missing = store
 
 -- Writing back a dirty page: flushed becomes the larger of itself and the page's log position; then the page goes to its block, with its
--- checksum unless it is all zeros; both dirty bits clear. The pool's page keeps its own bytes 8 and 9. A page that isn't dirty stays as it is
+-- checksum unless it is all zeros; both dirty bits clear. The pool's page keeps its own bytes 8 and 9. A page that isn't dirty stays as
+-- it is
 unfoldable pub writeBack : Memory → ℕ → Memory
 writeBack m i =
     let d = dirty (wordOf m i) in

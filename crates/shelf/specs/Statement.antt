@@ -88,8 +88,8 @@ Answers o (Drop f) = o .answer ≡ zeros
 Answers o (LogInserted p) = o .answer ≡ zeros
 Answers o (LogFlushed p) = o .answer ≡ zeros
 
--- ---- what an accepted call shows is the shelf's. Bytes 8 and 9 of a page are left out when reads, peeks and store, and the pool's pages, are
--- compared with the shelf, and nowhere else; what they are is demand 2's
+-- ---- what an accepted call shows is the shelf's. Bytes 8 and 9 of a page are left out when reads, peeks and store, and the pool's pages,
+-- are compared with the shelf, and nowhere else; what they are is demand 2's
 module _ (s : Shelf) (o : Outcome) where
   -- Its buffer number is the program's: if the page had pins, the number already holding it, else one below N that holds none
   pub record PinRule (g : ℕ) : Type 0 where
