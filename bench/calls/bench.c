@@ -59,7 +59,7 @@ static double share_of_check(const struct bench_case *c, struct pool *pool, size
 /* what the ratio of a case may be at most */
 static double most_of(const struct bench_case *c, enum set set)
 {
-    if (c->kind == SUMMED) return 1.10;
+    if (c->kind == SUMMED) return 0.95;
     return c->kind == STILL && set == USUAL ? 0.60 : 1.00;
 }
 
