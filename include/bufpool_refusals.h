@@ -66,7 +66,7 @@ BUFPOOL_INLINE const char *bufpool_refusal_advice(uint32_t refusal)
         "ask again when pins have been given back",
         "mend the till program or its set-up: asking again changes nothing",
         "stop: the lent memory is damaged, or was lent wrongly",
-        "a copy of the file, head office's tool (it takes damage), or a drop",
+        "a copy of the file, head office's tool (it accepts damage as it is), or a drop",
     };
     return all[refusal == BUFPOOL_CHECKSUM ? BUFPOOL_KIND_DAMAGE + 1 : bufpool_refusal_kind(refusal)];
 }

@@ -5,7 +5,7 @@
 #include "timing.h"
 #include <string.h>
 
-enum { ROUNDS = 801, PAGES = 16, BYTES = 1 << 20, BOUND_AT = 8192 };
+enum { ROUNDS = 801, PAGES = 16, BYTES = 1 << 20 };
 static const double MOST = 1.00;
 
 typedef uint16_t published_fn(char *page, uint32_t block);
@@ -59,8 +59,7 @@ static int bench(const struct row *r)
     }
     printf("checksum, P = %5zu: %6.0f ns, checksum_impl.h %6.0f ns, plain C %6.0f ns, ", r->page, median(proved, ROUNDS),
            median(published, ROUNDS), median(simple, ROUNDS));
-    if (r->page == BOUND_AT) above = print_ratio(median(ratio, ROUNDS), MOST);
-    else printf("ratio %.3f", median(ratio, ROUNDS));
+    above = print_ratio(median(ratio, ROUNDS), MOST);
     printf("\n");
     return above;
 }

@@ -101,7 +101,7 @@ void spoil_block(uint8_t *page, size_t size, uint32_t block)
     case 3: put_sum(page, page_sum(page, size, block + 1 + random_below(3))); break;
     case 4:
         memset(page, 0, size);
-        page[random_below(2) == 0 ? SUM_AT + random_below(SUM_BYTES) : random_below((uint32_t)size)] = 1;
+        page[random_below(random_below(2) == 0 ? SUM_AT + SUM_BYTES : (uint32_t)size)] = 1;
         break;
     default: random_fill(page + SUM_AT, size - SUM_AT); break;
     }

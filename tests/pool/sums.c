@@ -243,6 +243,9 @@ static void case_fields(void)
     block_at(0, 0)[P - 1] = 1;
     expect_both(0, 0, 17);
     memset(block_at(0, 0), 0, P);
+    block_at(0, 0)[4] = 90;
+    expect_both(0, 0, 17);
+    memset(block_at(0, 0), 0, P);
     put_sum(block_at(0, 0), 1);
     expect_both(0, 0, 17);
     end();
