@@ -1,4 +1,4 @@
-# shellcheck shell=bash disable=SC2034
+# shellcheck shell=bash disable=SC2034,SC2154
 # For tests and benchmarks that take PostgreSQL from Debian's package mirror, which is unpacked in the folder "$room" and not installed.
 releases=(17 16 15 14 13) # the first one that the mirror has is taken
 
