@@ -5,7 +5,8 @@ use mathlib.Core.Path.{ap, _∙_}
 use Prim.Native.Nat.{ℕ, _*_}
 use Rattle.laws.specs.Block.{block, putBlock}
 use Rattle.bufmodel.specs.Checksum.{sealed}
-use Rattle.bufmem.proofs.SealLaws.{length-within, put-changed}
+use Rattle.laws.proofs.Block.{length-within}
+use Rattle.bufmem.proofs.SealLaws.{put-changed}
 use borrow.Author.Needs.{needs}
 use Rattle.bufmem.proofs.page.page_to_store.Statement.{statement}
 use Rattle.bufmem.proofs.page.page_to_store.Tie as tie
