@@ -80,6 +80,7 @@ pub mod OneLent
 pub mod OnePool
 -- the numbers of what the statement and the pool both use
 pub mod Numbers
+pub mod HeaderSum
 -- the statement as a test, and the wrong pools that it shuts out
 pub mod TestLaws
 pub mod JudgePublishedLaws

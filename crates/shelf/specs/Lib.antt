@@ -5,6 +5,7 @@ pub mod Published
 pub mod Statement
 pub mod Guards
 pub mod Numbers
+pub mod HeaderSum
 pub mod Vectors
 pub mod Tests
 pub mod JudgePublished

@@ -28,14 +28,10 @@ pub sums-hold : sums ≡ 35928 ∷ 16265 ∷ 6928 ∷ 6927 ∷ 24463 ∷ []
 unfolding sums
 sums-hold = refl
 
--- larger ones
+-- a larger one; those of every size: `proofs/HeaderSum`
 pub sum-2048 : checksum 0 (ramp 2048 0 7 3) ≡ 27551
 unfolding sums
 sum-2048 = refl
-
-pub sum-4096 : checksum 0 (ramp 4096 0 7 3) ≡ 3770
-unfolding sums
-sum-4096 = refl
 
 -- ---- which pass, by the pool's test and by the statement's
 -- without a checksum; zeros but for byte 8; the checksum of block 9 read as block 9 and as block 8; zeros
