@@ -1,5 +1,5 @@
 /* The twelve calls of the page pool as libbufpool.a has them (x86-64 Linux), the checksum of a page, and the numbers that go with them.
-   bufpool.h includes this page and has a helper for each call; a program calls these functions itself only where it has no struct bufpool.
+   bufpool.h includes this page and has a helper for each of the twelve; a program calls these itself only where it has no struct bufpool.
 
    Each of the twelve calls takes all the lent memory first, then its own arguments, then the slice of four words in which it answers.
    The result is 0 if the call is accepted, else the number of the refusal: then the four words are 0 and nothing else has changed.
@@ -200,8 +200,8 @@ BUFPOOL_RESULT uint32_t bufpool_log_flushed(
 
 /* The checksum of a page as the block of that number in its file: PostgreSQL's, of checksum_impl.h, over P bytes, of which 8 and 9 count as
    zeros. It is what a write-back puts into bytes 8 and 9 of the store's block, unless the page is all zeros. It takes no pool. Answers
-   the checksum, 1 to 65535. Refuses with 1, and leaves the answer as it was, at a page_len that no block size is, and at an answer of
-   another length than four. */
+   the checksum, 1 to 65535. Refuses with 1: at a page_len that no block size is, with zeros for an answer; at an answer of another length
+   than four, which stays as it was. */
 BUFPOOL_RESULT uint32_t bufpool_checksum(const uint8_t *page, uint64_t page_len, uint32_t block, uint64_t *answer, uint64_t answer_len);
 
 #ifdef __cplusplus

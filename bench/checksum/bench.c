@@ -1,5 +1,5 @@
 /* The checksum of a page: the library's, PostgreSQL's own (its public header, compiled as bench/run says) and plain C's, in turn in one
-   run, at each block size. Status 1 if one gives another sum, or if the ratio to PostgreSQL's at 8,192 bytes is above its bound. */
+   run, at each block size. Status 1 if one gives another sum, or if the ratio to PostgreSQL's at a block size is above its bound. */
 #include "plain.h"
 #include "memory.h"
 #include "timing.h"
@@ -41,7 +41,7 @@ static double time_of(const struct row *r, checksum_fn *checksum, uint64_t *sum)
     return spent / calls;
 }
 
-/* whether the ratio is above its bound, where it has one */
+/* whether the ratio is above its bound */
 static int bench(const struct row *r)
 {
     static double proved[ROUNDS], published[ROUNDS], simple[ROUNDS], ratio[ROUNDS];

@@ -1,11 +1,14 @@
-"""refusals.py HEADER CALLS TEXT..: that the table of the page CALLS gives each call the numbers that the comment before its prototype in
-HEADER does ("Refuses with 1, 2, 7, 8."), in the same order; and that every run of numbers in a text behind "with" stands in the order in
-which HEADER has its constants, number by number. Prints what is wrong; status 1 if anything is."""
+"""refusals.py HEADER CALLS PAGE TEXT..: that the table of the page CALLS gives each call the numbers that the comment before its prototype
+in HEADER does ("Refuses with 1, 2, 7, 8."), in the same order; that the runs of numbers behind "with" in PAGE are those of its helpers'
+calls; and that every such run in PAGE or a text stands in the order in which HEADER has its constants, number by number. Prints what is
+wrong; status 1 if anything is."""
 import re
 import sys
 
 RUN = re.compile(r'\bwith\s+(\d+(?:,\s+\d+)+)')
 RANGE = re.compile(r'\bwith\s+(?:\d+,\s+)*\d+ to \d+')
+# the calls that refuse with several numbers, in the order in which PAGE has its helpers
+HELPED = ['extend', 'drop', 'pin', 'unpin', 'read', 'write', 'flush', 'checkpoint', 'peek', 'log_inserted', 'log_flushed']
 
 
 def read(path):
@@ -28,13 +31,19 @@ def tabled(page):
     return dict(re.findall(r'^\| `(bufpool_\w+)` \|.*\| ([\d, ]+) \|$', page, re.M))
 
 
-def main(header, calls, texts):
+def main(header, calls, page, texts):
     order = places(read(header))
     said, shown = commented(read(header)), tabled(read(calls))
     wrong = ['%s: %s in the header, %s in the page' % (name, said.get(name), shown.get(name))
              for name in sorted(said.keys() | shown.keys()) if said.get(name) != shown.get(name)]
+    helped = [' '.join(run.split()) for run in RUN.findall(read(page))]
+    for call, run in zip(HELPED, helped):
+        if run != said.get('bufpool_' + call):
+            wrong.append('%s: the helper of %s refuses with %s' % (page, call, run))
+    if len(helped) != len(HELPED):
+        wrong.append('%s: %d runs of numbers' % (page, len(helped)))
     runs = 0
-    for text in texts:
+    for text in [page, *texts]:
         for run in RUN.findall(read(text)):
             numbers = [int(number) for number in run.split(',')]
             runs += 1
@@ -45,4 +54,4 @@ def main(header, calls, texts):
     return bool(wrong) or len(said) != 12 or len(order) < 17 or runs < 20
 
 
-sys.exit(main(sys.argv[1], sys.argv[2], sys.argv[3:]))
+sys.exit(main(*sys.argv[1:4], sys.argv[4:]))

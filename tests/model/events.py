@@ -5,8 +5,8 @@ from shelf import every_page
 
 REFUSALS = {'pin': (3, 4, 17, 5, 6), 'peek': (3, 4, 17), 'extend': (3, 13), 'drop': (3, 14), 'unpin': (7, 8), 'flush': (7, 8),
             'read': (7, 8, 9), 'write': (7, 8, 9, 10, 11, 12), 'log_inserted': (15,), 'log_flushed': (16,), 'checkpoint': ()}
-# only a memory made by hand has so many pins, a page over a block that does not pass, or a dirty page of zeros
-ONLY_SOUND = {'pin 5', 'hit over a bad block', 'peek over a bad block', 'zeros are written back', 'zeros but for 8 and 9 are written back'}
+# only a memory made by hand has so many pins, or a page over a block that does not pass
+ONLY_SOUND = {'pin 5', 'hit over a bad block', 'peek over a bad block'}
 WANTED = {f'{kind} {number}' for kind, refusals in REFUSALS.items() for number in (0, *refusals)} | ONLY_SOUND | {
     'hit', 'hit at the greatest usage', 'hit with every buffer pinned', 'free', 'swept', 'swept, wrote', 'swept, more than N probes',
     'swept past a pinned buffer', 'the hand wraps', 'a victim behind another in its chain', 'entered before another', 'a name of zeros',
@@ -18,7 +18,7 @@ WANTED = {f'{kind} {number}' for kind, refusals in REFUSALS.items() for number i
     'a loaded block has a checksum', 'a peeked block has a checksum', 'a loaded block is zeros', 'a block is verified at another place',
     'a block is written at another place', 'a page written at 8 or 9 is written back', 'a bad block is dropped', 'extend over a bad block',
     'a read of other bytes 8 and 9 than the shelf has', 'a peek of other bytes 8 and 9 than the shelf has',
-    'a store with other bytes 8 and 9 than the shelf has'}
+    'a store with other bytes 8 and 9 than the shelf has', 'zeros are written back', 'zeros but for 8 and 9 are written back'}
 
 
 def happening(found):

@@ -168,16 +168,17 @@ def set_up(made, size, position):
 
 
 def by_hand():
-    """A page is written at 8 and 9, written back as a victim, loaded again and read: the shelf's has other bytes there. One buffer; the
-    page's place is not its block number; the other file's block has no checksum."""
+    """A page is written at 8 and 9, written back as a victim, loaded again and read: the shelf's has other bytes there. Another is written
+    back as zeros but for byte 9, a third as zeros. One buffer; the pages' places are not their block numbers; the other file's block has no
+    checksum."""
     other, key = KEYS[:2]
     page, victim, bad = key + (1,), key + (0,), other + (0,)
     made = Start([0] * CONTROL_WORDS, [7], [7] * NAME_WORDS, [Page(5, 6)], [7], [7], [7], [*other, 1, 1, *key, 2, 2],
                  [Page(90, 7), zeros(1024), zeros(1024)])
     return made, 1024, 100, [
-        ('pin', page), ('write', 0, 8, b'abcd', 100), ('pin', bad), ('unpin', 0), ('pin', bad), ('pin', victim), ('unpin', 0),
-        ('pin', page), ('read', 0, 6, bytes(6)), ('unpin', 0), ('peek', page), ('checkpoint',), ('drop', other), ('extend', other),
-        ('pin', bad)]
+        ('pin', page), ('write', 0, 8, b'abcd', 100), ('pin', bad), ('unpin', 0), ('pin', bad), ('pin', victim),
+        ('write', 0, 9, b'a', 0), ('flush', 0), ('unpin', 0), ('pin', page), ('read', 0, 6, bytes(6)), ('unpin', 0), ('peek', page),
+        ('checkpoint',), ('drop', other), ('extend', other), ('pin', bad), ('write', 0, 10, bytes(2), 0), ('flush', 0)]
 
 
 def after_set_up(seed):
@@ -192,7 +193,7 @@ def after_set_up(seed):
 def from_sound(seed):
     """A sound memory as some earlier calls left it, with other bytes in its pages and pin counts near the greatest, and calls.
 
-    Pages of zeros may be dirty there, and a page may be held whose block does not pass.
+    A page may be held there whose block does not pass.
     """
     r = random.Random(10_000 + seed)
     made, size, position = start(r)

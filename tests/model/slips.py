@@ -206,8 +206,6 @@ class SweepsBeforeItVerifies(Pool):
         return outcome
 
 
-# seen from a sound memory
-
 class SealsZeros(Pool):
     def sealed(self, name, page):
         return with_sum(page, pack_sum(self.checksum(name, page)))
@@ -219,6 +217,8 @@ class TakesMarkedZerosForZeros(Pool):
     def sealed(self, name, page):
         return super().sealed(name, page) if any(with_sum(page, bytes(2))) else page
 
+
+# seen from a sound memory
 
 class VerifiesHeldPages(Pool):
     def check_page(self, name):
@@ -328,13 +328,14 @@ POOLS = [UsageUpToSix, SweepLowersPinned, SweepLowersThenTests, PositionAsOneNum
          WriteBackLeavesJustDirtied, VictimIsReloadedFirst, ChainEntersAtTail, HashMultipliesFirst, ExtendKeepsBytes, SealsNothing,
          SealsByPlace, VerifiesByPlace, SealsHighByteFirst, SealsThePoolToo, SealsWithOneRoundOfZeros, SumsItsOwnBytes,
          PassesWithoutChecksum, RefusesZeros, PinVerifiesNothing, PeekVerifiesNothing, SeventeenBelowSix, SeventeenAboveFour,
-         SweepsBeforeItVerifies]
-LENT = [SealsZeros, TakesMarkedZerosForZeros, VerifiesHeldPages]
+         SweepsBeforeItVerifies, SealsZeros, TakesMarkedZerosForZeros]
+LENT = [VerifiesHeldPages]
 BOOKS = [BooksTakeAnyFlag, BooksTakeLongLinks, SizesTakeLongerStore]
 SHELVES = [ShelfSixForPinned, ShelfBadForEver, ShelfBadAboveTheCount, ShelfBadByPlace, ShelfGoodWithoutChecksum, ShelfSixAboveSeventeen,
            ShelfPeeksAtBad, LedgerKeepsDroppedDirty, LedgerCountsVictimLate]
 # what the claim about pool and shelf has to say of a wrong pool in Python
-CLAIMED = {'sums': [SealsNothing, SealsByPlace, SealsHighByteFirst, SealsWithOneRoundOfZeros, SumsItsOwnBytes],
+CLAIMED = {'sums': [SealsNothing, SealsByPlace, SealsHighByteFirst, SealsWithOneRoundOfZeros, SumsItsOwnBytes,
+                    TakesMarkedZerosForZeros],
            'number': [VerifiesByPlace, PassesWithoutChecksum, RefusesZeros, PinVerifiesNothing, PeekVerifiesNothing, SeventeenBelowSix,
                       SeventeenAboveFour],
            'bytes': [VictimIsReloadedFirst], 'store': [VictimIsReloadedFirst], 'flushed': [WriteBackForgetsFlushed]}

@@ -312,7 +312,14 @@ def claimed(slip):
             memory = o.memory
 
 
+def planted():
+    """The wrong models of slips.py; each has to be in one of its lists."""
+    return {one for one in vars(slips).values() if isinstance(one, type) and issubclass(one, (Pool, Shelf))} - {Pool, Shelf}
+
+
 def write_slips(room, unfolding):
+    if planted() != {*slips.POOLS, *slips.LENT, *slips.BOOKS, *slips.SHELVES}:
+        sys.exit('slips.py has a planted error that is in none of its lists')
     crate = Crate(room, 'model_slips', [*BELOW, 'model_seen'])
     shortest = sorted(AFTER_SET_UP, key=lambda seed: len(after_set_up(seed)[3]))
     for slip in [*slips.POOLS, *slips.SHELVES]:

@@ -343,11 +343,12 @@ static uint32_t act(struct pool *p, const struct request *q, uint64_t *answer)
     }
 }
 
-/* It touches no pool. Where it refuses it writes nothing. */
+/* It touches no pool. A refusal's words are zeros; an answer of another length stays untouched. */
 static uint32_t checksum(struct memory *m, const struct request *q)
 {
-    bool good = is_page_size(q->own_len) && m->answer_len == ANSWER_WORDS;
-    if (good || SLIP == 50) memset(m->answer, 0, m->answer_len * sizeof *m->answer);
+    bool good = is_page_size(q->own_len);
+    if (m->answer_len != ANSWER_WORDS) return 1;
+    if (good || SLIP != 50) memset(m->answer, 0, ANSWER_WORDS * sizeof *m->answer);
     if (good) m->answer[0] = page_sum(q->own, q->own_len, q->name[NAME_BLOCK]);
     return good ? 0 : 1;
 }

@@ -33,13 +33,13 @@ static uint8_t *page_at(uint64_t buffer)
     return lot.pool + buffer * P;
 }
 
-/* Makes a call. A refusal has zeros for an answer, but for a checksum's; nothing else has changed. */
+/* Makes a call. A refusal has zeros for an answer of four words; nothing else has changed. */
 static uint32_t ask(struct request q)
 {
     memset(lot.answer, 0x5A, sizeof lot.answer);
     memcpy(&before, &lot, sizeof lot);
     uint32_t result = made_call(&m, &q);
-    if (q.call != CHECKSUM) memset(before.answer, 0, sizeof before.answer);
+    if (m.answer_len == ANSWER_WORDS) memset(before.answer, 0, sizeof before.answer);
     if (result != 0) expect("change by a refusal", memcmp(&before, &lot, sizeof lot) != 0, 0);
     return result;
 }
@@ -157,7 +157,7 @@ static void case_lengths(void)
 {
     static const size_t none[] = {0, 1, 128, 512, 1023, 1025, 1536, 32767};
     struct request q = {.call = CHECKSUM, .own = (uint8_t *)ramp(7, 3), .own_len = P};
-    begin("a checksum of a length that is no P, or with an answer of another length than 4: 1, and nothing is written");
+    begin("a checksum of a length that is no P: 1 and zeros; with an answer of another length than 4: 1, and nothing is written");
     for (m.answer_len = 0; m.answer_len < ANSWER_WORDS; m.answer_len++) expect("checksum", ask(q), 1);
     for (size_t k = 0; k < sizeof none / sizeof *none; k++) {
         q.own_len = none[k];

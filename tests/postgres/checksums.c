@@ -49,19 +49,22 @@ static void see_sums(size_t size)
     }
 }
 
-/* Other lengths give 1, and the answer stays as it was. */
+/* Other lengths give 1: of the page, with zeros for an answer; of the answer, which stays as it was. */
 static void see_lengths(void)
 {
     static const uint64_t lengths[] = {0, 1, 512, 1023, 1025, 3072, 8191, 8193, 24576, 32767, 65536, ((uint64_t)1 << 32) + 1024};
     static const uint64_t answers[] = {0, 1, 3, 5, 8};
-    const uint64_t kept[8] = {9, 8, 7, 6, 5, 4, 3, 2};
+    const uint64_t kept[8] = {9, 8, 7, 6, 5, 4, 3, 2}, zeroed[8] = {0, 0, 0, 0, 5, 4, 3, 2};
     uint64_t answer[8];
-    memcpy(answer, kept, sizeof kept);
-    for (size_t k = 0; k < sizeof lengths / sizeof *lengths; k++)
+    for (size_t k = 0; k < sizeof lengths / sizeof *lengths; k++) {
+        memcpy(answer, kept, sizeof kept);
         need(bufpool_checksum(page, lengths[k], 0, answer, BUFPOOL_ANSWER_WORDS) == BUFPOOL_SIZES, "1 is not given at length", lengths[k]);
+        need(memcmp(answer, zeroed, sizeof zeroed) == 0, "a refused checksum's answer is not zeros, at length", lengths[k]);
+    }
+    memcpy(answer, kept, sizeof kept);
     for (size_t k = 0; k < sizeof answers / sizeof *answers; k++)
         need(bufpool_checksum(page, PAGE, 0, answer, answers[k]) == BUFPOOL_SIZES, "1 is not given at an answer of", answers[k]);
-    need(memcmp(answer, kept, sizeof kept) == 0, "a refused checksum writes to its answer", answer[0]);
+    need(memcmp(answer, kept, sizeof kept) == 0, "a checksum writes to an answer of another length", answer[0]);
 }
 
 static void export(void)

@@ -33,9 +33,9 @@ OTHERS = {
 DEFINITIONS = {
     'Interface.antt': ['interface = 2'],
     'Checksum.antt': [
-        'summable page answer = eqb (length answer) answerWords && permitted (length page)',
-        'sumResult page answer = cond (summable page answer) 0 1',
-        'sumAnswer page block answer = cond (summable page answer) (one (checksum block page)) answer',
+        'sumResult page answer = cond (eqb (length answer) answerWords && permitted (length page)) 0 1',
+        'sumWords page block = cond (permitted (length page)) (one (checksum block page)) zeros',
+        'sumAnswer page block answer = cond (eqb (length answer) answerWords) (sumWords page block) answer',
     ],
 }
 

@@ -19,6 +19,7 @@ pub extern "C" fn bufpool_checksum(page: &[u8], block: u32, answer: &mut [u64]) 
         return SIZES;
     }
     if !size_ok(page.len()) {
+        put_words(answer, 0, 0, 0, 0);
         return SIZES;
     }
     let sum = page_checksum(page, BlockNumber(block));

@@ -2,16 +2,15 @@
 use Prim.Native.Nat.{ℕ, _+_, _-_, _^_, _≤_, _<_}
 use mathlib.Core.Path.{_≡_, refl, sym, ap, _∙_, subst}
 use mathlib.Core.Bool.{_||_}
-use mathlib.Core.List.{List, _++_}
+use mathlib.Core.List.{List}
 use native.Mathlib.Omega.{arith}
-use lib.ListN.{length, take, drop, set, length-take}
-use lib.Seq.{take-add, drop-at, drop-append-le, drop-drop}
+use lib.ListN.{length, set}
 use Rattle.laws.specs.First.{Found, found}
 use Rattle.laws.specs.Block.{putBlock}
 use Rattle.laws.proofs.Tests.{never}
 use Rattle.laws.proofs.Block.{length-block, length-putBlock, block-put-same, block-put-other}
 use Rattle.bufmodel.specs.Word.{pinned, makeDirty}
-use Rattle.bufmodel.specs.Position.{position, positionBytes, paste, written}
+use Rattle.bufmodel.specs.Position.{position, written}
 use Rattle.bufmodel.specs.Checksum.{bare}
 use Rattle.bufmodel.specs.Memory.{Memory, buffers, size, wordOf, pageOf, withStates, withPool}
 use Rattle.bufmodel.specs.Calls.{writeTo}

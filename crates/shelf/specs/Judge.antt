@@ -1,7 +1,7 @@
 -- The statement of demand 3 as a test: of a pool, a set up and a list of calls, the first clause that fails. One test for each clause,
 -- which passes where the clause holds.
 use Prim.Native.Nat.{ℕ, zero, suc, _+_}
-use mathlib.Core.Bool.{Bool, true, false, not, _&&_, cond, Bool·beq}
+use mathlib.Core.Bool.{Bool, true, not, _&&_, cond, Bool·beq}
 use mathlib.Core.List.{List, [], _∷_}
 use lib.ListN.{length, getD, take, drop}
 use lib.Dec.{eqb, leb, ltb}
@@ -193,7 +193,7 @@ module _ (m : Memory) (l : Ledger) (c : Call) (o : Outcome) (l′ : Ledger) wher
       (λ g. sameList (bare (start (size (o .after)) i (o .after .pool))) (bare (take some (l′ .shelf .bytes g)))) in
       cond (eqb (wordOf (o .after) i) 0) true same)
 
-  -- of the blocks that it puts there
+  -- of the blocks that it puts there, those of pages held before it
   unfoldable pub sumsTest : Bool
   sumsTest =
       all (buffers m)

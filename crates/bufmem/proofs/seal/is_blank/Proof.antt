@@ -2,7 +2,7 @@ use borrow.Author.Needs.{needs}
 use borrow.Author.Tests.{not-true}
 use denote.Ref.{now}
 use lib.Seq.{length-take-le}
-use mathlib.Core.Path.{_≡_, sym, _∙_}
+use mathlib.Core.Path.{sym, _∙_}
 use Rattle.bufmodel.proofs.ChecksumLaws.{zero-not}
 use Rattle.bufmem.proofs.seal.is_blank.Statement.{statement}
 use Rattle.bufmem.proofs.seal.is_blank.Tie as tie
