@@ -62,8 +62,9 @@ bool plain_passes(const uint8_t *page, size_t size, uint32_t block)
 uint32_t plain_checksum(const uint8_t *page, uint64_t page_len, uint32_t block, uint64_t *answer, uint64_t answer_len)
 {
     bool is_size = page_len >= BUFPOOL_MIN_PAGE && page_len <= BUFPOOL_MAX_PAGE && (page_len & (page_len - 1)) == 0;
-    if (!is_size || answer_len != BUFPOOL_ANSWER_WORDS) return BUFPOOL_SIZES;
+    if (answer_len != BUFPOOL_ANSWER_WORDS) return BUFPOOL_SIZES;
     memset(answer, 0, BUFPOOL_ANSWER_WORDS * sizeof *answer);
+    if (!is_size) return BUFPOOL_SIZES;
     answer[0] = page_sum(page, page_len, block);
     return BUFPOOL_DONE;
 }

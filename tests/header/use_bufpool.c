@@ -125,10 +125,12 @@ static int checksums(void)
     for (k = 0; k < sizeof page; k++) page[k] = (uint8_t)((13 * k + 1) % 251);
     SEE(checksum(page, BUFPOOL_BLOCK_NONE) == 24463);
     SEE(bufpool_checksum(page, 32768, 0, answer, BUFPOOL_ANSWER_WORDS) == BUFPOOL_DONE && answer[0] == 50611);
-    SEE(bufpool_checksum(page, 512, 0, answer, BUFPOOL_ANSWER_WORDS) == BUFPOOL_SIZES && answer[0] == 50611);
-    SEE(bufpool_checksum(page, 1025, 0, answer, BUFPOOL_ANSWER_WORDS) == BUFPOOL_SIZES && answer[0] == 50611);
-    SEE(bufpool_checksum(page, 65536, 0, answer, BUFPOOL_ANSWER_WORDS) == BUFPOOL_SIZES && answer[0] == 50611);
     SEE(bufpool_checksum(page, 1024, 0, answer, BUFPOOL_ANSWER_WORDS - 1) == BUFPOOL_SIZES && answer[0] == 50611);
+    SEE(bufpool_checksum(page, 512, 0, answer, BUFPOOL_ANSWER_WORDS) == BUFPOOL_SIZES && answer[0] == 0);
+    answer[0] = 9;
+    SEE(bufpool_checksum(page, 1025, 0, answer, BUFPOOL_ANSWER_WORDS) == BUFPOOL_SIZES && answer[0] == 0);
+    answer[0] = 9;
+    SEE(bufpool_checksum(page, 65536, 0, answer, BUFPOOL_ANSWER_WORDS) == BUFPOOL_SIZES && answer[0] == 0);
     return 0;
 }
 
