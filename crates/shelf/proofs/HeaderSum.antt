@@ -100,7 +100,7 @@ pub header-sum : (b : ℕ) (page : List ℕ) → checksum b page ≡ headerSum b
 unfolding headerSum checksum
 header-sum b page = ap (λ (x : ℕ). bitXor x b % 65535 + 1) (sym (xor-all (wordsIn (bare page))))
 
--- ---- its values for pages of more than 2,048 bytes, whose sums one by one are too long a way
+-- ---- its values for pages of more than 2,048 bytes: sum by sum the work grows with the square of the size
 header-values :
     (headerSum 0 (ramp 4096 0 7 3) ≡ 3770)
     × (headerSum 0 (ramp 8192 0 7 3) ≡ 19518)
