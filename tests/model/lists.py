@@ -193,7 +193,7 @@ def after_set_up(seed):
 def from_sound(seed):
     """A sound memory as some earlier calls left it, with other bytes in its pages and pin counts near the greatest, and calls.
 
-    A page may be held there whose block does not pass.
+    Pages of zeros may be dirty there, and a page may be held whose block does not pass.
     """
     r = random.Random(10_000 + seed)
     made, size, position = start(r)
