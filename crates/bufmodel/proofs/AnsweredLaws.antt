@@ -103,9 +103,9 @@ module _ (k : ℕ) (m : Memory) (o : Outcome) where
   pinned-is a = by-case (PinnedIs m) k [] m o a (λ j. no refl refl)
 
 -- ---- set up
-pub set-up-answers : (p at : ℕ) (m : Memory) → AcceptedIs [] m (setUp m p at)
+pub set-up-answers : (p at cap : ℕ) (m : Memory) → AcceptedIs [] m (setUp m p at cap)
 unfolding setUp acceptedNumber acceptedWords acceptedAt
-set-up-answers p at m = accepted-is _ m _ (yes refl refl)
+set-up-answers p at cap m = accepted-is _ m _ (yes refl refl)
 
 -- ---- calls on a buffer
 module _ (i : ℕ) where

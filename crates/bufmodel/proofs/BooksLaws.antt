@@ -12,7 +12,7 @@ use Rattle.buftag.specs.Link.{linkOf, linkAt, Holds}
 use Rattle.buftag.proofs.NameLaws.{says-same-name}
 use Rattle.buftag.proofs.LinkLaws.{holds-says}
 use Rattle.buftag.proofs.TestLaws.{chains-say}
-use Rattle.bufmodel.specs.Word.{dirty}
+use Rattle.bufmodel.specs.Word.{dirty, soundCap}
 use Rattle.bufmodel.specs.Rows.{placeOf}
 use Rattle.bufmodel.specs.Memory.{Memory, buffers, wordOf, nameOf}
 use Rattle.bufmodel.specs.Books.{isFound, isOff, emptyAt, sound, BooksSound}
@@ -52,12 +52,13 @@ module _ (m : Memory) where
   names-say = says-all (buffers m) _ _ (λ i l. says-else (emptyAt m i) (says-found (placeOf (m .rows) (nameOf m i))))
 
   pub books-say : Says (sound m) (BooksSound m)
-  unfolding sound soundWords soundPages
+  unfolding sound soundCap soundWords soundPages
   books-say =
       says-as
       (λ s.
       record {
-        hand = s .0 .0 .0 .0 .0 .0 .0;
+        cap = s .0 .0 .0 .0 .0 .0 .0 .0;
+        hand = s .0 .0 .0 .0 .0 .0 .0 .1;
         log = s .0 .0 .0 .0 .0 .0 .1;
         words = s .0 .0 .0 .0 .0 .1;
         blank = s .0 .0 .0 .0 .1;
@@ -69,12 +70,14 @@ module _ (m : Memory) where
         low = s .1;
       })
       (λ k.
-      (((((((k .hand, k .log), k .words), k .blank), (k .free, k .off)), k .page), (k .chains, k .distinct)), k .low))
+      ((((((((k .cap, k .hand), k .log), k .words), k .blank), (k .free, k .off)), k .page), (k .chains, k .distinct)), k .low))
       (says-and
       (says-and
       (says-and
       (says-and
       (says-and
-      (says-and (says-and (says-lt _ _) (says-le _ _)) (says-all (buffers m) _ _ (λ i l. says-it _))) blanks-say) free-says) names-say)
+      (says-and
+      (says-and (says-and (says-and (says-le _ _) (says-le _ _)) (says-lt _ _)) (says-le _ _))
+      (says-all (buffers m) _ _ (λ i l. says-it _))) blanks-say) free-says) names-say)
       (chains-say (m .states) (m .names) (m .heads) (m .chain)))
       (says-all (buffers m) _ _ (λ i l. says-if (dirty (wordOf m i)) (says-le _ _))))

@@ -57,6 +57,7 @@ onto m d =
             top = d .control .top;
             inserted = m .control .inserted;
             flushed = m .control .flushed;
+            cap = m .control .cap;
           };
       states = d .states;
       names = d .names;

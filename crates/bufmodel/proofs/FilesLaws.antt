@@ -38,6 +38,7 @@ module _ (m : Memory) (k : Good m) where
           store = e;
         };
         books = record {
+          cap = b .cap;
           hand = b .hand;
           log = b .log;
           words = b .words;

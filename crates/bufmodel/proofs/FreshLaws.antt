@@ -17,6 +17,7 @@ use Rattle.buftag.specs.Link.{none, linkOf, linkAt, Links, done, step, Holds}
 use Rattle.buftag.specs.Lookup.{used}
 use Rattle.buftag.specs.Chain.{ChainsSound}
 use Rattle.buftag.proofs.LinkLaws.{links-once}
+use Rattle.bufmodel.specs.Word.{maxCap}
 use Rattle.bufmodel.specs.Memory.{Memory, buffers, wordOf, nameOf}
 use Rattle.bufmodel.specs.Sizes.{SizedFor}
 use Rattle.bufmodel.specs.Books.{emptyAt, BooksSound}
@@ -73,31 +74,31 @@ fresh-free zero h = absurd (omega arith)
 fresh-free (suc n) h = free-from (suc n) n 0 (omega arith)
 
 -- ---- the memory
-module _ (m : Memory) (p at : ℕ) where
+module _ (m : Memory) (p at cap : ℕ) where
   -- as many buffers as before
-  pub fresh-many : buffers (fresh m p at) ≡ buffers m
+  pub fresh-many : buffers (fresh m p at cap) ≡ buffers m
   unfolding fresh
   fresh-many = length-replicate (buffers m) 0
 
   -- all words are 0
-  pub fresh-word : (i : ℕ) → wordOf (fresh m p at) i ≡ 0
+  pub fresh-word : (i : ℕ) → wordOf (fresh m p at cap) i ≡ 0
   unfolding fresh
   fresh-word i = getD-replicate-all (buffers m) i 0
 
-  pub fresh-empty : (i : ℕ) → emptyAt (fresh m p at) i ≡ true
+  pub fresh-empty : (i : ℕ) → emptyAt (fresh m p at cap) i ≡ true
   unfolding emptyAt
   fresh-empty i = rw (fresh-word i) zero-empty
 
-  fresh-idle : (i : ℕ) → used (fresh m p at .states) i ≡ false
+  fresh-idle : (i : ℕ) → used (fresh m p at cap .states) i ≡ false
   fresh-idle i = rw (fresh-word i)
 
   -- all names are zeros
-  pub fresh-name : (i : ℕ) → nameOf (fresh m p at) i ≡ noName
+  pub fresh-name : (i : ℕ) → nameOf (fresh m p at cap) i ≡ noName
   unfolding fresh
   fresh-name i = simp getD-replicate-all
 
   -- every part is as long as before, or as the buffers are many
-  fresh-sized : SizedFor p m → SizedFor p (fresh m p at)
+  fresh-sized : SizedFor p m → SizedFor p (fresh m p at cap)
   unfolding fresh
   fresh-sized s =
       let n = length-replicate {A = ℕ} (buffers m) 0 in
@@ -117,7 +118,7 @@ module _ (m : Memory) (p at : ℕ) where
       }
 
   -- the free list holds all buffers
-  fresh-holds : 1 ≤ buffers m → Holds (freeLinks 0 (buffers m)) (To 0) (emptyAt (fresh m p at))
+  fresh-holds : 1 ≤ buffers m → Holds (freeLinks 0 (buffers m)) (To 0) (emptyAt (fresh m p at cap))
   fresh-holds l =
       let r = fresh-free (buffers m) l in
       record {
@@ -129,7 +130,7 @@ module _ (m : Memory) (p at : ℕ) where
       }
 
   -- all chains are empty
-  fresh-chains : ChainsSound (fresh m p at .states) (fresh m p at .names) (fresh m p at .heads) (fresh m p at .chain)
+  fresh-chains : ChainsSound (fresh m p at cap .states) (fresh m p at cap .names) (fresh m p at cap .heads) (fresh m p at cap .chain)
   unfolding fresh times
   fresh-chains =
       let b = length-replicate (length (m .heads)) none in
@@ -141,13 +142,14 @@ module _ (m : Memory) (p at : ℕ) where
         idle = λ i h e. ap linkOf (getD-replicate (length (m .chain)) i none (pos 0) (omega arith));
       }
 
-  fresh-books : 1 ≤ buffers m → BooksSound (fresh m p at)
+  fresh-books : 1 ≤ buffers m → (1 ≤ cap) × (cap ≤ maxCap) → BooksSound (fresh m p at cap)
   unfolding fresh
-  fresh-books l =
+  fresh-books l c =
       record {
+        cap = c;
         hand = omega (arith, fresh-many);
         log = omega arith;
-        words = λ i h. rw (fresh-word i) zero-sound;
+        words = λ i h. rw (fresh-word i) (zero-sound cap);
         blank = λ i h e. fresh-name i;
         free = fresh-holds l;
         off = λ i h e. never (fresh-empty i) e;
@@ -157,6 +159,6 @@ module _ (m : Memory) (p at : ℕ) where
         low = λ i h e. never e (rw (fresh-word i) zero-clean);
       }
 
-pub fresh-good : (m : Memory) (p at : ℕ) → SizedFor p m → Good (fresh m p at)
+pub fresh-good : (m : Memory) (p at cap : ℕ) → SizedFor p m → (1 ≤ cap) × (cap ≤ maxCap) → Good (fresh m p at cap)
 unfolding fresh
-fresh-good m p at s = record { sizes = fresh-sized m p at s; books = fresh-books m p at (s .least) }
+fresh-good m p at cap s c = record { sizes = fresh-sized m p at cap s; books = fresh-books m p at cap (s .least) c }

@@ -36,7 +36,7 @@ word-of-top w = ⊎-elim (λ e. rw e (sym (eqb-true w oneBits e))) (λ e. rw e) 
 pub words-of-control : (ws : List ℕ) → length ws ≡ controlWords → wordsOf (controlOf ws) ≡ ws
 unfolding wordsOf controlOf
 words-of-control ws h =
-    rw (word-of-top (getD ws 2 0)) (sym (take-listed 5 ws 0 (omega arith)) ∙ take-all 5 ws (omega arith))
+    rw (word-of-top (getD ws 2 0)) (sym (take-listed 6 ws 0 (omega arith)) ∙ take-all 6 ws (omega arith))
 
 pub control-of-words : (c : Control) → TopFits (c .top) → controlOf (wordsOf c) ≡ c
 unfolding controlOf wordsOf

@@ -66,8 +66,8 @@ module _ {w v : ℕ} (less : LessUsed w v) where
   less-dirty = dirty-flags v ∙ ap (λ (x : ℕ). eqb (x / 2 % 2) 1) (less .same-flags) ∙ sym (dirty-flags w)
 
   -- a buffer in use stays in use, and an empty one empty
-  pub less-held : Held w → Held v
-  less-held k = held-by v (omega (arith, k .few)) (rw (less .same-flags) (k .flag))
+  pub less-held : {cap : ℕ} → Held cap w → Held cap v
+  less-held {cap} k = held-by cap v (omega (arith, k .few)) (rw (less .same-flags) (k .flag))
 
   less-zero : w ≡ 0 → empty v ≡ true
   unfolding pins usage flags
@@ -75,16 +75,16 @@ module _ {w v : ℕ} (less : LessUsed w v) where
       fields-zero v (omega arith) (omega arith) (omega arith)
 
   -- of words that are 0 or in use
-  pub less-empty : (empty w ≡ false → Held w) → empty v ≡ empty w
+  pub less-empty : {cap : ℕ} → (empty w ≡ false → Held cap w) → empty v ≡ empty w
   less-empty held =
       ⊎-elim
       (λ e. less-zero (empty-zero w e) ∙ sym e)
       (λ f. less-held (held f) .full ∙ sym f)
       (true-or-false (empty w))
 
-  pub less-sound : (empty w ≡ false → Held w) → soundWord v ≡ true
-  less-sound held =
+  pub less-sound : {cap : ℕ} → (empty w ≡ false → Held cap w) → soundWord cap v ≡ true
+  less-sound {cap} held =
       ⊎-elim
-      (λ e. ap soundWord (empty-zero v (less-zero (empty-zero w e))) ∙ zero-sound)
+      (λ e. ap (soundWord cap) (empty-zero v (less-zero (empty-zero w e))) ∙ zero-sound cap)
       (λ f. let k = less-held (held f) in held-sound (held-lt k) k .0)
       (true-or-false (empty w))

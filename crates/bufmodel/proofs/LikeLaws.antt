@@ -16,7 +16,7 @@ use Rattle.buftag.proofs.LinkLaws.{holds-like}
 use Rattle.buftag.proofs.HoldsLaws.{used-out}
 use Rattle.bufmodel.specs.Word.{empty, dirty, soundWord}
 use Rattle.bufmodel.specs.Position.{position}
-use Rattle.bufmodel.specs.Memory.{Memory, buffers, size}
+use Rattle.bufmodel.specs.Memory.{Memory, buffers, size, capOf}
 use Rattle.bufmodel.specs.Sizes.{SizedFor}
 use Rattle.bufmodel.specs.Books.{emptyAt, BooksSound}
 use Rattle.bufmodel.proofs.GoodLaws.{Good}
@@ -25,7 +25,7 @@ use Rattle.bufmodel.proofs.GoodLaws.{Good}
 abbrev pub like : Memory → ℕ → ℕ → ℕ → List ℕ → List ℕ → List ℕ → Memory
 like m hand inserted flushed words pool store =
     record {
-      control = record { size = m .control .size; hand = hand; top = m .control .top; inserted = inserted; flushed = flushed };
+      control = let c = m .control in record { size = c .size; hand = hand; top = c .top; inserted = inserted; flushed = flushed; cap = c .cap };
       states = words;
       names = m .names;
       pool = pool;
@@ -81,7 +81,7 @@ module _ (m : Memory) (k : Good m) (hand inserted flushed : ℕ) (words pool sto
   -- the same buffers empty, sound words, and no dirty page above the inserted position
   like-books : hand < buffers m → flushed ≤ inserted → length words ≡ buffers m
       → ((i : ℕ) → i < buffers m → empty (getD words i 0) ≡ emptyAt m i)
-      → ((i : ℕ) → i < buffers m → soundWord (getD words i 0) ≡ true)
+      → ((i : ℕ) → i < buffers m → soundWord (capOf m) (getD words i 0) ≡ true)
       → ((i : ℕ) → i < buffers m → dirty (getD words i 0) ≡ true → position (block (size m) i pool) ≤ inserted)
       → BooksSound (like m hand inserted flushed words pool store)
   unfolding emptyAt
@@ -89,6 +89,7 @@ module _ (m : Memory) (k : Good m) (hand inserted flushed : ℕ) (words pool sto
       let b = k .books in
       let u = used-like (m .states) words e same in
       record {
+        cap = b .cap;
         hand = rw e h;
         log = l;
         words = λ i n. sounds i (rw e at n);
@@ -108,7 +109,7 @@ pub like-good : (m : Memory) → Good m → (hand inserted flushed : ℕ) (words
     → length pool ≡ length (m .pool)
     → length store ≡ length (m .store)
     → ((i : ℕ) → i < buffers m → empty (getD words i 0) ≡ emptyAt m i)
-    → ((i : ℕ) → i < buffers m → soundWord (getD words i 0) ≡ true)
+    → ((i : ℕ) → i < buffers m → soundWord (capOf m) (getD words i 0) ≡ true)
     → ((i : ℕ) → i < buffers m → dirty (getD words i 0) ≡ true → position (block (size m) i pool) ≤ inserted)
     → Good (like m hand inserted flushed words pool store)
 like-good m k hand inserted flushed words pool store h l e f g same sounds lows =

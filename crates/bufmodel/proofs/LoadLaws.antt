@@ -1,5 +1,5 @@
 -- Load: a page comes into the buffer on top of the free list. What it does, and that the books stay sound.
-use Prim.Native.Nat.{ℕ, _<_}
+use Prim.Native.Nat.{ℕ, _≤_, _<_}
 use mathlib.Core.Path.{_≡_, sym, ap, _∙_}
 use mathlib.Core.Bool.{true, false}
 use mathlib.Core.Logic.{_≢_, ⊎-elim}
@@ -22,12 +22,12 @@ use Rattle.buftag.proofs.NamesLaws.{length-setName, name-put, name-kept, name-i
 use Rattle.buftag.proofs.MoveLaws.{entered, distinct-entered}
 use Rattle.bufmodel.specs.Word.{empty, dirty, loaded, soundWord}
 use Rattle.bufmodel.specs.Rows.{placeOf, storeBlocks}
-use Rattle.bufmodel.specs.Memory.{Memory, buffers, size, wordOf, nameOf, pageOf}
+use Rattle.bufmodel.specs.Memory.{Memory, buffers, size, capOf, wordOf, nameOf, pageOf}
 use Rattle.bufmodel.specs.Sizes.{SizedFor}
 use Rattle.bufmodel.specs.Books.{emptyAt, BooksSound}
 use Rattle.bufmodel.specs.Moves.{off, loadAt, loadTop, load}
 use Rattle.bufmodel.specs.Pin.{heldIn}
-use Rattle.bufmodel.proofs.WordLaws.{loaded-fields, held-sound, held-lt}
+use Rattle.bufmodel.proofs.WordLaws.{loaded-fields, loaded-full, loaded-clean, held-sound, held-lt}
 use Rattle.bufmodel.proofs.RowsLaws.{place-in}
 use Rattle.bufmodel.proofs.GoodLaws.{Good}
 use Rattle.bufmodel.proofs.FreeListLaws.{holds-pop, top-empty, free-from}
@@ -63,7 +63,7 @@ module _ (m : Memory) (n : PageName) (i g : ℕ) where
 
   pub load-full : i < buffers m → emptyAt (loadAt m n i g) i ≡ false
   unfolding emptyAt
-  load-full l = ap empty (load-own l) ∙ loaded-fields .held .full
+  load-full l = ap empty (load-own l) ∙ loaded-full
 
   pub load-own-name : Good m → i < buffers m → nameOf (loadAt m n i g) i ≡ n
   unfolding loadAt
@@ -90,12 +90,12 @@ module _ (m : Memory) (n : PageName) (i g : ℕ) where
     load-pool = length-putBlock (size m) (buffers m) page (m .pool) (k .sizes .pool) whole i l
 
 -- ---- the sizes and the books afterwards
-loaded-sound : soundWord loaded ≡ true
-loaded-sound = held-sound (held-lt (loaded-fields .held)) (loaded-fields .held) .0
+loaded-sound : (cap : ℕ) → 1 ≤ cap → soundWord cap loaded ≡ true
+loaded-sound cap c = let f = loaded-fields c in held-sound (held-lt (f .held)) (f .held) .0
 
 loaded-some : loaded ≡ 0 → ⊥
 unfolding empty
-loaded-some = eqb-false loaded 0 (loaded-fields .held .full)
+loaded-some = eqb-false loaded 0 loaded-full
 
 module _ (m : Memory) (k : Good m) (n : PageName) (i g : ℕ) (l : i < buffers m) where
   -- only other buffers are empty, or dirty
@@ -103,7 +103,7 @@ module _ (m : Memory) (k : Good m) (n : PageName) (i g : ℕ) (l : i < buffers m
   load-empty j e q = never (rw q at e) (load-full m n i g l)
 
   load-dirty : (j : ℕ) → dirty (wordOf (loadAt m n i g) j) ≡ true → j ≢ i
-  load-dirty j d e = never (rw e at d) (ap dirty (load-own m n i g l) ∙ loaded-fields .dirty)
+  load-dirty j d e = never (rw e at d) (ap dirty (load-own m n i g l) ∙ loaded-clean)
 
   module _ (h : g < storeBlocks (m .rows)) where
     load-sizes : SizedFor (size (loadAt m n i g)) (loadAt m n i g)
@@ -136,10 +136,11 @@ module _ (m : Memory) (k : Good m) (n : PageName) (i g : ℕ) (l : i < buffers m
           let b = k .books in
           let s = load-buffers m n i g in
           record {
+            cap = b .cap;
             hand = rw s (b .hand);
             log = b .log;
             words = λ j q.
-                ⊎-elim (λ e. rw e (ap soundWord (load-own m n i g l) ∙ loaded-sound))
+                ⊎-elim (λ e. rw e (ap (soundWord (capOf m)) (load-own m n i g l) ∙ loaded-sound (capOf m) (b .cap .0)))
                 (λ ne. rw (load-word m n i g j ne) (b .words j (rw s at q)))
                 (eq-or-ne j i);
             blank = λ j q e.

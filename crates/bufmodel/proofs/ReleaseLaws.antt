@@ -15,7 +15,7 @@ use Rattle.buftag.proofs.NamesLaws.{length-setName, name-put, name-kept, name-i
 use Rattle.buftag.proofs.UnchainLaws.{length-unchain, length-unchain-heads}
 use Rattle.buftag.proofs.MoveLaws.{left, distinct-left}
 use Rattle.bufmodel.specs.Word.{empty, dirty, soundWord}
-use Rattle.bufmodel.specs.Memory.{Memory, buffers, size, wordOf, nameOf}
+use Rattle.bufmodel.specs.Memory.{Memory, buffers, size, capOf, wordOf, nameOf}
 use Rattle.bufmodel.specs.Sizes.{SizedFor}
 use Rattle.bufmodel.specs.Books.{emptyAt, BooksSound}
 use Rattle.bufmodel.specs.Moves.{release}
@@ -100,10 +100,11 @@ module _ (m : Memory) (k : Good m) (i : ℕ) (l : i < buffers m) where
         let b = k .books in
         let n = release-buffers m i in
         record {
+          cap = b .cap;
           hand = rw n (b .hand);
           log = b .log;
           words = λ j h.
-              ⊎-elim (λ e. rw e (ap soundWord (release-own m i l) ∙ zero-sound))
+              ⊎-elim (λ e. rw e (ap (soundWord (capOf m)) (release-own m i l) ∙ zero-sound (capOf m)))
               (λ ne. rw (release-word m i j ne) (b .words j (rw n at h)))
               (eq-or-ne j i);
           blank = λ j h e.

@@ -11,7 +11,7 @@ use lib.ListN.{length, getD, set, length-set}
 use lib.Seq.{getD-set-same, getD-set-other}
 use Rattle.laws.specs.First.{Found, found, missing}
 use Rattle.laws.proofs.Tests.{eq-or-ne, true-or-false, lt-or-le}
-use Rattle.bufmodel.specs.Word.{usage, pinned, maxUsage, useLess}
+use Rattle.bufmodel.specs.Word.{usage, pinned, useLess}
 use Rattle.bufmodel.specs.Sweep.{Swept, swept, next, Sweeps, passes, stops, lowers, takes, sweepAll}
 use Rattle.bufmodel.proofs.WordLaws.{pinned-same}
 use Rattle.bufmodel.proofs.LessUsedLaws.{less-pins, less-usage}
@@ -211,24 +211,24 @@ sweep-ends n run hand u words l h len few =
     (open-or-stuck n words (n - suc run) run hand (omega arith) h)
 
 -- ---- the sweep that the pool makes is as published, whatever is pinned
-pub sweepAll-relates : (words : List ℕ) (hand : ℕ) → hand < length words
-    → ((i : ℕ) → i < length words → usage (getD words i 0) ≤ maxUsage)
-    → Sweeps (length words) 0 hand words (sweepAll words hand) × (sweepAll words hand .probes ≤ (maxUsage + 1) * length words)
+pub sweepAll-relates : (cap : ℕ) (words : List ℕ) (hand : ℕ) → hand < length words
+    → ((i : ℕ) → i < length words → usage (getD words i 0) ≤ cap)
+    → Sweeps (length words) 0 hand words (sweepAll cap words hand) × (sweepAll cap words hand .probes ≤ (cap + 1) * length words)
 unfolding sweepAll
-sweepAll-relates words hand h few =
-    let r = sweep-ends (length words) 0 hand maxUsage words (omega arith) h refl few .1 in
-    rw (sweep-is ((maxUsage + 1) * length words) (r .sweeps) (r .within)) (r .sweeps, r .within)
+sweepAll-relates cap words hand h few =
+    let r = sweep-ends (length words) 0 hand cap words (omega arith) h refl few .1 in
+    rw (sweep-is ((cap + 1) * length words) (r .sweeps) (r .within)) (r .sweeps, r .within)
 
 -- a buffer is unpinned: it finds a victim
-pub sweep-finds : (words : List ℕ) (hand : ℕ) → hand < length words → (k : ℕ) → k < length words
-    → pinned (getD words k 0) ≡ false → ((i : ℕ) → i < length words → usage (getD words i 0) ≤ maxUsage)
-    → (v : ℕ) × (sweepAll words hand .victim ≡ found v) × (sweepAll words hand .probes ≤ (maxUsage + 1) * length words)
-    × Sweeps (length words) 0 hand words (sweepAll words hand)
-sweep-finds words hand h k l e few =
+pub sweep-finds : (cap : ℕ) (words : List ℕ) (hand : ℕ) → hand < length words → (k : ℕ) → k < length words
+    → pinned (getD words k 0) ≡ false → ((i : ℕ) → i < length words → usage (getD words i 0) ≤ cap)
+    → (v : ℕ) × (sweepAll cap words hand .victim ≡ found v) × (sweepAll cap words hand .probes ≤ (cap + 1) * length words)
+    × Sweeps (length words) 0 hand words (sweepAll cap words hand)
+sweep-finds cap words hand h k l e few =
     let n = length words in
     let a = ahead-some n hand k h l in
     let f = finds n k l _ (a .0) 0 hand words refl h (a .1) (omega (arith, a .2)) e refl in
-    let all = sweepAll-relates words hand h few in
+    let all = sweepAll-relates cap words hand h few in
     (f .0, ap (λ (s : Swept). s .victim) (sweeps-same (all .0) (f .1 .sweeps)) ∙ f .1 .is, all .1, all .0)
 
 -- ---- every buffer is pinned: none is found, and the hand comes back to where it was

@@ -5,14 +5,14 @@ use mathlib.Core.Bool.{Bool, true, false, not, _&&_, _||_, cond, Bool·beq}
 use mathlib.Core.Logic.{_⊎_, inl, inr, ⊎-elim}
 use native.Mathlib.Nat.{div-div-eq-div-mul}
 use native.Mathlib.Omega.{arith}
-use lib.Dec.{eqb}
-use borrow.Author.Tests.{eq-eqb, ne-eqb, eqb-true, eqb-false, not-true, not-false}
+use lib.Dec.{eqb, ltb}
+use borrow.Author.Tests.{eq-eqb, ne-eqb, eqb-true, eqb-false, ltb-true, not-true, not-false}
 use Rattle.laws.specs.Every.{all}
 use Rattle.laws.specs.Says.{Says}
 use Rattle.laws.proofs.Tests.{true-or-false, beq-true}
 use Rattle.laws.proofs.Every.{all-at}
 use Rattle.laws.proofs.Says.{says-eq, says-le, says-and, says-or, says-else, says-as}
-use Rattle.bufmodel.specs.Word.{maxUsage, maxPins, pins, usage, flags, pack, cleanFlags, dirtyFlags, pinned}
+use Rattle.bufmodel.specs.Word.{maxCap, maxPins, pins, usage, flags, pack, cleanFlags, dirtyFlags, pinned}
 use Rattle.bufmodel.specs.Word.{bit, dirty, valid, tagValid, justDirtied, permanent, noOther, empty, soundFlags, soundWord}
 use Rattle.bufmodel.specs.Word.{pinMore, pinLess, useLess, makeDirty, makeClean, loaded}
 
@@ -55,9 +55,9 @@ pub empty-zero : (w : ℕ) → empty w ≡ true → w ≡ 0
 unfolding empty
 empty-zero w e = eqb-true w 0 e
 
-pub zero-sound : soundWord 0 ≡ true
+pub zero-sound : (cap : ℕ) → soundWord cap 0 ≡ true
 unfolding soundWord empty
-zero-sound = refl
+zero-sound cap = refl
 
 pub zero-clean : dirty 0 ≡ false
 unfolding dirty bit
@@ -110,41 +110,41 @@ unfolding known
 sound-flags w h =
     sym (right-flags w) ∙ beq-true _ _ (all-at (λ f. Bool·beq (right f) (known f)) (2 ^ 10) flags-table (flags w) (flags-lt w h))
 
--- ---- the word of a buffer in use
-pub record Held (w : ℕ) : Type 0 where
+-- ---- the word of a buffer in use, its usage not above a cap
+pub record Held (cap w : ℕ) : Type 0 where
   pub full : empty w ≡ false
-  pub few : usage w ≤ maxUsage
+  pub few : usage w ≤ cap
   pub flag : (flags w ≡ cleanFlags) ⊎ (flags w ≡ dirtyFlags)
 
 -- it is not 0, since its flags are not
-pub held-by : (w : ℕ) → usage w ≤ maxUsage → (flags w ≡ cleanFlags) ⊎ (flags w ≡ dirtyFlags) → Held w
+pub held-by : (cap w : ℕ) → usage w ≤ cap → (flags w ≡ cleanFlags) ⊎ (flags w ≡ dirtyFlags) → Held cap w
 unfolding empty flags
-held-by w few flag =
+held-by cap w few flag =
     record { full = ne-eqb w 0 (λ e. ⊎-elim (λ f. omega arith) (λ f. omega arith) flag); few = few; flag = flag }
 
 -- the test of a word decides that it is 0 or so
-word-says : (w : ℕ) → w < 2 ^ 32 → Says (soundWord w) (empty w ≡ false → Held w)
+word-says : (cap w : ℕ) → w < 2 ^ 32 → Says (soundWord cap w) (empty w ≡ false → Held cap w)
 unfolding soundWord
-word-says w h =
+word-says cap w h =
     says-else (empty w)
-    (says-as (λ s. held-by w (s .0) (s .1)) (λ k. (k .few, k .flag))
-    (says-and (says-le (usage w) maxUsage) (rw (sound-flags w h) (says-or (says-eq (flags w) cleanFlags) (says-eq (flags w) dirtyFlags)))))
+    (says-as (λ s. held-by cap w (s .0) (s .1)) (λ k. (k .few, k .flag))
+    (says-and (says-le (usage w) cap) (rw (sound-flags w h) (says-or (says-eq (flags w) cleanFlags) (says-eq (flags w) dirtyFlags)))))
 
 -- a sound word other than 0 is so, and back
-pub sound-held : {w : ℕ} → w < 2 ^ 32 → soundWord w ≡ true → empty w ≡ false → Held w
-sound-held {w} h sound full = word-says w h .holds sound full
+pub sound-held : {cap w : ℕ} → w < 2 ^ 32 → soundWord cap w ≡ true → empty w ≡ false → Held cap w
+sound-held {cap} {w} h sound full = word-says cap w h .holds sound full
 
-pub held-sound : {w : ℕ} → w < 2 ^ 32 → Held w → (soundWord w ≡ true) × (empty w ≡ false)
-held-sound {w} h k = (word-says w h .shown (λ e. k), k .full)
+pub held-sound : {cap w : ℕ} → w < 2 ^ 32 → Held cap w → (soundWord cap w ≡ true) × (empty w ≡ false)
+held-sound {cap} {w} h k = (word-says cap w h .shown (λ e. k), k .full)
 
-pub held-lt : {w : ℕ} → Held w → w < 2 ^ 32
+pub held-lt : {cap w : ℕ} → Held cap w → w < 2 ^ 32
 unfolding flags
 held-lt k = ⊎-elim (λ f. omega arith) (λ f. omega arith) (k .flag)
 
 -- a page is dirty by its flags as a number
-pub dirty-is : {w : ℕ} → Held w → dirty w ≡ eqb (flags w) dirtyFlags
+pub dirty-is : {cap w : ℕ} → Held cap w → dirty w ≡ eqb (flags w) dirtyFlags
 unfolding dirty bit flags
-dirty-is {w} k =
+dirty-is {cap} {w} k =
     ⊎-elim
     (λ f. rw f (ne-eqb (w / 2 ^ 23 % 2) 1 (omega arith)))
     (λ f. rw f (eq-eqb (w / 2 ^ 23 % 2) 1 (omega arith)))
@@ -152,53 +152,63 @@ dirty-is {w} k =
 
 -- ---- the changes
 -- the word of a buffer in use, with these pins, usage and flags, dirty or not
-pub record Fields (w p u f : ℕ) (d : Bool) : Type 0 where
-  pub held : Held w
+pub record Fields (cap w p u f : ℕ) (d : Bool) : Type 0 where
+  pub held : Held cap w
   pub pins : pins w ≡ p
   pub usage : usage w ≡ u
   pub flags : flags w ≡ f
   pub dirty : dirty w ≡ d
 
 -- a packed word has the fields that it was packed of
-packed : (p u f : ℕ) → p < 2 ^ 18 → u ≤ maxUsage → (f ≡ cleanFlags) ⊎ (f ≡ dirtyFlags)
-    → Fields (pack p u f) p u f (eqb f dirtyFlags)
-packed p u f hp hu hf =
-    let fs = flags-pack p u f hp (omega arith) in
-    let us = usage-pack p u f hp (omega arith) in
-    let k : Held (pack p u f) = held-by (pack p u f) (rw us hu) (rw fs hf) in
-    record { held = k; pins = pins-pack p u f hp (omega arith); usage = us; flags = fs; dirty = dirty-is k ∙ rw fs refl }
+packed : (cap p u f : ℕ) → p < 2 ^ 18 → u < 2 ^ 4 → u ≤ cap → (f ≡ cleanFlags) ⊎ (f ≡ dirtyFlags)
+    → Fields cap (pack p u f) p u f (eqb f dirtyFlags)
+packed cap p u f hp hu few hf =
+    let fs = flags-pack p u f hp hu in
+    let us = usage-pack p u f hp hu in
+    let k : Held cap (pack p u f) = held-by cap (pack p u f) (rw us few) (rw fs hf) in
+    record { held = k; pins = pins-pack p u f hp hu; usage = us; flags = fs; dirty = dirty-is k ∙ rw fs refl }
 
--- one use more, up to the greatest count
-few-more : (u : ℕ) → u ≤ maxUsage → cond (eqb u maxUsage) u (u + 1) ≤ maxUsage
-few-more u h =
-    ⊎-elim (λ e. rw e h) (λ e. let ne = eqb-false u maxUsage e in rw e (omega arith)) (true-or-false (eqb u maxUsage))
+-- one use more, up to the cap
+few-more : (cap u : ℕ) → u ≤ cap → cond (ltb u cap) (u + 1) u ≤ cap
+few-more cap u h =
+    ⊎-elim (λ e. let lt = ltb-true u cap e in rw e (omega arith)) (λ e. rw e h) (true-or-false (ltb u cap))
 
-module _ {w : ℕ} (k : Held w) where
+module _ {cap w : ℕ} (k : Held cap w) where
   -- other counts, the same flags
-  counted : (p u : ℕ) → p < 2 ^ 18 → u ≤ maxUsage → Fields (pack p u (flags w)) p u (flags w) (dirty w)
-  counted p u hp hu = rw (dirty-is k) (packed p u (flags w) hp hu (k .flag))
+  counted : (p u : ℕ) → p < 2 ^ 18 → u < 2 ^ 4 → u ≤ cap → Fields cap (pack p u (flags w)) p u (flags w) (dirty w)
+  counted p u hp hu few = rw (dirty-is k) (packed cap p u (flags w) hp hu few (k .flag))
 
-  pub pin-more : pins w < maxPins
-      → Fields (pinMore w) (pins w + 1) (cond (eqb (usage w) maxUsage) (usage w) (usage w + 1)) (flags w) (dirty w)
+  -- a cap that four bits hold: no use more is carried into the flags
+  pub pin-more : cap ≤ maxCap → pins w < maxPins
+      → Fields cap (pinMore cap w) (pins w + 1) (cond (ltb (usage w) cap) (usage w + 1) (usage w)) (flags w) (dirty w)
   unfolding pinMore
-  pin-more h = counted (pins w + 1) _ (omega arith) (few-more (usage w) (k .few))
+  pin-more c h =
+      let few = few-more cap (usage w) (k .few) in
+      counted (pins w + 1) _ (omega arith) (omega arith) few
 
-  pub pin-less : Fields (pinLess w) (pins w - 1) (usage w) (flags w) (dirty w)
+  pub pin-less : Fields cap (pinLess w) (pins w - 1) (usage w) (flags w) (dirty w)
   unfolding pinLess
-  pin-less = counted (pins w - 1) (usage w) (omega (arith, pins-lt w)) (k .few)
+  pin-less = counted (pins w - 1) (usage w) (omega (arith, pins-lt w)) (usage-lt w) (k .few)
 
-  pub use-less : Fields (useLess w) (pins w) (usage w - 1) (flags w) (dirty w)
+  pub use-less : Fields cap (useLess w) (pins w) (usage w - 1) (flags w) (dirty w)
   unfolding useLess
-  use-less = counted (pins w) (usage w - 1) (pins-lt w) (omega (arith, k .few))
+  use-less = counted (pins w) (usage w - 1) (pins-lt w) (omega (arith, usage-lt w)) (omega (arith, k .few))
 
-  pub make-dirty : Fields (makeDirty w) (pins w) (usage w) dirtyFlags true
+  pub make-dirty : Fields cap (makeDirty w) (pins w) (usage w) dirtyFlags true
   unfolding makeDirty
-  make-dirty = packed (pins w) (usage w) dirtyFlags (pins-lt w) (k .few) (inr refl)
+  make-dirty = packed cap (pins w) (usage w) dirtyFlags (pins-lt w) (usage-lt w) (k .few) (inr refl)
 
-  pub make-clean : Fields (makeClean w) (pins w) (usage w) cleanFlags false
+  pub make-clean : Fields cap (makeClean w) (pins w) (usage w) cleanFlags false
   unfolding makeClean
-  make-clean = packed (pins w) (usage w) cleanFlags (pins-lt w) (k .few) (inl refl)
+  make-clean = packed cap (pins w) (usage w) cleanFlags (pins-lt w) (usage-lt w) (k .few) (inl refl)
 
-pub loaded-fields : Fields loaded 1 1 cleanFlags false
+-- every cap allows the usage of a page just loaded
+pub loaded-fields : {cap : ℕ} → 1 ≤ cap → Fields cap loaded 1 1 cleanFlags false
 unfolding loaded
-loaded-fields = packed 1 1 cleanFlags (omega arith) (omega arith) (inl refl)
+loaded-fields {cap} c = packed cap 1 1 cleanFlags (omega arith) (omega arith) c (inl refl)
+
+pub loaded-full : empty loaded ≡ false
+loaded-full = loaded-fields {cap = 1} (omega arith) .held .full
+
+pub loaded-clean : dirty loaded ≡ false
+loaded-clean = loaded-fields {cap = 1} (omega arith) .dirty

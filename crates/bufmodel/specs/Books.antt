@@ -11,10 +11,10 @@ use Rattle.buftag.specs.Name.{sameName}
 use Rattle.buftag.specs.Names.{noName}
 use Rattle.buftag.specs.Link.{linkOf, linkAt, Holds, holdsTest}
 use Rattle.buftag.specs.Chain.{ChainsSound, Distinct, chainsTest}
-use Rattle.bufmodel.specs.Word.{empty, dirty, soundWord}
+use Rattle.bufmodel.specs.Word.{empty, dirty, maxCap, soundCap, soundWord}
 use Rattle.bufmodel.specs.Position.{position}
 use Rattle.bufmodel.specs.Rows.{placeOf}
-use Rattle.bufmodel.specs.Memory.{Memory, buffers, wordOf, nameOf, pageOf}
+use Rattle.bufmodel.specs.Memory.{Memory, buffers, capOf, wordOf, nameOf, pageOf}
 
 abbrev pub isFound : Found → Bool
 isFound (found i) = true
@@ -33,7 +33,7 @@ module _ (m : Memory) where
 
   -- ---- the rules, each as a test
   unfoldable pub soundWords : Bool
-  soundWords = all (buffers m) (λ i. soundWord (wordOf m i))
+  soundWords = all (buffers m) (λ i. soundWord (capOf m) (wordOf m i))
 
   -- an empty buffer has a name of zeros
   unfoldable pub soundBlanks : Bool
@@ -54,16 +54,20 @@ module _ (m : Memory) where
 
   unfoldable pub sound : Bool
   sound =
-      ltb (m .control .hand) (buffers m) && leb (m .control .flushed) (m .control .inserted) && soundWords && soundBlanks && soundFree
+      soundCap (capOf m) && ltb (m .control .hand) (buffers m) && leb (m .control .flushed) (m .control .inserted) && soundWords
+      && soundBlanks
+      && soundFree
       && soundNames
       && chainsTest (m .states) (m .names) (m .heads) (m .chain)
       && soundPages
 
 -- ---- the same as a statement
 pub record BooksSound (m : Memory) : Type 0 where
+  -- the greatest usage count
+  pub cap : (1 ≤ capOf m) × (capOf m ≤ maxCap)
   pub hand : m .control .hand < buffers m
   pub log : m .control .flushed ≤ m .control .inserted
-  pub words : (i : ℕ) → i < buffers m → soundWord (wordOf m i) ≡ true
+  pub words : (i : ℕ) → i < buffers m → soundWord (capOf m) (wordOf m i) ≡ true
   -- empty buffers have names of zeros, are each once in the free list, which holds no other; all others have free link −2
   pub blank : (i : ℕ) → i < buffers m → emptyAt m i ≡ true → nameOf m i ≡ noName
   pub free : Holds (m .free) (linkOf (m .control .top)) (emptyAt m)

@@ -15,7 +15,7 @@ use Rattle.buftag.specs.declared.name.FileName.{FileName}
 use Rattle.buftag.specs.declared.name.PageName.{PageName}
 use Rattle.buftag.specs.Names.{nameWords}
 use Rattle.buftag.specs.Link.{none}
-use Rattle.bufmodel.specs.Word.{pinned, dirty, pinLess, makeDirty}
+use Rattle.bufmodel.specs.Word.{soundCap, pinned, dirty, pinLess, makeDirty}
 use Rattle.bufmodel.specs.Position.{position, written}
 use Rattle.bufmodel.specs.Rows.{blocksAt, capacityAt, setBlocks, rowOf, startOf, placeOf}
 use Rattle.bufmodel.specs.Memory.{
@@ -43,10 +43,10 @@ freeLinks i zero = []
 freeLinks i (suc zero) = none ∷ []
 freeLinks i (suc (suc n)) = pos (suc i) ∷ freeLinks (suc i) (suc n)
 
-unfoldable pub fresh : Memory → ℕ → ℕ → Memory
-fresh m p at =
+unfoldable pub fresh : Memory → ℕ → ℕ → ℕ → Memory
+fresh m p at cap =
     record {
-      control = record { size = p; hand = 0; top = pos 0; inserted = at; flushed = at };
+      control = record { size = p; hand = 0; top = pos 0; inserted = at; flushed = at; cap = cap };
       states = replicate (buffers m) 0;
       names = replicate (nameWords * buffers m) 0;
       pool = m .pool;
@@ -57,8 +57,9 @@ fresh m p at =
       store = m .store;
     }
 
-unfoldable pub setUp : Memory → ℕ → ℕ → Outcome
-setUp m p at = outcome (refusalOf (place 1 (not (sizedFor p m)) ∷ [])) [] m (done zeros [] (fresh m p at))
+unfoldable pub setUp : Memory → ℕ → ℕ → ℕ → Outcome
+setUp m p at cap =
+    outcome (refusalOf (place 1 (not (sizedFor p m)) ∷ place 18 (not (soundCap cap)) ∷ [])) [] m (done zeros [] (fresh m p at cap))
 
 -- ---- calls on a buffer
 -- 7, ≥ N; 8, pin count 0

@@ -36,7 +36,7 @@ use Rattle.bufmodel.specs.Lent.{Lent, called}
 unfoldable pub bench : Memory
 bench =
     record {
-      control = record { size = 0; hand = 9; top = pos 9; inserted = 7; flushed = 8 };
+      control = record { size = 0; hand = 9; top = pos 9; inserted = 7; flushed = 8; cap = 9 };
       states = replicate 3 7;
       names = replicate (nameWords * 3) 7;
       pool = replicate 3072 7;
@@ -83,7 +83,7 @@ peek b = Peek (nameOf 1663 5 16384 0 b)
 -- ---- what is seen. These are definitions and not abbreviations, so that the checker computes the memory once for all that is read off it
 -- the memory after set up and these calls
 unfoldable pub after : Memory → List Call → Memory
-after m calls = memoryAfter (setUp m 1024 100 .after) calls
+after m calls = memoryAfter (setUp m 1024 100 5 .after) calls
 
 -- the refusal number and the answer's words of each of some calls, after others
 unfoldable pub seen : Memory → List Call → List Call → List (List ℕ)
@@ -237,20 +237,20 @@ benchCases =
     -- and with the checksum that write-back gave it
     ∷ case unmarked (seen bench dirtied back) ((0 ∷ 0 ∷ 0 ∷ 1 ∷ 4 ∷ []) ∷ only 0 ∷ at 0 6 ∷ [])
     ∷ case unmarked (bytes bench (dirtied ++ back) 0 4 8 ∷ []) ((90 ∷ 0 ∷ 0 ∷ 0 ∷ 141 ∷ 142 ∷ 77 ∷ 78 ∷ []) ∷ [])
-    -- From C: the control words are P, hand, top of the free list with −1 as 64 one bits, inserted, flushed
+    -- From C: the control words are P, hand, top of the free list with −1 as 64 one bits, inserted, flushed, cap
     ∷ case unmarked
-    (told bench unpinned (1024 ∷ 2 ∷ 18446744073709551615 ∷ 200 ∷ 150 ∷ [])
+    (told bench unpinned (1024 ∷ 2 ∷ 18446744073709551615 ∷ 200 ∷ 150 ∷ 7 ∷ [])
     (LogInserted 300 ∷ LogFlushed 180 ∷ block 3 ∷ Unpin 2 ∷ Drop file ∷ []))
     (only 0
-    ∷ (1024 ∷ 2 ∷ 18446744073709551615 ∷ 300 ∷ 150 ∷ [])
+    ∷ (1024 ∷ 2 ∷ 18446744073709551615 ∷ 300 ∷ 150 ∷ 7 ∷ [])
     ∷ only 0
-    ∷ (1024 ∷ 2 ∷ 18446744073709551615 ∷ 300 ∷ 180 ∷ [])
+    ∷ (1024 ∷ 2 ∷ 18446744073709551615 ∷ 300 ∷ 180 ∷ 7 ∷ [])
     ∷ at 2 4
-    ∷ (1024 ∷ 0 ∷ 18446744073709551615 ∷ 300 ∷ 180 ∷ [])
+    ∷ (1024 ∷ 0 ∷ 18446744073709551615 ∷ 300 ∷ 180 ∷ 7 ∷ [])
     ∷ only 0
-    ∷ (1024 ∷ 0 ∷ 18446744073709551615 ∷ 300 ∷ 180 ∷ [])
+    ∷ (1024 ∷ 0 ∷ 18446744073709551615 ∷ 300 ∷ 180 ∷ 7 ∷ [])
     ∷ only 0
-    ∷ (1024 ∷ 0 ∷ 2 ∷ 300 ∷ 180 ∷ [])
+    ∷ (1024 ∷ 0 ∷ 2 ∷ 300 ∷ 180 ∷ 7 ∷ [])
     ∷ [])
     ∷ []
 
@@ -315,8 +315,9 @@ unfolding Rattle.laws.specs.Every.all Rattle.laws.specs.Every.any Rattle.laws
     Rattle.bufmodel.specs.Word.bit Rattle.bufmodel.specs.Word.dirty Rattle.bufmodel.specs.Word.valid
     Rattle.bufmodel.specs.Word.tagValid Rattle.bufmodel.specs.Word.justDirtied
     Rattle.bufmodel.specs.Word.permanent Rattle.bufmodel.specs.Word.noOther Rattle.bufmodel.specs.Word.empty
-    Rattle.bufmodel.specs.Word.soundFlags Rattle.bufmodel.specs.Word.soundWord Rattle.bufmodel.specs.Word.pinned
-    Rattle.bufmodel.specs.Word.pinMore Rattle.bufmodel.specs.Word.pinLess Rattle.bufmodel.specs.Word.useLess
+    Rattle.bufmodel.specs.Word.soundCap Rattle.bufmodel.specs.Word.soundFlags
+    Rattle.bufmodel.specs.Word.soundWord Rattle.bufmodel.specs.Word.pinned Rattle.bufmodel.specs.Word.pinMore
+    Rattle.bufmodel.specs.Word.pinLess Rattle.bufmodel.specs.Word.useLess
     Rattle.bufmodel.specs.Word.makeDirty Rattle.bufmodel.specs.Word.makeClean Rattle.bufmodel.specs.Word.loaded
     Rattle.bufmodel.specs.Position.position Rattle.bufmodel.specs.Position.positionBytes
     Rattle.bufmodel.specs.Position.paste Rattle.bufmodel.specs.Position.written

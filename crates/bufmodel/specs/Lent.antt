@@ -1,4 +1,4 @@
--- The C side: the control record as five 64-bit words, the answer's slice, and a call of the memory as it is lent.
+-- The C side: the control record as six 64-bit words, the answer's slice, and a call of the memory as it is lent.
 use Prim.Native.Nat.{ℕ, zero, suc, _-_, _^_}
 use mathlib.Core.Bool.{cond}
 use mathlib.Core.List.{List, [], _∷_}
@@ -21,9 +21,9 @@ pub record Lent : Type 0 where
   pub rows : List ℕ
   pub store : List ℕ
 
--- ---- the control record as 64-bit words in the order P, hand, top of the free list, inserted, flushed; −1 as 64 one bits
+-- ---- the control record as 64-bit words in the order P, hand, top of the free list, inserted, flushed, cap; −1 as 64 one bits
 abbrev pub controlWords : ℕ
-controlWords = 5
+controlWords = 6
 
 abbrev pub oneBits : ℕ
 oneBits = 2 ^ 64 - 1
@@ -37,10 +37,18 @@ topWord (pos i) = i
 topWord (negsuc k) = oneBits
 
 unfoldable pub controlOf : List ℕ → Control
-controlOf ws = record { size = getD ws 0 0; hand = getD ws 1 0; top = topOf (getD ws 2 0); inserted = getD ws 3 0; flushed = getD ws 4 0 }
+controlOf ws =
+    record {
+      size = getD ws 0 0;
+      hand = getD ws 1 0;
+      top = topOf (getD ws 2 0);
+      inserted = getD ws 3 0;
+      flushed = getD ws 4 0;
+      cap = getD ws 5 0;
+    }
 
 unfoldable pub wordsOf : Control → List ℕ
-wordsOf c = c .size ∷ c .hand ∷ topWord (c .top) ∷ c .inserted ∷ c .flushed ∷ []
+wordsOf c = c .size ∷ c .hand ∷ topWord (c .top) ∷ c .inserted ∷ c .flushed ∷ c .cap ∷ []
 
 unfoldable pub opened : Lent → Memory
 opened m =

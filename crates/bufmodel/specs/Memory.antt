@@ -41,6 +41,10 @@ buffers m = length (m .states)
 abbrev pub size : Memory → ℕ
 size m = m .control .size
 
+-- the greatest usage count, as it was given at set up
+abbrev pub capOf : Memory → ℕ
+capOf m = m .control .cap
+
 -- buffer i's state word, name and page
 abbrev pub wordOf : Memory → ℕ → ℕ
 wordOf m i = getD (m .states) i 0
@@ -179,21 +183,13 @@ withStore x m =
     }
 
 abbrev pub withHand : ℕ → Memory → Memory
-withHand x m =
-    withControl
-    (record { size = m .control .size; hand = x; top = m .control .top; inserted = m .control .inserted; flushed = m .control .flushed }) m
+withHand x m = let c = m .control in withControl (record { size = c .size; hand = x; top = c .top; inserted = c .inserted; flushed = c .flushed; cap = c .cap }) m
 
 abbrev pub withTop : ℤ → Memory → Memory
-withTop x m =
-    withControl
-    (record { size = m .control .size; hand = m .control .hand; top = x; inserted = m .control .inserted; flushed = m .control .flushed }) m
+withTop x m = let c = m .control in withControl (record { size = c .size; hand = c .hand; top = x; inserted = c .inserted; flushed = c .flushed; cap = c .cap }) m
 
 abbrev pub withInserted : ℕ → Memory → Memory
-withInserted x m =
-    withControl
-    (record { size = m .control .size; hand = m .control .hand; top = m .control .top; inserted = x; flushed = m .control .flushed }) m
+withInserted x m = let c = m .control in withControl (record { size = c .size; hand = c .hand; top = c .top; inserted = x; flushed = c .flushed; cap = c .cap }) m
 
 abbrev pub withFlushed : ℕ → Memory → Memory
-withFlushed x m =
-    withControl
-    (record { size = m .control .size; hand = m .control .hand; top = m .control .top; inserted = m .control .inserted; flushed = x }) m
+withFlushed x m = let c = m .control in withControl (record { size = c .size; hand = c .hand; top = c .top; inserted = c .inserted; flushed = x; cap = c .cap }) m

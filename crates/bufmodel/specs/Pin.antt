@@ -18,7 +18,7 @@ use Rattle.buftag.specs.Lookup.{held}
 use Rattle.bufmodel.specs.Word.{pins, pinned, dirty, maxPins, pinMore}
 use Rattle.bufmodel.specs.Checksum.{passes}
 use Rattle.bufmodel.specs.Rows.{blocksAt, rowOf, placeOf}
-use Rattle.bufmodel.specs.Memory.{Memory, buffers, size, wordOf, withStates, withHand}
+use Rattle.bufmodel.specs.Memory.{Memory, buffers, size, capOf, wordOf, withStates, withHand}
 use Rattle.bufmodel.specs.Books.{isFound}
 use Rattle.bufmodel.specs.Sweep.{Swept, sweepAll}
 use Rattle.bufmodel.specs.Moves.{writeBack, release, load}
@@ -68,9 +68,9 @@ pinPlaces m n =
     pagePlaces m n (place 5 (countFull m h) ∷ place 6 (noVictim m h) ∷ [])
 
 -- ---- what it does where it is accepted
--- held: pin count + 1, usage + 1 unless 5; probes 0
+-- held: pin count + 1, usage + 1 where it is below the cap; probes 0
 unfoldable pub pinHeld : Memory → ℕ → Outcome
-pinHeld m i = done (i ∷ 1 ∷ 0 ∷ 0 ∷ []) [] (withStates (set (m .states) i (pinMore (wordOf m i))) m)
+pinHeld m i = done (i ∷ 1 ∷ 0 ∷ 0 ∷ []) [] (withStates (set (m .states) i (pinMore (capOf m) (wordOf m i))) m)
 
 -- not held: the top of the free list, probes 0
 unfoldable pub pinFree : Memory → PageName → ℕ → Outcome
@@ -89,9 +89,9 @@ pinSwept m n s = pinVictim m n s (s .victim)
 
 unfoldable pub pinNew : Memory → PageName → Link → Outcome
 pinNew m n (To i) = pinFree m n i
-pinNew m n End = pinSwept m n (sweepAll (m .states) (m .control .hand))
-pinNew m n Off = pinSwept m n (sweepAll (m .states) (m .control .hand))
-pinNew m n Bad = pinSwept m n (sweepAll (m .states) (m .control .hand))
+pinNew m n End = pinSwept m n (sweepAll (capOf m) (m .states) (m .control .hand))
+pinNew m n Off = pinSwept m n (sweepAll (capOf m) (m .states) (m .control .hand))
+pinNew m n Bad = pinSwept m n (sweepAll (capOf m) (m .states) (m .control .hand))
 
 unfoldable pub pinTo : Memory → PageName → Held → Outcome
 pinTo m n (At b) = pinHeld m (b .0)

@@ -6,7 +6,7 @@ use mathlib.Core.List.{List}
 use lib.ListN.{length, getD, set}
 use lib.Dec.{eqb}
 use Rattle.laws.specs.First.{Found, found, missing}
-use Rattle.bufmodel.specs.Word.{usage, pinned, maxUsage, useLess}
+use Rattle.bufmodel.specs.Word.{usage, pinned, useLess}
 
 -- what a sweep leaves: the buffer taken, the words, the hand, and how many probes there were
 pub record Swept : Type 0 where
@@ -57,6 +57,6 @@ sweep (suc fuel) n run probes hand words =
           ]
     ]
 
--- the greatest usage count + 1 probes for each buffer are enough
-unfoldable pub sweepAll : List ℕ → ℕ → Swept
-sweepAll words hand = sweep ((maxUsage + 1) * length words) (length words) 0 0 hand words
+-- cap + 1 probes for each buffer are enough
+unfoldable pub sweepAll : ℕ → List ℕ → ℕ → Swept
+sweepAll cap words hand = sweep ((cap + 1) * length words) (length words) 0 0 hand words

@@ -1,12 +1,17 @@
 -- The state word of a buffer: bits 0 to 17 pin count, 18 to 21 usage count, 22 to 31 flags.
 use Prim.Native.Nat.{ℕ, _+_, _-_, _*_, _/_, _%_, _^_}
 use mathlib.Core.Bool.{Bool, not, _&&_, _||_, cond, Bool·beq}
-use lib.Dec.{eqb, leb}
+use lib.Dec.{eqb, leb, ltb}
 
--- the greatest usage count, and the greatest pin count
-abbrev pub maxUsage : ℕ
-maxUsage = 5
+-- The cap is document 02's word for the greatest usage count, as published BM_MAX_USAGE_COUNT: here a number given at set up, from 1, the
+-- usage count of a page just loaded, to 15, which four bits hold
+abbrev pub maxCap : ℕ
+maxCap = 15
 
+unfoldable pub soundCap : ℕ → Bool
+soundCap cap = leb 1 cap && leb cap maxCap
+
+-- the greatest pin count
 abbrev pub maxPins : ℕ
 maxPins = 262143
 
@@ -54,8 +59,8 @@ empty w = eqb w 0
 unfoldable pub soundFlags : ℕ → Bool
 soundFlags w = valid w && tagValid w && permanent w && Bool·beq (dirty w) (justDirtied w) && noOther w
 
-unfoldable pub soundWord : ℕ → Bool
-soundWord w = empty w || (leb (usage w) maxUsage && soundFlags w)
+unfoldable pub soundWord : ℕ → ℕ → Bool
+soundWord cap w = empty w || (leb (usage w) cap && soundFlags w)
 
 -- ---- pinned and not, and the changes of a word of a buffer in use
 unfoldable pub pinned : ℕ → Bool
@@ -68,9 +73,9 @@ cleanFlags = 2 ^ 2 + 2 ^ 3 + 2 ^ 9
 abbrev pub dirtyFlags : ℕ
 dirtyFlags = cleanFlags + 2 ^ 1 + 2 ^ 6
 
--- pin count + 1, usage + 1 unless it is the greatest
-unfoldable pub pinMore : ℕ → ℕ
-pinMore w = pack (pins w + 1) (cond (eqb (usage w) maxUsage) (usage w) (usage w + 1)) (flags w)
+-- pin count + 1, usage + 1 where it is below the cap
+unfoldable pub pinMore : ℕ → ℕ → ℕ
+pinMore cap w = pack (pins w + 1) (cond (ltb (usage w) cap) (usage w + 1) (usage w)) (flags w)
 
 -- pin count − 1
 unfoldable pub pinLess : ℕ → ℕ

@@ -10,4 +10,6 @@ pub struct Control {
     // The log's inserted and flushed positions.
     pub inserted: u64,
     pub flushed: u64,
+    // The cap, the greatest usage count.
+    pub cap: usize,
 }

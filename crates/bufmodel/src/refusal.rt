@@ -1,7 +1,10 @@
-// The refusal numbers. A page's checksum, 17, is checked behind 4; the others in their order.
+// The refusal numbers. A cap, 18, is checked behind 1, a page's checksum, 17, behind 4; the others in their order.
 
 // Sizes or rows break a rule.
 pub const SIZES: u32 = 1;
+
+// The cap is not from 1 to 15.
+pub const CAP: u32 = 18;
 
 // The books are not sound.
 pub const BOOKS: u32 = 2;
