@@ -6,7 +6,7 @@ use lib.ListN.{getD, set}
 use lib.Dec.{eqb}
 use Rattle.buftag.specs.declared.name.PageName.{PageName}
 use Rattle.buftag.specs.Names.{noName}
-use Rattle.bufmodel.specs.Memory.{Memory, wordOf, withStates, withStore}
+use Rattle.bufmodel.specs.Memory.{Memory, capOf, wordOf, withStates, withStore}
 use Rattle.bufmodel.specs.Sweep.{Swept}
 use Rattle.bufmodel.specs.Outcome.{Outcome}
 use Rattle.bufmodel.specs.Pin.{pinSwept}
@@ -108,14 +108,14 @@ unwritten m o = leaving (withStore (m .store)) o
 abbrev pub said : Outcome → ℕ → ℕ
 said o i = getD (o .answer) i 0
 
--- another word for a page that is pinned again; another sweep
-abbrev pub pinsAgain : (ℕ → ℕ) → Pool
+-- another word, of the cap and the former word, for a page that is pinned again; another sweep
+abbrev pub pinsAgain : (ℕ → ℕ → ℕ) → Pool
 pinsAgain word =
     pins
-    (λ m c o. let b = said o 0 in let o′ = leaving (withStates (set (m .states) b (word (wordOf m b)))) o in cond (eqb (said o 1) 1) o′ o)
+    (λ m c o. let b = said o 0 in let o′ = leaving (withStates (set (m .states) b (word (capOf m) (wordOf m b)))) o in cond (eqb (said o 1) 1) o′ o)
 
-abbrev pub sweeps : (List ℕ → ℕ → Swept) → Pool
-sweeps by = pins (λ m c o. let o′ = pinSwept m (c .page) (by (m .states) (m .control .hand)) in cond (eqb (said o 3) 0) o o′)
+abbrev pub sweeps : (ℕ → List ℕ → ℕ → Swept) → Pool
+sweeps by = pins (λ m c o. let o′ = pinSwept m (c .page) (by (capOf m) (m .states) (m .control .hand)) in cond (eqb (said o 3) 0) o o′)
 
 -- ---- on the lent memory
 abbrev pub lending : Lent → Called → Called
@@ -173,10 +173,10 @@ slices f =
           record { result = r .result; answer = f answer r; bytes = r .bytes; lent = r .lent };
     }
 
--- ---- another set up: of block size, log position, the lent memory before and what the right one ends with
-abbrev pub setsUp : (ℕ → ℕ → Lent → Called → Called) → Pool
+-- ---- another set up: of block size, log position, cap, the lent memory before and what the right one ends with
+abbrev pub setsUp : (ℕ → ℕ → ℕ → Lent → Called → Called) → Pool
 setsUp other =
-    record { setsUp = λ p at m answer. other p at m (calling step .setsUp p at m answer); calls = calling step .calls }
+    record { setsUp = λ p at cap m answer. other p at cap m (calling step .setsUp p at cap m answer); calls = calling step .calls }
 
 -- one that ends with another number and memory
 abbrev pub ended : ℕ → Lent → Called → Called
@@ -184,4 +184,4 @@ ended k m r = record { result = k; answer = r .answer; bytes = r .bytes; lent = 
 
 -- one that, where it is accepted, leaves another memory
 abbrev pub setsUpTo : (Memory → Memory → Memory) → Pool
-setsUpTo f = setsUp (λ p at m r. let r′ = lending (closed (f (opened m) (opened (r .lent)))) r in cond (eqb (r .result) 0) r′ r)
+setsUpTo f = setsUp (λ p at cap m r. let r′ = lending (closed (f (opened m) (opened (r .lent)))) r in cond (eqb (r .result) 0) r′ r)

@@ -16,7 +16,6 @@ use Rattle.buftag.specs.declared.name.PageName.{PageName}
 use Rattle.bufmodel.specs.Position.{position}
 use Rattle.bufmodel.specs.Rows.{blocksAt, capacityAt, rowOf, placeOf}
 use Rattle.bufmodel.specs.Memory.{Memory, buffers, size, wordOf, pageOf}
-use Rattle.bufmodel.specs.Sizes.{SizedFor}
 use Rattle.bufmodel.specs.Books.{BooksSound}
 use Rattle.bufmodel.specs.Outcome.{Place, place, zeros}
 use Rattle.bufmodel.specs.Pin.{heldIn}
@@ -25,7 +24,7 @@ use Rattle.bufmodel.specs.Lent.{Lent, Called, opened}
 use Rattle.shelf.specs.Sums.{fails}
 use Rattle.shelf.specs.Shelf.{firstOf, noFile}
 use Rattle.shelf.specs.Published.{filed}
-use Rattle.shelf.specs.Statement.{own, SetsUp, Pool, calling}
+use Rattle.shelf.specs.Statement.{own, Lends, SetsUp, Pool, calling}
 
 -- ---- the table, below the places of all calls: conditions on the memory
 module _ (m : Memory) where
@@ -97,7 +96,7 @@ Refuses k bytes m answer r = r ≡ record { result = k; answer = answer; bytes =
 
 -- lengths and rows keep the rules
 abbrev pub Fitting : Lent → Type 0
-Fitting m = SizedFor (size (opened m)) (opened m) × (length (m .control) ≡ 5)
+Fitting m = Lends m (size (opened m))
 
 pub record Guards (c : Call) (m : Lent) (answer : List ℕ) (r : Called) : Type 0 where
   -- an answer slice of another length gives 1 and stays untouched
@@ -109,13 +108,13 @@ pub record Guards (c : Call) (m : Lent) (answer : List ℕ) (r : Called) : Type 
   pub number : length answer ≡ 4 → Fitting m → BooksSound (opened m) → r .result ≡ firstOf (table (opened m) c)
   pub refused : length answer ≡ 4 → r .result ≢ 0 → Refuses (r .result) (own c) m zeros r
 
-pub record GuardsSetUp (m : Lent) (p at : ℕ) (answer : List ℕ) (r : Called) : Type 0 where
+pub record GuardsSetUp (m : Lent) (p at cap : ℕ) (answer : List ℕ) (r : Called) : Type 0 where
   pub slice : length answer ≢ 4 → Refuses 1 [] m answer r
-  pub sizes : length answer ≡ 4 → SetsUp m p at r
+  pub sizes : length answer ≡ 4 → SetsUp m p at cap r
 
 -- DEMAND 1, of a pool
 pub record Demand1For (pool : Pool) : Type 0 where
-  pub setsUp : (p at : ℕ) (m : Lent) (answer : List ℕ) → GuardsSetUp m p at answer (pool .setsUp p at m answer)
+  pub setsUp : (p at cap : ℕ) (m : Lent) (answer : List ℕ) → GuardsSetUp m p at cap answer (pool .setsUp p at cap m answer)
   pub calls : (c : Call) (m : Lent) (answer : List ℕ) → Guards c m answer (pool .calls c m (own c) answer)
 
 -- and of this one

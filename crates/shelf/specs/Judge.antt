@@ -39,6 +39,7 @@ use Rattle.shelf.specs.Tests.{
   Kept,
   Rows,
   Inserted,
+  Cap,
   Flushed,
   Ordered,
   Others,
@@ -82,12 +83,13 @@ freshTest m p k =
     && linksTest n b now (freshMarks n)
     && chainsTest n b now (freshMarks n)
 
-unfoldable pub setUpTests : Lent → ℕ → ℕ → Called → List Test
-setUpTests m p at r =
-    let same = eqb (r .result) 1 && sameLent (r .lent) m in
-    test Accepted (Bool·beq (eqb (r .result) 0) (sizedFor p (opened m) && eqb (length (m .control)) 5))
+unfoldable pub setUpTests : Lent → ℕ → ℕ → ℕ → Called → List Test
+setUpTests m p at cap r =
+    let lends = sizedFor p (opened m) && eqb (length (m .control)) 6 in
+    let same = eqb (r .result) (cond lends 18 1) && sameLent (r .lent) m in
+    test Accepted (Bool·beq (eqb (r .result) 0) (lends && (leb 1 cap && leb cap 15)))
     ∷ test Fresh (ifDone (r .result) (freshTest m p (r .lent)))
-    ∷ test Begun (ifDone (r .result) (sameList (r .lent .control) (p ∷ 0 ∷ 0 ∷ at ∷ at ∷ [])))
+    ∷ test Begun (ifDone (r .result) (sameList (r .lent .control) (p ∷ 0 ∷ 0 ∷ at ∷ at ∷ cap ∷ [])))
     ∷ test Untouched
     (ifDone (r .result)
     (sameList (take some (r .lent .pool)) (take some (m .pool)) && sameList (r .lent .rows) (m .rows)
@@ -214,6 +216,7 @@ module _ (m : Memory) (l : Ledger) (c : Call) (o : Outcome) (l′ : Ledger) wher
       ∷ test Kept (ifRefused (o .refusal) (sameList (o .bytes) (own c)))
       ∷ test Rows (sameList (o .after .rows) (l′ .shelf .rows))
       ∷ test Inserted (eqb (o .after .control .inserted) (l′ .shelf .inserted))
+      ∷ test Cap (eqb (o .after .control .cap) (l′ .cap))
       ∷ test Flushed (eqb (o .after .control .flushed) (l′ .flushed))
       ∷ test Ordered orderedTest
       ∷ test Others othersTest
@@ -232,7 +235,7 @@ leftTests m r l′ =
     test Same (ifRefused (r .result) same)
     ∷ test Control
     (sameList (r .lent .control)
-    (l′ .shelf .size ∷ k .control .hand ∷ topWord (k .control .top) ∷ l′ .shelf .inserted ∷ l′ .flushed ∷ []))
+    (l′ .shelf .size ∷ k .control .hand ∷ topWord (k .control .top) ∷ l′ .shelf .inserted ∷ l′ .flushed ∷ l′ .cap ∷ []))
     ∷ test Sizes (sizedFor (l′ .shelf .size) k)
     ∷ test Books (sound k)
     ∷ []
@@ -250,22 +253,26 @@ judgeCalls pool m l (c ∷ cs) =
     let r = pool .calls (c .call) m (own (c .call)) (c .answer) in
     let o = outcomeOf r in
     let l′ = ledgerAfter l (c .call) (o .answer) (o .refusal) in
-    let k = marksAfter (opened m) (c .call) in
+    let cap = l .cap in
+    let n = l .shelf .buffers in
+    let k = marksAfter cap n (opened m) (c .call) in
     let on = judgeCalls pool (r .lent) l′ cs in
     failing (agreesTests (opened m) l (c .call) o l′)
-    (failing (whenDone (o .refusal) (saidTests (opened m) (o .answer) (o .bytes) (c .call)))
+    (failing (whenDone (o .refusal) (saidTests cap n (opened m) (o .answer) (o .bytes) (c .call)))
     (failing (whenDone (o .refusal) (clockTests (opened m) o k))
     (failing (leftTests m r l′)
     (failing (whenDone (o .refusal) (nameTests (opened m) o k))
-    (failing (whenDone (o .refusal) (pageTests (opened m) o (pagesAfter (opened m) (c .call)) (blocksAfter (opened m) (c .call)))) on)))))
+    (failing
+    (whenDone (o .refusal) (pageTests (opened m) o (pagesAfter cap n (opened m) (c .call)) (blocksAfter cap n (opened m) (c .call))))
+    on)))))
 
 -- on a set up and, where it is accepted, a list of calls
 abbrev pub ifAccepted : ℕ → Verdict → Verdict
 ifAccepted zero v = v
 ifAccepted (suc k) v = Fine
 
-unfoldable pub judge : Pool → Lent → ℕ → ℕ → List ℕ → List Made → Verdict
-judge pool m p at answer calls =
-    let r = pool .setsUp p at m answer in
-    let on = ifAccepted (r .result) (judgeCalls pool (r .lent) (firstLedger (opened m) p at) calls) in
-    failing (setUpTests m p at r) on
+unfoldable pub judge : Pool → Lent → ℕ → ℕ → ℕ → List ℕ → List Made → Verdict
+judge pool m p at cap answer calls =
+    let r = pool .setsUp p at cap m answer in
+    let on = ifAccepted (r .result) (judgeCalls pool (r .lent) (firstLedger (opened m) p at cap) calls) in
+    failing (setUpTests m p at cap r) on

@@ -1,5 +1,5 @@
 -- The tests of the judge that are demand 2's: what an accepted call answers, and what it leaves of the books, the pages and the store.
-use Prim.Native.Nat.{ℕ, _-_, _*_}
+use Prim.Native.Nat.{ℕ, _+_, _-_, _*_}
 use mathlib.Core.Bool.{Bool, false, _&&_, cond}
 use mathlib.Core.List.{List, [], _∷_}
 use lib.ListN.{length, getD, take, drop}
@@ -60,9 +60,10 @@ use Rattle.shelf.specs.Tests.{
   chainsTest,
 }
 
-module _ (m : Memory) where
+-- the cap and the number of buffers as the statement has them
+module _ (cap many : ℕ) (m : Memory) where
   abbrev pub sweepOf : Swept
-  sweepOf = sweep (6 * buffers m) (buffers m) 0 0 (m .control .hand) (m .states)
+  sweepOf = sweep ((cap + 1) * many) (buffers m) 0 0 (m .control .hand) (m .states)
 
   -- the marks that a call leaves where it is accepted. A pin: the sweep's victim; the free list's top; the buffer that has the page
   abbrev pub otherWords : (ℕ → ℕ) → Marks
@@ -79,7 +80,7 @@ module _ (m : Memory) where
   newMarks n Bad = marksOf m
 
   unfoldable pub pinMarks : PageName → HeldAt → Marks
-  pinMarks n (At b) = otherWords (with (b .0) (morePins (wordOf m (b .0))) (wordOf m))
+  pinMarks n (At b) = otherWords (with (b .0) (morePins cap (wordOf m (b .0))) (wordOf m))
   pinMarks n Nowhere = newMarks n (linkOf (m .control .top))
 
   unfoldable pub marksAfter : Call → Marks
@@ -187,7 +188,8 @@ module _ (m : Memory) where
     saidTests bytes (LogInserted p) = []
     saidTests bytes (LogFlushed p) = []
 
-  -- what it leaves: the clock and the free list; names and chains; pages and blocks
+-- what it leaves: the clock and the free list; names and chains; pages and blocks
+module _ (m : Memory) where
   module _ (o : Outcome) (k : Marks) where
     unfoldable pub clockTests : List Test
     clockTests =

@@ -21,10 +21,12 @@ pub record Ledger : Type 0 where
   pub flushed : ℕ
   -- the blocks put into the store so far
   pub put : ℕ → Bool
+  -- the greatest usage count, as it was given at set up: no call changes it
+  pub cap : ℕ
 
-unfoldable pub firstLedger : Memory → ℕ → ℕ → Ledger
-firstLedger m p at =
-    record { shelf = firstShelf m p at; dirty = λ g. false; last = λ b. missing; flushed = at; put = λ g. false }
+unfoldable pub firstLedger : Memory → ℕ → ℕ → ℕ → Ledger
+firstLedger m p at cap =
+    record { shelf = firstShelf m p at; dirty = λ g. false; last = λ b. missing; flushed = at; put = λ g. false; cap = cap }
 
 -- this place and no other
 unfoldable pub isPlace : Found → ℕ → Bool
@@ -138,6 +140,7 @@ module _ (l : Ledger) where
         last = lastAfter c answer;
         flushed = flushedAfter c answer;
         put = λ g. putBy c answer g || l .put g;
+        cap = l .cap;
       }
 
   -- the ledger after a call that ended so: a refused call changes nothing

@@ -16,4 +16,5 @@ pub mod WrongCalls
 pub mod WrongBooks
 pub mod WrongLent
 pub mod WrongSums
+pub mod WrongCaps
 pub mod WrongPools

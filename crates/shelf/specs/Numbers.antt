@@ -68,12 +68,12 @@ pub record Numbers : Type 0 where
   pub bit31 : (w : ℕ) → permanent w ≡ eqb (w / 2147483648 % 2) 1
   -- An empty buffer has word 0
   pub emptyWord : (w : ℕ) → empty w ≡ eqb w 0
-  pub zeroSound : soundWord 0 ≡ true
-  -- usage count at most 5. Any other has valid, tag valid and permanent, and has dirty and just dirtied both or neither; every other flag
+  pub zeroSound : (cap : ℕ) → soundWord cap 0 ≡ true
+  -- usage count at most the cap. Any other has valid, tag valid and permanent, and has dirty and just dirtied both or neither; every other flag
   -- is 0 between calls
-  pub sound : (w : ℕ) → w ≢ 0
-      → (soundWord w ≡ true)
-      ↔ ((w / 262144 % 16 ≤ 5) × (w / 16777216 % 2 ≡ 1) × (w / 33554432 % 2 ≡ 1) × (w / 2147483648 % 2 ≡ 1)
+  pub sound : (cap w : ℕ) → w ≢ 0
+      → (soundWord cap w ≡ true)
+      ↔ ((w / 262144 % 16 ≤ cap) × (w / 16777216 % 2 ≡ 1) × (w / 33554432 % 2 ≡ 1) × (w / 2147483648 % 2 ≡ 1)
       × (w / 8388608 % 2 ≡ w / 268435456 % 2)
       × (w / 4194304 % 2 ≡ 0)
       × (w / 67108864 % 2 ≡ 0)
@@ -88,7 +88,7 @@ pub record Numbers : Type 0 where
   -- moves the hand on, wrapping at N
   pub onward : (n hand : ℕ) → next n hand ≡ cond (eqb (hand + 1) n) 0 (hand + 1)
   -- ---- Lent memory
-  -- Control record: P, the hand, top of the free list (−1 when it is empty), inserted and flushed log positions; −1 as 64 one bits
+  -- Control record: P, the hand, top of the free list (−1 when it is empty), inserted and flushed log positions, the cap; −1 as 64 one bits
   pub control : (m : Lent) → let c = m .control in
       opened m
       ≡ memory
@@ -98,6 +98,7 @@ pub record Numbers : Type 0 where
         top = cond (eqb (getD c 2 0) 18446744073709551615) (negsuc 0) (pos (getD c 2 0));
         inserted = getD c 3 0;
         flushed = getD c 4 0;
+        cap = getD c 5 0;
       })
       (m .states) (m .names) (m .pool) (m .free) (m .heads) (m .chain) (m .rows) (m .store)
   -- N names (five words each); empty buffers have names of zeros

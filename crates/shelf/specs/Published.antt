@@ -8,7 +8,7 @@ use mathlib.Core.Bool.{Bool, not, _&&_, cond}
 use mathlib.Core.List.{List, [], _∷_}
 use lib.ListN.{length, getD, take, drop, replicate}
 use lib.IntN.{ℤ, pos, negsuc}
-use lib.Dec.{eqb}
+use lib.Dec.{eqb, ltb}
 use Rattle.laws.specs.Sum.{count}
 use Rattle.laws.specs.First.{Found, found, missing}
 use Rattle.laws.specs.Block.{block}
@@ -22,7 +22,7 @@ use Rattle.buftag.specs.Names.{noName}
 use Rattle.buftag.specs.Link.{numberAt, linkOf, isTo}
 use Rattle.bufmodel.specs.Word.{usage, dirty}
 use Rattle.bufmodel.specs.Rows.{blocksAt, rowOf, startOf, storeBlocks, placeOf}
-use Rattle.bufmodel.specs.Memory.{Memory, buffers, size, wordOf, nameOf, pageOf}
+use Rattle.bufmodel.specs.Memory.{Memory, buffers, size, capOf, wordOf, nameOf, pageOf}
 use Rattle.bufmodel.specs.Sizes.{SizedFor}
 use Rattle.bufmodel.specs.Books.{BooksSound}
 use Rattle.bufmodel.specs.Sweep.{Swept, Sweeps}
@@ -33,9 +33,9 @@ use Rattle.shelf.specs.Sums.{goesOut}
 use Rattle.shelf.specs.Shelf.{with, writtenPage}
 
 -- ---- state words: the pin count is in bits 0 to 17, the usage count in bits 18 to 21; dirty is bit 23, just dirtied bit 28
--- pin count + 1, usage + 1 unless 5
-unfoldable pub morePins : ℕ → ℕ
-morePins w = cond (eqb (usage w) 5) (w + 1) (w + 1 + 0x40000)
+-- pin count + 1, usage + 1 where it is below the cap
+unfoldable pub morePins : ℕ → ℕ → ℕ
+morePins cap w = cond (ltb (usage w) cap) (w + 1 + 0x40000) (w + 1)
 
 -- dirty and just dirtied set, and both cleared
 unfoldable pub dirtied : ℕ → ℕ
@@ -168,18 +168,18 @@ module _ (m : Memory) where
     abbrev pub loaded : ℕ → Marks → Marks
     loaded = loadedInto (bucketOf n buckets) n
 
-    pub data Probes (o : Outcome) : ℕ → Type 0 where
+    pub data Probes (cap : ℕ) (o : Outcome) : ℕ → Type 0 where
       -- none on a hit: the buffer that has the page; hit, nothing written
       hit : {b : BufferNumber} → heldIn m n ≡ At b → o .refusal ≡ 0 → o .answer ≡ b .0 ∷ 1 ∷ 0 ∷ 0 ∷ []
-          → Words o (with (b .0) (morePins (wordOf m (b .0))) (wordOf m)) blocksOf
-          → Probes o 0
+          → Words o (with (b .0) (morePins cap (wordOf m (b .0))) (wordOf m)) blocksOf
+          → Probes cap o 0
       -- or from the free list: its top; loaded from the store, nothing written
       free : {i g : ℕ} → heldIn m n ≡ Nowhere → linkOf (m .control .top) ≡ To i → o .refusal ≡ 0 → o .answer ≡ i ∷ 0 ∷ 0 ∷ 0 ∷ []
           → placeOf (m .rows) n ≡ found g
           → Leaves o (loaded i (marksOf m)) (with i (blocksOf g) (pageOf m)) blocksOf
-          → Probes o 0
+          → Probes cap o 0
       -- or at a refusal before a victim is sought
-      early : o .refusal ≢ 0 → o .refusal ≢ 6 → Probes o 0
+      early : o .refusal ≢ 0 → o .refusal ≢ 6 → Probes cap o 0
       -- those of a sweep that gave the buffer, and left words and hand; loaded, and written if the victim was dirty
       taken : {s : Swept} {v g : ℕ} → heldIn m n ≡ Nowhere → linkOf (m .control .top) ≡ End → o .refusal ≡ 0
           → Sweeps (buffers m) 0 (m .control .hand) (m .states) s
@@ -188,20 +188,20 @@ module _ (m : Memory) where
           → placeOf (m .rows) n ≡ found g
           → Leaves o (loaded v (emptied v (withWords (λ i. getD (s .words) i 0) (s .hand) (marksOf m))))
           (with v (blocksOf g) (pageOf m)) (backed v blocksOf)
-          → Probes o (s .probes)
+          → Probes cap o (s .probes)
       -- those of a sweep that found all pinned
       stuck : {s : Swept} → heldIn m n ≡ Nowhere → linkOf (m .control .top) ≡ End → o .refusal ≡ 6
           → Sweeps (buffers m) 0 (m .control .hand) (m .states) s
           → s .victim ≡ missing
-          → Probes o (s .probes)
+          → Probes cap o (s .probes)
 
-    pub record Sought (o : Outcome) : Type 0 where
+    pub record Sought (cap many : ℕ) (o : Outcome) : Type 0 where
       pub probes : ℕ
-      pub looked : Probes o probes
-      -- at most six probes for each buffer
-      pub bound : probes ≤ 6 * buffers m
+      pub looked : Probes cap o probes
+      -- at most cap + 1 probes for each buffer
+      pub bound : probes ≤ (cap + 1) * many
       -- N at 6; an accepted pin answers their number
-      pub atSix : o .refusal ≡ 6 → probes ≡ buffers m
+      pub atSix : o .refusal ≡ 6 → probes ≡ many
       pub answered : o .refusal ≡ 0 → getD (o .answer) 3 0 ≡ probes
 
     -- ---- peek: 1 for the pool's page if held, 0 for the store's block, and a byte offset
@@ -238,8 +238,9 @@ module _ (m : Memory) where
   Accepts (LogInserted p) o = Words o (wordOf m) blocksOf
   Accepts (LogFlushed p) o = Words o (wordOf m) blocksOf
 
-  pub record Published (c : Call) (o : Outcome) : Type 0 where
-    pub sought : (n : PageName) → c ≡ Pin n → Sought n o
+  -- the cap and the number of buffers are the memory's here; demand 3 has those given at set up
+  pub record Published (cap many : ℕ) (c : Call) (o : Outcome) : Type 0 where
+    pub sought : (n : PageName) → c ≡ Pin n → Sought n cap many o
     pub accepts : o .refusal ≡ 0 → Accepts c o
     -- a refusal changes nothing
     pub same : o .refusal ≢ 0 → o .after ≡ m
@@ -248,7 +249,7 @@ module _ (m : Memory) where
 abbrev pub Demand2For : (Memory → Call → Outcome) → Type 0
 Demand2For pool =
     (m : Memory) (c : Call) → ((i : ℕ) → i < buffers m → wordOf m i < 2 ^ 32) → SizedFor (size m) m → BooksSound m
-    → Published m c (pool m c)
+    → Published m (capOf m) (buffers m) c (pool m c)
 
 -- and of this one
 abbrev pub Demand2 : Type 0

@@ -132,6 +132,8 @@ pub record Agrees (m : Memory) (l : Ledger) (c : Call) (o : Outcome) (l′ : Led
   -- and afterwards all rows and inserted
   pub rows : o .after .rows ≡ l′ .shelf .rows
   pub inserted : o .after .control .inserted ≡ l′ .shelf .inserted
+  -- the cap is the one given at set up
+  pub cap : o .after .control .cap ≡ l′ .cap
   -- so 6 exactly when N pages have pins and the wanted one is not among them, at a pin that no place above the victim's refuses
   pub six : (n : PageName) → c ≡ Pin n → firstOf (above (l .shelf) n) ≡ 0 → (g : ℕ) → placeOf (l .shelf .rows) n ≡ found g
       → (o .refusal ≡ 6) ↔ ((pinnedPages (l .shelf) ≡ l .shelf .buffers) × (hasPins (l .shelf) g ≡ false))
@@ -168,10 +170,10 @@ pub record Left (m : Lent) (r : Called) (l′ : Ledger) : Type 0 where
   -- none of the calls answers 1 or 2: sizes and rows keep the rules and the books are sound, whichever call comes next
   pub sizes : SizedFor (l′ .shelf .size) (opened (r .lent))
   pub books : BooksSound (opened (r .lent))
-  -- the control record as 64-bit words in the order P, hand, top of the free list, inserted, flushed; hand and top are as `opened` reads
+  -- the control record as 64-bit words in the order P, hand, top of the free list, inserted, flushed, cap; hand and top are as `opened` reads
   -- them, and what they are is demand 2's
   pub control : let k = opened (r .lent) .control in
-      r .lent .control ≡ l′ .shelf .size ∷ k .hand ∷ topWord (k .top) ∷ l′ .shelf .inserted ∷ l′ .flushed ∷ []
+      r .lent .control ≡ l′ .shelf .size ∷ k .hand ∷ topWord (k .top) ∷ l′ .shelf .inserted ∷ l′ .flushed ∷ l′ .cap ∷ []
 
 -- ---- set up, before the list
 -- the books of n empty buffers: free list 0, 1, .. n − 1; hand 0; all chains empty
@@ -187,21 +189,27 @@ freshMarks n =
       top = pos 0;
     }
 
-pub record Fresh (m k : Lent) (p at : ℕ) : Type 0 where
+pub record Fresh (m k : Lent) (p at cap : ℕ) : Type 0 where
   pub many : length (k .states) ≡ length (m .states)
   pub wide : length (k .heads) ≡ length (m .heads)
   pub sizes : SizedFor p (opened k)
   pub alike : Alike (length (m .states)) (length (m .heads)) (marksOf (opened k)) (freshMarks (length (m .states)))
-  pub control : k .control ≡ p ∷ 0 ∷ 0 ∷ at ∷ at ∷ []
+  pub control : k .control ≡ p ∷ 0 ∷ 0 ∷ at ∷ at ∷ cap ∷ []
   pub pool : k .pool ≡ m .pool
   pub rows : k .rows ≡ m .rows
   pub store : k .store ≡ m .store
 
--- accepted exactly where lengths and rows keep the rules, else 1 and nothing changed
-pub record SetsUp (m : Lent) (p at : ℕ) (r : Called) : Type 0 where
-  pub accepted : (r .result ≡ 0) ↔ (SizedFor p (opened m) × (length (m .control) ≡ 5))
-  pub fresh : r .result ≡ 0 → Fresh m (r .lent) p at
-  pub refused : r .result ≢ 0 → (r .result ≡ 1) × (r .lent ≡ m)
+-- lengths and rows keep the rules, with P as it is given
+abbrev pub Lends : Lent → ℕ → Type 0
+Lends m p = SizedFor p (opened m) × (length (m .control) ≡ 6)
+
+-- accepted exactly where they do and the cap is from 1 to 15; else 1, or, after 1, 18, and nothing changed
+pub record SetsUp (m : Lent) (p at cap : ℕ) (r : Called) : Type 0 where
+  pub accepted : (r .result ≡ 0) ↔ (Lends m p × (1 ≤ cap) × (cap ≤ 15))
+  pub fresh : r .result ≡ 0 → Fresh m (r .lent) p at cap
+  pub sizes : (Lends m p → ⊥) → r .result ≡ 1
+  pub capped : Lends m p → ((1 ≤ cap) × (cap ≤ 15) → ⊥) → r .result ≡ 18
+  pub refused : r .result ≢ 0 → r .lent ≡ m
   pub answer : r .answer ≡ zeros
   pub bytes : r .bytes ≡ []
 
@@ -219,15 +227,15 @@ FitsMade (c ∷ cs) = FitsCall (c .call) × (length (c .answer) ≡ answerWords)
 abbrev pub outcomeOf : Called → Outcome
 outcomeOf r = record { refusal = r .result; answer = r .answer; bytes = r .bytes; after = opened (r .lent) }
 
--- a pool as the till program calls it: set up with P, a log position and an answer slice; a call with the caller's own bytes and an answer
--- slice; both over the lent memory
+-- a pool as the till program calls it: set up with P, a log position, a cap and an answer slice; a call with the caller's own bytes and an
+-- answer slice; both over the lent memory
 pub record Pool : Type 0 where
-  pub setsUp : ℕ → ℕ → Lent → List ℕ → Called
+  pub setsUp : ℕ → ℕ → ℕ → Lent → List ℕ → Called
   pub calls : Call → Lent → List ℕ → List ℕ → Called
 
 -- the pool of a function over the memory, with the right set up
 abbrev pub calling : (Memory → Call → Outcome) → Pool
-calling f = record { setsUp = λ p at m. called (λ k. setUp k p at) m []; calls = λ c. called (λ m. f m c) }
+calling f = record { setsUp = λ p at cap m. called (λ k. setUp k p at cap) m []; calls = λ c. called (λ m. f m c) }
 
 -- each call gets all the lent memory, the control record too, as the call before left it
 abbrev pub ClaimFor : Pool → Lent → Ledger → List Made → Type 0
@@ -236,15 +244,16 @@ ClaimFor pool m l (c ∷ cs) =
     let r = pool .calls (c .call) m (own (c .call)) (c .answer) in
     let o = outcomeOf r in
     let l′ = ledgerAfter l (c .call) (o .answer) (o .refusal) in
-    Agrees (opened m) l (c .call) o l′ × Left m r l′ × Published (opened m) (c .call) o × ClaimFor pool (r .lent) l′ cs
+    Agrees (opened m) l (c .call) o l′ × Left m r l′ × Published (opened m) (l .cap) (l .shelf .buffers) (c .call) o
+    × ClaimFor pool (r .lent) l′ cs
 
 -- DEMAND 3, of a pool: for every lent memory, every set-up and, where it is accepted, every list of calls
 abbrev pub Demand3For : Pool → Type 0
 Demand3For pool =
-    (m : Lent) (p at : ℕ) (answer : List ℕ) (calls : List Made) → FitsLent m → p < 2 ^ 64 → at < 2 ^ 64
+    (m : Lent) (p at cap : ℕ) (answer : List ℕ) (calls : List Made) → FitsLent m → p < 2 ^ 64 → at < 2 ^ 64 → cap < 2 ^ 64
     → length answer ≡ answerWords → FitsMade calls
-    → let r = pool .setsUp p at m answer in
-    SetsUp m p at r × (r .result ≡ 0 → ClaimFor pool (r .lent) (firstLedger (opened m) p at) calls)
+    → let r = pool .setsUp p at cap m answer in
+    SetsUp m p at cap r × (r .result ≡ 0 → ClaimFor pool (r .lent) (firstLedger (opened m) p at cap) calls)
 
 -- and of this one
 abbrev pub Demand3 : Type 0
@@ -261,16 +270,17 @@ abbrev pub ifAccepted : ℕ → List Called → List Called
 ifAccepted zero rs = rs
 ifAccepted (suc k) rs = []
 
-abbrev pub received : Pool → ℕ → ℕ → Lent → List ℕ → List Made → List Called
-received pool p at m answer calls =
-    let r = pool .setsUp p at m answer in
+abbrev pub received : Pool → ℕ → ℕ → ℕ → Lent → List ℕ → List Made → List Called
+received pool p at cap m answer calls =
+    let r = pool .setsUp p at cap m answer in
     r ∷ ifAccepted (r .result) (receipts pool (r .lent) calls)
 
 -- DEMAND 3 LEAVES ONE POOL: whichever meets it gives the till program what this one gives, to the last byte of the lent memory
 abbrev pub OnePool : Type 0
 OnePool =
-    (pool : Pool) → Demand3For pool → (m : Lent) (p at : ℕ) (answer : List ℕ) (calls : List Made) → FitsLent m → p < 2 ^ 64
+    (pool : Pool) → Demand3For pool → (m : Lent) (p at cap : ℕ) (answer : List ℕ) (calls : List Made) → FitsLent m → p < 2 ^ 64
     → at < 2 ^ 64
+    → cap < 2 ^ 64
     → length answer ≡ answerWords
     → FitsMade calls
-    → received pool p at m answer calls ≡ received (calling step) p at m answer calls
+    → received pool p at cap m answer calls ≡ received (calling step) p at cap m answer calls

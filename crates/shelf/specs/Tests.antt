@@ -16,7 +16,7 @@ pub data Clause : Type 0 where
   -- of `SetsUp`: which are accepted; then the books, the control record, all else; a refusal; the answer and the caller's bytes
   Accepted Fresh Begun Untouched Refused Zeros : Clause
   -- of `Agrees`
-  Neither Six Number Answers Shows Blank Kept Rows Inserted Flushed Ordered Others Long Settled Stored Held Sums : Clause
+  Neither Six Number Answers Shows Blank Kept Rows Inserted Cap Flushed Ordered Others Long Settled Stored Held Sums : Clause
   -- of `Left`; of the opened memory, `Published.same` says what `Same` does
   Same Control Sizes Books : Clause
   -- of `Published`: what a pin answers, the bytes that a read fills, the count written, the part that a peek hands back; then the marks,

@@ -24,6 +24,9 @@ size = 1024
 abbrev pub log : ℕ
 log = 100
 
+abbrev pub cap : ℕ
+cap = 5
+
 abbrev pub sales : FileName
 sales = fileOf 1663 5 16384 0
 
@@ -33,7 +36,7 @@ stock = fileOf 1663 5 16385 0
 unfoldable pub benchWith : ℕ → List ℕ → Lent
 benchWith n page =
     record {
-      control = replicate 5 0;
+      control = replicate 6 0;
       states = replicate n 9;
       names = replicate (nameWords * n) 9;
       pool = replicate (n * size) 9;
@@ -85,7 +88,7 @@ unpinned = pin sales 0 ∷ pin sales 1 ∷ Unpin 0 ∷ Unpin 1 ∷ []
 abbrev pub exchange : List Call
 exchange = pin sales 0 ∷ write 0 77 100 ∷ Unpin 0 ∷ pin stock 0 ∷ []
 
--- ---- the verdict: with set up's block size and log position, the bench's or others
+-- ---- the verdict: with set up's block size, log position and cap, the bench's or others
 -- an answer slice, as someone left it
 abbrev pub slice : List ℕ
 slice = replicate 4 9
@@ -93,8 +96,8 @@ slice = replicate 4 9
 abbrev pub made : Call → Made
 made c = record { call = c; answer = slice }
 
-unfoldable pub verdict : Pool → Lent → ℕ → ℕ → List Call → Verdict
-verdict pool m p at calls = judge pool m p at slice (map made calls)
+unfoldable pub verdict : Pool → Lent → ℕ → ℕ → ℕ → List Call → Verdict
+verdict pool m p at most calls = judge pool m p at most slice (map made calls)
 
 -- ---- all that the statement assumes, as a test: numbers fit their types
 unfoldable pub every : List Bool → Bool
@@ -146,8 +149,8 @@ unfoldable pub fitsCalls : List Call → Bool
 fitsCalls [] = true
 fitsCalls (c ∷ cs) = fitsCall c && fitsCalls cs
 
-unfoldable pub fits : Lent → ℕ → ℕ → List Call → Bool
-fits m p at calls = every (fitsLent m ∷ ltb p (2 ^ 64) ∷ ltb at (2 ^ 64) ∷ fitsCalls calls ∷ [])
+unfoldable pub fits : Lent → ℕ → ℕ → ℕ → List Call → Bool
+fits m p at most calls = every (fitsLent m ∷ ltb p (2 ^ 64) ∷ ltb at (2 ^ 64) ∷ ltb most (2 ^ 64) ∷ fitsCalls calls ∷ [])
 
 -- ---- a wrong pool, a trial that it fails, and the clause: the first that fails
 pub record Wrong : Type 0 where
@@ -155,14 +158,23 @@ pub record Wrong : Type 0 where
   pub lent : Lent
   pub size : ℕ
   pub log : ℕ
+  pub cap : ℕ
   pub calls : List Call
   pub refusedBy : Clause
 
 abbrev pub wrongOn : Lent → Pool → List Call → Clause → Wrong
-wrongOn m pool calls clause = record { pool = pool; lent = m; size = size; log = log; calls = calls; refusedBy = clause }
+wrongOn m pool calls clause = record { pool = pool; lent = m; size = size; log = log; cap = cap; calls = calls; refusedBy = clause }
 
 abbrev pub wrong : Pool → ℕ → List Call → Clause → Wrong
 wrong pool n = wrongOn (bench n) pool
 
+-- with another cap
+abbrev pub wrongAt : ℕ → Pool → ℕ → List Call → Clause → Wrong
+wrongAt most pool n calls clause =
+    record { pool = pool; lent = bench n; size = size; log = log; cap = most; calls = calls; refusedBy = clause }
+
+abbrev pub wrongCap : ℕ → Pool → Lent → Clause → Wrong
+wrongCap most pool m clause = record { pool = pool; lent = m; size = size; log = log; cap = most; calls = []; refusedBy = clause }
+
 abbrev pub wrongSetUp : Pool → Lent → ℕ → ℕ → Clause → Wrong
-wrongSetUp pool m p at clause = record { pool = pool; lent = m; size = p; log = at; calls = []; refusedBy = clause }
+wrongSetUp pool m p at clause = record { pool = pool; lent = m; size = p; log = at; cap = cap; calls = []; refusedBy = clause }

@@ -108,22 +108,22 @@ wrongBuffers =
 unfoldable pub wrongCounts : List Wrong
 wrongCounts =
     -- document 004's lowers first and tests after
-    wrong (sweeps (λ words hand. lowersFirst (length words) 0 words hand)) 1 (pin sales 0 ∷ Unpin 0 ∷ pin stock 0 ∷ []) Probes
+    wrong (sweeps (λ cap words hand. lowersFirst (length words) 0 words hand)) 1 (pin sales 0 ∷ Unpin 0 ∷ pin stock 0 ∷ []) Probes
     -- and gives up after N tries
-    ∷ wrong (sweeps (λ words hand. sweep (length words) (length words) 0 0 hand words)) 1
+    ∷ wrong (sweeps (λ cap words hand. sweep (length words) (length words) 0 0 hand words)) 1
     (pin sales 0 ∷ Unpin 0 ∷ pin stock 0 ∷ []) Six
     -- a sweep lowers the usage of pinned buffers
-    ∷ wrong (sweeps (λ words hand. lowersPinned (sweepAll words hand))) 2
+    ∷ wrong (sweeps (λ cap words hand. lowersPinned (sweepAll cap words hand))) 2
     (pin sales 0 ∷ pin sales 1 ∷ Unpin 1 ∷ pin stock 0 ∷ []) Words
     -- a sweep leaves the hand
     ∷ wrong (pins (λ m c o. leaving (withHand (m .control .hand)) o)) 2 (unpinned ++ (pin stock 0 ∷ [])) Hand
     -- ---- pins and usage
     -- usage is never raised
-    ∷ wrong (pinsAgain (λ w. w + 1)) 1 (pin sales 0 ∷ pin sales 0 ∷ []) Words
+    ∷ wrong (pinsAgain (λ cap w. w + 1)) 1 (pin sales 0 ∷ pin sales 0 ∷ []) Words
     -- usage has no cap
-    ∷ wrong (pinsAgain (λ w. w + 1 + 0x40000)) 1 (replicate 6 (pin sales 0)) Words
+    ∷ wrong (pinsAgain (λ cap w. w + 1 + 0x40000)) 1 (replicate 6 (pin sales 0)) Words
     -- usage has a cap of 7
-    ∷ wrong (pinsAgain (λ w. cond (ltb (usage w) 7) (w + 1 + 0x40000) (w + 1))) 1 (replicate 6 (pin sales 0)) Words
+    ∷ wrong (pinsAgain (λ cap w. cond (ltb (usage w) 7) (w + 1 + 0x40000) (w + 1))) 1 (replicate 6 (pin sales 0)) Words
     -- unpin does nothing
     ∷ wrong (unpins (λ m c o. leaving (λ k. m) o)) 1 (pin sales 0 ∷ Unpin 0 ∷ []) Words
     -- unpin lowers the usage
@@ -131,7 +131,7 @@ wrongCounts =
     -- unpin answers a number
     ∷ wrong (unpins (ifAccepted (λ m c o. saying 0 1 o))) 1 (pin sales 0 ∷ Unpin 0 ∷ []) Answers
     -- the fifth pin is not counted
-    ∷ wrong (pinsAgain (λ w. cond (eqb (w % 2 ^ 18) 4) w (pinMore w))) 1 (replicate 5 (pin sales 0)) Words
+    ∷ wrong (pinsAgain (λ cap w. cond (eqb (w % 2 ^ 18) 4) w (pinMore cap w))) 1 (replicate 5 (pin sales 0)) Words
     -- a page just loaded has usage 0
     ∷ wrong (pins (λ m c o. leaving (λ k. withStates (map useLess (k .states)) k) o)) 1 (pin sales 0 ∷ []) Words
     -- unpin empties the buffer

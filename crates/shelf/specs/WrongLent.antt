@@ -63,9 +63,9 @@ use Rattle.shelf.specs.Changes.{
 
 -- another block size in the control record
 abbrev withSize : ℕ → Memory → Memory
-withSize p m =
+withSize p m = let c = m .control in
     withControl
-    (record { size = p; hand = m .control .hand; top = m .control .top; inserted = m .control .inserted; flushed = m .control .flushed }) m
+    (record { size = p; hand = c .hand; top = c .top; inserted = c .inserted; flushed = c .flushed; cap = c .cap }) m
 
 -- both rows of the bench are of the file of sales
 abbrev twoRows : Lent
@@ -101,7 +101,7 @@ wrongLent =
     ∷ wrong (calls (λ m c o. leaving (λ k. withStates (k .states ++ (0 ∷ [])) k) o)) 1 (Checkpoint ∷ []) Words
     -- an empty buffer's page is written over
     ∷ wrong (calls (λ m c o. leaving (λ k. withPool (set (k .pool) 0 1) k) o)) 1 (Checkpoint ∷ []) Pages
-    -- the control record gets a sixth word
+    -- the control record gets a seventh word
     ∷ wrong (leaves (λ m. withControlWords (m .control ++ (0 ∷ [])) m)) 1 (Checkpoint ∷ []) Control
     -- hand and top are exchanged in the control record
     ∷ wrong (lends (λ m. let w = m .control in withControlWords (set (set w 1 (getD w 2 0)) 2 (getD w 1 0)) m)) 2 (pin sales 0 ∷ []) Hand
@@ -117,17 +117,17 @@ wrongLent =
 unfoldable pub wrongSetUps : List Wrong
 wrongSetUps =
     -- every set up is refused
-    wrongSetUp (setsUp (λ p at m r. ended 1 m r)) (bench 1) size log Accepted
+    wrongSetUp (setsUp (λ p at cap m r. ended 1 m r)) (bench 1) size log Accepted
     -- log position 0 is refused
-    ∷ wrongSetUp (setsUp (λ p at m r. cond (eqb at 0) (ended 1 m r) r)) (bench 1) size 0 Accepted
+    ∷ wrongSetUp (setsUp (λ p at cap m r. cond (eqb at 0) (ended 1 m r) r)) (bench 1) size 0 Accepted
     -- no buffers are accepted
-    ∷ wrongSetUp (setsUp (λ p at m r. cond (eqb (length (m .states)) 0) (ended 0 m r) r)) (bench 0) size log Accepted
+    ∷ wrongSetUp (setsUp (λ p at cap m r. cond (eqb (length (m .states)) 0) (ended 0 m r) r)) (bench 0) size log Accepted
     -- so are blocks of 1,000 bytes
-    ∷ wrongSetUp (setsUp (λ p at m r. cond (eqb p 1000) (ended 0 m r) r)) (bench 1) 1000 log Accepted
-    -- so is a control record of six words
-    ∷ wrongSetUp (setsUp (λ p at m r. ended 0 m r)) (withControlWords (replicate 6 0) (bench 1)) size log Accepted
+    ∷ wrongSetUp (setsUp (λ p at cap m r. cond (eqb p 1000) (ended 0 m r) r)) (bench 1) 1000 log Accepted
+    -- so is a control record of five words
+    ∷ wrongSetUp (setsUp (λ p at cap m r. ended 0 m r)) (withControlWords (replicate 5 0) (bench 1)) size log Accepted
     -- so are two rows of one file
-    ∷ wrongSetUp (setsUp (λ p at m r. ended 0 m r)) twoRows size log Accepted
+    ∷ wrongSetUp (setsUp (λ p at cap m r. ended 0 m r)) twoRows size log Accepted
     -- the free list is falling
     ∷ wrongSetUp (setsUpTo (λ m k. withTop (pos 1) (withFree (none ∷ pos 0 ∷ []) k))) (bench 2) size log Fresh
     -- state words are left
@@ -151,10 +151,10 @@ wrongSetUps =
     -- the files are emptied
     ∷ wrongSetUp (setsUpTo (λ m k. withRows (setBlocks (k .rows) 0 0) k)) (bench 1) size log Untouched
     -- refused with 2
-    ∷ wrongSetUp (setsUp (λ p at m r. ended (2 * r .result) (r .lent) r)) (bench 0) size log Refused
+    ∷ wrongSetUp (setsUp (λ p at cap m r. ended (2 * r .result) (r .lent) r)) (bench 0) size log Refused
     -- a refused set up writes the control record
-    ∷ wrongSetUp (setsUp (λ p at m r. lending (withControlWords (p ∷ 0 ∷ 0 ∷ at ∷ at ∷ []) m) r)) (bench 0) size log Refused
+    ∷ wrongSetUp (setsUp (λ p at cap m r. lending (withControlWords (p ∷ 0 ∷ 0 ∷ at ∷ at ∷ cap ∷ []) m) r)) (bench 0) size log Refused
     -- the answer slice is left as it was
-    ∷ wrongSetUp (setsUp (λ p at m r. record { result = r .result; answer = slice; bytes = r .bytes; lent = r .lent })) (bench 1) size log
+    ∷ wrongSetUp (setsUp (λ p at cap m r. record { result = r .result; answer = slice; bytes = r .bytes; lent = r .lent })) (bench 1) size log
     Zeros
     ∷ []

@@ -3,6 +3,7 @@ use mathlib.Core.List.{List, _++_}
 use Rattle.shelf.specs.Trial.{Wrong}
 use Rattle.shelf.specs.WrongCalls.{wrongRefusals, wrongFlushes, wrongBacks, wrongAnswers, wrongPages, wrongFiles}
 use Rattle.shelf.specs.WrongBooks.{wrongBuffers, wrongCounts}
+use Rattle.shelf.specs.WrongCaps.{wrongRises, wrongCaps}
 use Rattle.shelf.specs.WrongSums.{wrongSums, wrongBytes, wrongVerified, wrongRefused}
 use Rattle.shelf.specs.WrongLent.{wrongLent, wrongSetUps}
 
@@ -10,4 +11,4 @@ unfoldable pub wrongPools : List Wrong
 wrongPools =
     wrongRefusals
     ++ (wrongFlushes ++ (wrongBacks ++ (wrongAnswers ++ (wrongPages ++ (wrongFiles ++ (wrongBuffers ++ (wrongCounts ++ (wrongSums
-    ++ (wrongBytes ++ (wrongVerified ++ (wrongRefused ++ (wrongLent ++ wrongSetUps))))))))))))
+    ++ (wrongBytes ++ (wrongVerified ++ (wrongRefused ++ (wrongLent ++ (wrongSetUps ++ (wrongRises ++ wrongCaps))))))))))))))

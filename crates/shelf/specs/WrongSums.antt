@@ -12,7 +12,7 @@ use Rattle.bufmodel.specs.Word.{pinned}
 use Rattle.bufmodel.specs.Position.{paste}
 use Rattle.bufmodel.specs.Checksum.{bare, sumIn, sums, wordsIn, foldTo, checksum, allZero, sealed, passes}
 use Rattle.bufmodel.specs.Rows.{setBlocks}
-use Rattle.bufmodel.specs.Memory.{Memory, wordOf, pageOf, withStates, withPool, withRows, withStore, withHand}
+use Rattle.bufmodel.specs.Memory.{Memory, capOf, wordOf, pageOf, withStates, withPool, withRows, withStore, withHand}
 use Rattle.bufmodel.specs.Sweep.{sweepAll}
 use Rattle.bufmodel.specs.Outcome.{two, done, refused}
 use Rattle.bufmodel.specs.Pin.{heldIn, pinTo}
@@ -83,7 +83,7 @@ uncounted = let m = opened (unsummed 1) in closed (withRows (setBlocks (m .rows)
 
 -- what a sweep leaves
 abbrev sweptBy : Memory → Memory
-sweptBy m = let s = sweepAll (m .states) (m .control .hand) in withHand (s .hand) (withStates (s .words) m)
+sweptBy m = let s = sweepAll (capOf m) (m .states) (m .control .hand) in withHand (s .hand) (withStates (s .words) m)
 
 -- ---- at write-back
 unfoldable pub wrongSums : List Wrong
