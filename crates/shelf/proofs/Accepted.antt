@@ -9,7 +9,7 @@ use Rattle.laws.specs.Block.{block}
 use Rattle.bufmodel.specs.Position.{position}
 use Rattle.bufmodel.specs.Checksum.{bare}
 use Rattle.bufmodel.specs.Rows.{files, blocksAt, startOf, storeBlocks}
-use Rattle.bufmodel.specs.Memory.{Memory, buffers, size}
+use Rattle.bufmodel.specs.Memory.{Memory, buffers, size, capOf}
 use Rattle.bufmodel.specs.Outcome.{done}
 use Rattle.bufmodel.specs.Step.{Call, Checkpoint}
 use Rattle.shelf.specs.Sums.{fails}
@@ -36,6 +36,7 @@ pub record Accepted (m : Memory) (v : View) (c : Call) (answer bytes : List ℕ)
   -- what the ledger shares with the memory
   pub many : buffers m ≡ buffers m′
   pub wide : size m ≡ size m′
+  pub cap : capOf m ≡ capOf m′
   pub rows : shelfThen m v c answer .rows ≡ m′ .rows
   pub inserted : shelfThen m v c answer .inserted ≡ m′ .control .inserted
   pub flushed : ledgerThen m v c answer .flushed ≡ m′ .control .flushed
@@ -63,7 +64,7 @@ shelfWith v b p i r =
       bad = v .bad;
     }
 
-same-ledger : {b b′ p p′ i i′ f f′ : ℕ} {r r′ : List ℕ} (v : View) → b ≡ b′ → p ≡ p′ → i ≡ i′ → r ≡ r′ → f ≡ f′
+same-ledger : {b b′ p p′ i i′ f f′ c c′ : ℕ} {r r′ : List ℕ} (v : View) → b ≡ b′ → p ≡ p′ → i ≡ i′ → r ≡ r′ → f ≡ f′ → c ≡ c′
     → _≡_ {A = Ledger}
     (record {
       shelf = shelfWith v b p i r;
@@ -71,6 +72,7 @@ same-ledger : {b b′ p p′ i i′ f f′ : ℕ} {r r′ : List ℕ} (v : View)
       last = v .last;
       flushed = f;
       put = v .put;
+      cap = c;
     })
     (record {
       shelf = shelfWith v b′ p′ i′ r′;
@@ -78,8 +80,9 @@ same-ledger : {b b′ p p′ i i′ f f′ : ℕ} {r r′ : List ℕ} (v : View)
       last = v .last;
       flushed = f′;
       put = v .put;
+      cap = c′;
     })
-same-ledger v e f g h i = cc
+same-ledger v e f g h i j = cc
 
 module _ (m : Memory) (v : View) (c : Call) (answer bytes : List ℕ) (m′ : Memory) where
   pub accepted-ended : Accepted m v c answer bytes m′ → Ended m v c (done answer bytes m′)
@@ -97,6 +100,7 @@ module _ (m : Memory) (v : View) (c : Call) (answer bytes : List ℕ) (m′ : Me
               kept = λ h. absurd (h refl);
               rows = sym (a .rows);
               inserted = sym (a .inserted);
+              cap = sym (a .cap);
               six = six-of (shelfOf m v) c (sym (a .number));
               flushed = sym (a .flushed);
               ordered = λ g h.
@@ -113,5 +117,5 @@ module _ (m : Memory) (v : View) (c : Call) (answer bytes : List ℕ) (m′ : Me
             };
         kept = a .kept;
         shared = same-ledger (viewOf (ledgerThen m v c answer))
-            (n .buffers ∙ a .many) (n .size ∙ a .wide) (a .inserted) (a .rows) (a .flushed);
+            (n .buffers ∙ a .many) (n .size ∙ a .wide) (a .inserted) (a .rows) (a .flushed) (a .cap);
       }

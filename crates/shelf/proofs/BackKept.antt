@@ -16,7 +16,7 @@ use Rattle.bufmodel.specs.Word.{pins, usage, pinned, dirty, cleanFlags, makeCle
 use Rattle.bufmodel.specs.Position.{position}
 use Rattle.bufmodel.specs.Checksum.{bare, sealed, passes}
 use Rattle.bufmodel.specs.Rows.{storeBlocks, placeOf}
-use Rattle.bufmodel.specs.Memory.{Memory, buffers, size, wordOf, nameOf, pageOf, withStates}
+use Rattle.bufmodel.specs.Memory.{Memory, buffers, size, capOf, wordOf, nameOf, pageOf, withStates}
 use Rattle.bufmodel.specs.Moves.{putAt, writeBack}
 use Rattle.bufmodel.proofs.ChecksumLaws.{alike-position, bare-sealed, length-sealed, sealed-passes}
 use Rattle.bufmodel.proofs.WordLaws.{pinned-same, Fields, make-clean}
@@ -65,7 +65,7 @@ viewBack v g =
 
 module _ (m : Memory) (v : View) (k : Kept m v) (i g : ℕ) (x : Has m i g) where
   -- ---- the words: buffer i's is made clean, the others stay
-  clean-word : Fields (makeClean (wordOf m i)) (pins (wordOf m i)) (usage (wordOf m i)) cleanFlags false
+  clean-word : Fields (capOf m) (makeClean (wordOf m i)) (pins (wordOf m i)) (usage (wordOf m i)) cleanFlags false
   clean-word = make-clean (k .words i (x .below) (x .full))
 
   word-own : wordOf (backOf m i g) i ≡ makeClean (wordOf m i)

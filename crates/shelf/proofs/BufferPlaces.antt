@@ -9,7 +9,7 @@ use borrow.Author.Tests.{le-leb, lt-leb}
 use Rattle.laws.specs.First.{Found, found, missing}
 use Rattle.laws.proofs.Tests.{lt-or-le, true-or-false}
 use Rattle.bufmodel.specs.Word.{pins, pinned}
-use Rattle.bufmodel.specs.Memory.{Memory, buffers, wordOf}
+use Rattle.bufmodel.specs.Memory.{Memory, buffers, capOf, wordOf}
 use Rattle.bufmodel.specs.Books.{isFound}
 use Rattle.bufmodel.specs.Outcome.{Place, refusalOf}
 use Rattle.bufmodel.specs.Calls.{bufferPlaces}
@@ -65,7 +65,7 @@ pub record PinnedPage (m : Memory) (v : View) (i : ℕ) : Type 0 where
   pub holds : v .holds i ≡ found page
   pub same : Same m v i page
   -- its word
-  pub word : Held (wordOf m i)
+  pub word : Held (capOf m) (wordOf m i)
   pub some : 0 < pins (wordOf m i)
 
 module _ (m : Memory) (v : View) (k : Kept m v) (i : ℕ) where

@@ -10,7 +10,8 @@ unfolding Rattle.laws.specs.Every.all Rattle.laws.specs.Every.any Rattle.laws
     Rattle.bufmodel.specs.Word.usage Rattle.bufmodel.specs.Word.flags Rattle.bufmodel.specs.Word.pack Rattle.bufmodel.specs.Word.bit
     Rattle.bufmodel.specs.Word.dirty Rattle.bufmodel.specs.Word.valid Rattle.bufmodel.specs.Word.tagValid
     Rattle.bufmodel.specs.Word.justDirtied Rattle.bufmodel.specs.Word.permanent Rattle.bufmodel.specs.Word.noOther
-    Rattle.bufmodel.specs.Word.empty Rattle.bufmodel.specs.Word.soundFlags Rattle.bufmodel.specs.Word.soundWord
+    Rattle.bufmodel.specs.Word.empty Rattle.bufmodel.specs.Word.soundCap Rattle.bufmodel.specs.Word.soundFlags
+    Rattle.bufmodel.specs.Word.soundWord
     Rattle.bufmodel.specs.Word.pinned Rattle.bufmodel.specs.Word.pinMore Rattle.bufmodel.specs.Word.pinLess
     Rattle.bufmodel.specs.Word.useLess Rattle.bufmodel.specs.Word.makeDirty Rattle.bufmodel.specs.Word.makeClean
     Rattle.bufmodel.specs.Word.loaded Rattle.bufmodel.specs.Position.position Rattle.bufmodel.specs.Position.positionBytes
@@ -100,5 +101,6 @@ unfolding Rattle.laws.specs.Every.all Rattle.laws.specs.Every.any Rattle.laws
     Rattle.shelf.specs.WrongBooks.wrongCounts Rattle.shelf.specs.WrongSums.wrongSums
     Rattle.shelf.specs.WrongSums.wrongBytes Rattle.shelf.specs.WrongSums.wrongVerified
     Rattle.shelf.specs.WrongSums.wrongRefused Rattle.shelf.specs.WrongLent.wrongLent
-    Rattle.shelf.specs.WrongLent.wrongSetUps Rattle.shelf.specs.WrongPools.wrongPools
+    Rattle.shelf.specs.WrongLent.wrongSetUps Rattle.shelf.specs.WrongCaps.wrongRises
+    Rattle.shelf.specs.WrongCaps.wrongCaps Rattle.shelf.specs.WrongPools.wrongPools
 computes = tt

@@ -38,17 +38,17 @@ steps m v (LogInserted p) k f = inserted-step m v k p
 steps m v (LogFlushed p) k f = flushed-step m v k p
 
 -- where set up is accepted
-listed : (m : Lent) (p at : ℕ) (answer : List ℕ) (calls : List Made) → length answer ≡ answerWords → FitsMade calls
-    → let r = called (λ k. setUp k p at) m [] answer in
-    r .result ≡ 0 → ClaimFor (calling step) (r .lent) (firstLedger (opened m) p at) calls
-listed m p at answer calls fa fc e =
+listed : (m : Lent) (p at cap : ℕ) (answer : List ℕ) (calls : List Made) → length answer ≡ answerWords → FitsMade calls
+    → let r = called (λ k. setUp k p at cap) m [] answer in
+    r .result ≡ 0 → ClaimFor (calling step) (r .lent) (firstLedger (opened m) p at cap) calls
+listed m p at cap answer calls fa fc e =
     let k = opened m in
-    let s = called-accepted (λ k. setUp k p at) m _ answer fa e in
-    let kept = start-kept k p at (s .0) in
-    subst (λ (n : Lent). ClaimFor (calling step) n (firstLedger k p at) calls) (sym (s .1))
-    (lift (setUp k p at .after) (firstLedger k p at) calls (kept .good) (kept .words) fc
-    (subst (λ (l : Ledger). Runs (setUp k p at .after) l (callsOf calls)) (sym (start-ledger k p at (s .0)))
-    (runs-of steps (setUp k p at .after) (viewOf (firstLedger k p at)) (callsOf calls) kept (fits-calls calls fc))))
+    let s = called-accepted (λ k. setUp k p at cap) m _ answer fa e in
+    let kept = start-kept k p at cap (s .0) in
+    subst (λ (n : Lent). ClaimFor (calling step) n (firstLedger k p at cap) calls) (sym (s .1))
+    (lift (setUp k p at cap .after) (firstLedger k p at cap) calls (kept .good) (kept .words) fc
+    (subst (λ (l : Ledger). Runs (setUp k p at cap .after) l (callsOf calls)) (sym (start-ledger k p at cap (s .0)))
+    (runs-of steps (setUp k p at cap .after) (viewOf (firstLedger k p at cap)) (callsOf calls) kept (fits-calls calls fc))))
 
 pub demand-3 : Demand3
-demand-3 m p at answer calls fm fp fat fa fc = (sets-up m p at answer fa, listed m p at answer calls fa fc)
+demand-3 m p at cap answer calls fm fp fat fcap fa fc = (sets-up m p at cap answer fa, listed m p at cap answer calls fa fc)

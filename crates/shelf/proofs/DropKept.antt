@@ -14,7 +14,7 @@ use Rattle.buftag.specs.declared.name.PageName.{PageName}
 use Rattle.bufmodel.specs.Checksum.{passes}
 use Rattle.bufmodel.specs.Word.{pins, pinned, dirty, empty}
 use Rattle.bufmodel.specs.Rows.{setBlocks, rowOf, placeOf}
-use Rattle.bufmodel.specs.Memory.{Memory, buffers, size, wordOf, nameOf, withRows}
+use Rattle.bufmodel.specs.Memory.{Memory, buffers, size, capOf, wordOf, nameOf, withRows}
 use Rattle.bufmodel.specs.Books.{emptyAt}
 use Rattle.bufmodel.specs.Moves.{ofFile}
 use Rattle.bufmodel.proofs.WordLaws.{zero-unpinned, unpinned-none, Held}
@@ -178,7 +178,7 @@ module _ (m : Memory) (v : View) (k : Kept m v) (f : FileName) (r : ℕ) (e : ro
       dropped-kept =
           record {
             good = cleared-good m d f x e;
-            words = λ i l full. let u = in-use i l full in subst Held (sym (x .word i (λ z. u .2))) (k .words i (u .0) (u .1));
+            words = λ i l full. let u = in-use i l full in subst (Held (capOf m)) (sym (x .word i (λ z. u .2))) (k .words i (u .0) (u .1));
             same = dropped-same;
             unpinned = dropped-unpinned;
             unmarked = λ g none.

@@ -63,19 +63,19 @@ module _ (c : Call) (m : Lent) (answer : List ℕ) where
   slice-refused ne = rw (ne-eqb (length answer) 4 ne) refl
 
   module _ (la : length answer ≡ 4) where
-    short : length (m .control) ≢ 5 → Refuses 1 (own c) m zeros ends
+    short : length (m .control) ≢ 6 → Refuses 1 (own c) m zeros ends
     unfolding called
-    short ne = rw (eq-eqb (length answer) 4 la, ne-eqb (length (m .control)) 5 ne) refl
+    short ne = rw (eq-eqb (length answer) 4 la, ne-eqb (length (m .control)) 6 ne) refl
 
-    long : length (m .control) ≡ 5 → ends ≡ ended m stepped (stepped .refusal)
+    long : length (m .control) ≡ 6 → ends ≡ ended m stepped (stepped .refusal)
     unfolding called
-    long lc = rw (eq-eqb (length answer) 4 la, eq-eqb (length (m .control)) 5 lc) refl
+    long lc = rw (eq-eqb (length answer) 4 la, eq-eqb (length (m .control)) 6 lc) refl
 
     -- ---- refused
-    left : length (m .control) ≡ 5 → stepped .refusal ≢ 0 → Refuses (stepped .refusal) (own c) m zeros ends
+    left : length (m .control) ≡ 6 → stepped .refusal ≢ 0 → Refuses (stepped .refusal) (own c) m zeros ends
     left lc h = long lc ∙ ended-refused m (own c) (opened m) (stepped .refusal) h (step-refused (opened m) c h)
 
-    result-is : length (m .control) ≡ 5 → ends .result ≡ stepped .refusal
+    result-is : length (m .control) ≡ 6 → ends .result ≡ stepped .refusal
     result-is lc = ap (λ (r : Called). r .result) (long lc) ∙ ended-number m stepped (stepped .refusal)
 
     call-refused : ends .result ≢ 0 → Refuses (ends .result) (own c) m zeros ends
@@ -87,10 +87,10 @@ module _ (c : Call) (m : Lent) (answer : List ℕ) where
         (λ ne.
         let e = short ne in
         subst (λ (k : ℕ). Refuses k (own c) m zeros ends) (sym (ap (λ (r : Called). r .result) e)) e)
-        (eq-or-ne (length (m .control)) 5)
+        (eq-or-ne (length (m .control)) 6)
 
     -- by a place of all calls
-    early : {k : ℕ} → length (m .control) ≡ 5 → checked (opened m) [] ≡ suc k → Refuses (suc k) (own c) m zeros ends
+    early : {k : ℕ} → length (m .control) ≡ 6 → checked (opened m) [] ≡ suc k → Refuses (suc k) (own c) m zeros ends
     early {k} lc e =
         let o : stepped ≡ refused (suc k) (own c) (opened m) =
         step-is (opened m) c
@@ -102,7 +102,7 @@ module _ (c : Call) (m : Lent) (answer : List ℕ) where
     unfolding sized
     sizes-refused nay true e = short (λ lc. nay (sizes-say _ _ .holds e, lc))
     sizes-refused nay false e =
-        ⊎-elim (λ lc. early lc (gives-one (opened m) e)) (λ ne. short ne) (eq-or-ne (length (m .control)) 5)
+        ⊎-elim (λ lc. early lc (gives-one (opened m) e)) (λ ne. short ne) (eq-or-ne (length (m .control)) 6)
 
     module _ (fits : Fitting m) where
       books-refused : (BooksSound (opened m) → ⊥) → (t : Bool) → sound (opened m) ≡ t → Refuses 2 (own c) m zeros ends
@@ -115,16 +115,16 @@ module _ (c : Call) (m : Lent) (answer : List ℕ) where
       number-is b = result-is (fits .1) ∙ step-number (opened m) (record { sizes = fits .0; books = b }) c
 
 -- ---- set up
-set-up-slice : (m : Lent) (p at : ℕ) (answer : List ℕ) → length answer ≢ 4
-    → Refuses 1 [] m answer (called (λ k. setUp k p at) m [] answer)
+set-up-slice : (m : Lent) (p at cap : ℕ) (answer : List ℕ) → length answer ≢ 4
+    → Refuses 1 [] m answer (called (λ k. setUp k p at cap) m [] answer)
 unfolding called
-set-up-slice m p at answer ne = rw (ne-eqb (length answer) 4 ne) refl
+set-up-slice m p at cap answer ne = rw (ne-eqb (length answer) 4 ne) refl
 
 -- DEMAND 1
 pub demand-1 : Demand1
 demand-1 =
     record {
-      setsUp = λ p at m answer. record { slice = set-up-slice m p at answer; sizes = sets-up m p at answer };
+      setsUp = λ p at cap m answer. record { slice = set-up-slice m p at cap answer; sizes = sets-up m p at cap answer };
       calls = λ c m answer.
           record {
             slice = slice-refused c m answer;

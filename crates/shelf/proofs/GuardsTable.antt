@@ -19,7 +19,7 @@ use Rattle.buftag.specs.declared.name.PageName.{PageName}
 use Rattle.buftag.specs.Link.{linkOf}
 use Rattle.bufmodel.specs.Word.{pins, empty, pinned, dirty, pinLess}
 use Rattle.bufmodel.specs.Rows.{rowOf, placeOf}
-use Rattle.bufmodel.specs.Memory.{Memory, buffers, size, wordOf, pageOf, withStates, withInserted, withFlushed}
+use Rattle.bufmodel.specs.Memory.{Memory, buffers, size, capOf, wordOf, pageOf, withStates, withInserted, withFlushed}
 use Rattle.bufmodel.specs.Books.{emptyAt}
 use Rattle.bufmodel.specs.Sweep.{Swept, sweepAll}
 use Rattle.bufmodel.specs.Moves.{writeBack, writeUpTo, ofFile}
@@ -98,7 +98,7 @@ module _ (m : Memory) where
     unfolding pinSwept pinVictim
     victim-accepted s e = rw e refl
 
-    new-accepted : {v : ℕ} → sweepAll (m .states) (m .control .hand) .victim ≡ found v → (l : Link) → pinNew m n l .refusal ≡ 0
+    new-accepted : {v : ℕ} → sweepAll (capOf m) (m .states) (m .control .hand) .victim ≡ found v → (l : Link) → pinNew m n l .refusal ≡ 0
     unfolding pinNew pinFree
     new-accepted e (To i) = refl
     new-accepted e End = victim-accepted _ e

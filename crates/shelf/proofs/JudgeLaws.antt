@@ -1,21 +1,23 @@
 -- A pool that meets the claims for a set up and a list of calls is judged fine on them: each test passes where its clause holds.
 use Prim.Native.Nat.{ℕ, zero, suc, _+_, _^_, _<_}
 use mathlib.Core.Path.{_≡_, refl, ap, _∙_}
-use mathlib.Core.Bool.{Bool, true, false, not, cond}
-use mathlib.Core.Logic.{_↔_}
+use mathlib.Core.Bool.{Bool, true, false, not, _&&_, cond}
+use mathlib.Core.Logic.{_⊎_, ⊎-elim, _↔_}
 use mathlib.Core.List.{List, [], _∷_}
 use lib.ListN.{length, getD, take, drop}
 use lib.Dec.{eqb}
 use borrow.Author.Tests.{eq-eqb, ne-eqb, eqb-true, eqb-false, le-leb, lt-ltb, not-true}
 use Rattle.laws.specs.First.{Found, found, missing}
 use Rattle.laws.specs.Block.{block}
-use Rattle.laws.proofs.Tests.{and-true}
+use Rattle.laws.specs.Says.{Says}
+use Rattle.laws.proofs.Tests.{true-or-false, and-true}
 use Rattle.laws.proofs.Every.{all-of}
-use Rattle.laws.proofs.Says.{says-eq, says-and, says-as, says-it}
+use Rattle.laws.proofs.Says.{says-eq, says-le, says-and, says-as, says-it}
 use Rattle.buftag.specs.declared.name.PageName.{PageName}
 use Rattle.bufmodel.specs.Rows.{files, blocksAt, startOf, placeOf}
 use Rattle.bufmodel.specs.Checksum.{bare, bareFrom}
 use Rattle.bufmodel.specs.Memory.{Memory, wordOf, nameOf}
+use Rattle.bufmodel.specs.Sizes.{sizedFor}
 use Rattle.bufmodel.specs.Books.{isFound}
 use Rattle.bufmodel.specs.Outcome.{Outcome, one, two}
 use Rattle.bufmodel.specs.Calls.{part}
@@ -33,6 +35,7 @@ use Rattle.shelf.specs.Statement.{
   Agrees,
   Left,
   Fresh,
+  Lends,
   SetsUp,
   Pool,
   Made,
@@ -94,9 +97,9 @@ use Rattle.shelf.proofs.TestLaws.{
 use Rattle.shelf.proofs.JudgePublishedLaws.{said-pass, leaves-after, clock-pass, name-pass, page-pass}
 
 -- ---- SetsUp
-fresh-pass : (m k : Lent) (p at : ℕ) → Fresh m k p at → freshTest m p k ≡ true
+fresh-pass : (m k : Lent) (p at cap : ℕ) → Fresh m k p at cap → freshTest m p k ≡ true
 unfolding freshTest
-fresh-pass m k p at h =
+fresh-pass m k p at cap h =
     and-true
     (and-true
     (and-true
@@ -106,17 +109,31 @@ fresh-pass m k p at h =
     (links-pass (h .alike)))
     (chains-pass (h .alike))
 
-set-up-pass : (m : Lent) (p at : ℕ) (r : Called) → SetsUp m p at r → Passes (setUpTests m p at r)
+-- the number that refuses
+number-pass : (m : Lent) (p k : ℕ) → ((k ≡ 1) × (Lends m p → ⊥)) ⊎ ((k ≡ 18) × Lends m p)
+    → eqb k (cond (sizedFor p (opened m) && eqb (length (m .control)) 6) 18 1) ≡ true
+number-pass m p k h =
+    let lends : Says (sizedFor p (opened m) && eqb (length (m .control)) 6) (Lends m p) =
+    says-and (sizes-say p (opened m)) (says-eq _ _) in
+    ⊎-elim
+    (λ x.
+    ⊎-elim (λ t. absurd (x .1 (lends .holds t))) (λ f. rw f (eq-eqb k 1 (x .0)))
+    (true-or-false (sizedFor p (opened m) && eqb (length (m .control)) 6)))
+    (λ y. rw (lends .shown (y .1)) (eq-eqb k 18 (y .0)))
+    h
+
+set-up-pass : (m : Lent) (p at cap : ℕ) (r : Called) → SetsUp m p at cap r → Passes (setUpTests m p at cap r)
 unfolding setUpTests
-set-up-pass m p at r h =
-    both (says-eq _ _) (says-and (sizes-say p (opened m)) (says-eq _ _)) (h .accepted)
-    & if-done (r .result) (λ z. fresh-pass m (r .lent) p at (h .fresh z))
+set-up-pass m p at cap r h =
+    both (says-eq _ _)
+    (says-and (says-and (sizes-say p (opened m)) (says-eq _ _)) (says-and (says-le 1 cap) (says-le cap 15))) (h .accepted)
+    & if-done (r .result) (λ z. fresh-pass m (r .lent) p at cap (h .fresh z))
     & if-done (r .result) (λ z. same-list (h .fresh z .control))
     & if-done (r .result) (λ z.
     and-true (and-true (same-list (ap (take some) (h .fresh z .pool))) (same-list (h .fresh z .rows)))
     (same-list (ap (take some) (h .fresh z .store))))
     & if-refused (r .result) (λ f.
-    and-true (eq-eqb _ _ (h .refused f .0)) (ap (λ (x : Lent). sameLent x m) (h .refused f .1) ∙ lent-same m))
+    and-true (number-pass m p (r .result) (h .number f)) (ap (λ (x : Lent). sameLent x m) (h .refused f) ∙ lent-same m))
     & and-true (same-list (h .answer)) (same-list (h .bytes))
     & all
 
@@ -249,6 +266,7 @@ module _ {m : Memory} {l : Ledger} {c : Call} {o : Outcome} {l′ : Ledger} (a :
       & if-refused (o .refusal) (λ f. same-list (a .kept f))
       & same-list (a .rows)
       & eq-eqb _ _ (a .inserted)
+      & eq-eqb _ _ (a .cap)
       & eq-eqb _ _ (a .flushed)
       & ordered-pass
       & others-pass
@@ -281,11 +299,14 @@ calls-fine pool m l (c ∷ cs) h =
     let r = pool .calls (c .call) m (own (c .call)) (c .answer) in
     let o = outcomeOf r in
     let l′ = ledgerAfter l (c .call) (r .answer) (r .result) in
+    let cap = l .cap in
+    let n = l .shelf .buffers in
     let left : r .result ≡ 0
-    → Leaves (opened m) o (marksAfter (opened m) (c .call)) (pagesAfter (opened m) (c .call)) (blocksAfter (opened m) (c .call)) =
-    λ z. leaves-after (opened m) o z (c .call) (h .2) in
+    → Leaves (opened m) o (marksAfter cap n (opened m) (c .call)) (pagesAfter cap n (opened m) (c .call))
+    (blocksAfter cap n (opened m) (c .call)) =
+    λ z. leaves-after cap n (opened m) o z (c .call) (h .2) in
     none-fails _ (agrees-pass (h .0))
-    ∙ none-fails _ (when-done (r .result) (λ z. said-pass (opened m) o z (c .call) (h .2)))
+    ∙ none-fails _ (when-done (r .result) (λ z. said-pass cap n (opened m) o z (c .call) (h .2)))
     ∙ none-fails _ (when-done (r .result) (λ z. clock-pass (opened m) o (left z)))
     ∙ none-fails _ (left-pass m r l′ (h .1))
     ∙ none-fails _ (when-done (r .result) (λ z. name-pass (opened m) o (left z)))
@@ -297,12 +318,12 @@ if-accepted : (r : ℕ) {v : Verdict} → (r ≡ 0 → v ≡ Fine) → ifAccepte
 if-accepted zero h = h refl
 if-accepted (suc k) h = refl
 
-pub judge-fine : (pool : Pool) → Demand3For pool → (m : Lent) (p at : ℕ) (answer : List ℕ) (calls : List Made) → FitsLent m
-    → p < 2 ^ 64 → at < 2 ^ 64 → length answer ≡ answerWords → FitsMade calls
-    → judge pool m p at answer calls ≡ Fine
+pub judge-fine : (pool : Pool) → Demand3For pool → (m : Lent) (p at cap : ℕ) (answer : List ℕ) (calls : List Made) → FitsLent m
+    → p < 2 ^ 64 → at < 2 ^ 64 → cap < 2 ^ 64 → length answer ≡ answerWords → FitsMade calls
+    → judge pool m p at cap answer calls ≡ Fine
 unfolding judge
-judge-fine pool d m p at answer calls fits q w long made =
-    let r = pool .setsUp p at m answer in
-    let h = d m p at answer calls fits q w long made in
-    none-fails _ (set-up-pass m p at r (h .0))
-    ∙ if-accepted (r .result) (λ z. calls-fine pool (r .lent) (firstLedger (opened m) p at) calls (h .1 z))
+judge-fine pool d m p at cap answer calls fits q w c long made =
+    let r = pool .setsUp p at cap m answer in
+    let h = d m p at cap answer calls fits q w c long made in
+    none-fails _ (set-up-pass m p at cap r (h .0))
+    ∙ if-accepted (r .result) (λ z. calls-fine pool (r .lent) (firstLedger (opened m) p at cap) calls (h .1 z))

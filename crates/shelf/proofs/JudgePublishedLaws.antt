@@ -1,5 +1,5 @@
 -- Each test of what an accepted call answers and leaves passes where demand 2's clause holds.
-use Prim.Native.Nat.{ℕ, _*_, _≤_}
+use Prim.Native.Nat.{ℕ, _+_, _*_, _≤_}
 use native.Mathlib.Omega.{arith}
 use mathlib.Core.Path.{_≡_, refl, sym, ap, _∙_, subst}
 use mathlib.Core.Bool.{true}
@@ -12,7 +12,7 @@ use Rattle.buftag.specs.declared.link.Link.{Link}
 use Rattle.buftag.specs.declared.lookup.Held.{Held}
 use Rattle.buftag.specs.declared.lookup.Held.the-variants.{At, Nowhere}
 use Rattle.buftag.specs.declared.name.PageName.{PageName}
-use Rattle.bufmodel.specs.Memory.{Memory, buffers}
+use Rattle.bufmodel.specs.Memory.{Memory}
 use Rattle.bufmodel.specs.Rows.{placeOf}
 use Rattle.bufmodel.specs.Sweep.{Swept}
 use Rattle.bufmodel.specs.Outcome.{Outcome}
@@ -57,38 +57,38 @@ use Rattle.shelf.proofs.TestLaws.{
   chains-pass,
 }
 
-module _ (m : Memory) (o : Outcome) where
+module _ (cap many : ℕ) (m : Memory) (o : Outcome) where
   -- ---- a pin: its answer, and what it leaves
   record PinFine (n : PageName) (x : Held) : Type 0 where
-    said : pinTest m (o .answer) x ≡ true
-    leaves : Leaves m o (pinMarks m n x) (pinPages m n x) (pinBlocks m x)
+    said : pinTest cap many m (o .answer) x ≡ true
+    leaves : Leaves m o (pinMarks cap many m n x) (pinPages cap many m n x) (pinBlocks cap many m x)
 
   -- what a pin leaves that loads the page where a link leads; into a sweep's victim
   abbrev New : PageName → Link → Type 0
-  New n x = Leaves m o (newMarks m n x) (newPages m n x) (newBlocks m x)
+  New n x = Leaves m o (newMarks cap many m n x) (newPages cap many m n x) (newBlocks cap many m x)
 
   abbrev Taken : PageName → Swept → Found → Type 0
-  Taken n s x = Leaves m o (sweptMarks m n s x) (sweptPages m n x) (sweptBlocks m x)
+  Taken n s x = Leaves m o (sweptMarks cap many m n s x) (sweptPages cap many m n x) (sweptBlocks cap many m x)
 
   -- the page loaded is the block at its place
   loads : (n : PageName) {g : ℕ} {k : Marks} {store : ℕ → List ℕ} (i : ℕ) → placeOf (m .rows) n ≡ found g
-      → Leaves m o k (loadedPages m i (found g)) store → Leaves m o k (loadedPages m i (placeOf (m .rows) n)) store
-  loads n {k} {store} i e = subst (λ (x : Found). Leaves m o k (loadedPages m i x) store) (sym e)
+      → Leaves m o k (loadedPages cap many m i (found g)) store → Leaves m o k (loadedPages cap many m i (placeOf (m .rows) n)) store
+  loads n {k} {store} i e = subst (λ (x : Found). Leaves m o k (loadedPages cap many m i x) store) (sym e)
 
-  pin-fine : (n : PageName) (k : ℕ) → Probes m n o k → k ≤ 6 * buffers m → o .refusal ≡ 0 → PinFine n (heldIn m n)
+  pin-fine : (n : PageName) (k : ℕ) → Probes m n cap o k → k ≤ (cap + 1) * many → o .refusal ≡ 0 → PinFine n (heldIn m n)
   unfolding pinTest newTest sweptTest pinMarks newMarks sweptMarks loadedPages pinPages newPages sweptPages pinBlocks newBlocks sweptBlocks
   pin-fine n _ (hit {b} e z a h) l q = subst (PinFine n) (sym e) (record { said = same-list a; leaves = h })
   pin-fine n _ (free {i} e f z a p h) l q =
       subst (PinFine n) (sym e)
-      (record { said = ap (newTest m (o .answer)) f ∙ same-list a; leaves = subst (New n) (sym f) (loads n i p h) })
+      (record { said = ap (newTest cap many m (o .answer)) f ∙ same-list a; leaves = subst (New n) (sym f) (loads n i p h) })
   pin-fine n _ (early a b) l q = absurd (a q)
   pin-fine n _ (taken {s} {v} e f z w t a p h) l q =
-      let is : sweepOf m ≡ s = sweep-is (6 * buffers m) w l in
+      let is : sweepOf cap many m ≡ s = sweep-is ((cap + 1) * many) w l in
       subst (PinFine n) (sym e)
       (record {
         said =
-            ap (newTest m (o .answer)) f ∙ ap (λ (x : Swept). sweptTest m (o .answer) x (x .victim)) is
-            ∙ ap (sweptTest m (o .answer) s) t
+            ap (newTest cap many m (o .answer)) f ∙ ap (λ (x : Swept). sweptTest cap many m (o .answer) x (x .victim)) is
+            ∙ ap (sweptTest cap many m (o .answer) s) t
             ∙ same-list a;
         leaves =
             subst (New n) (sym f)
@@ -96,17 +96,17 @@ module _ (m : Memory) (o : Outcome) where
       })
   pin-fine n _ (stuck e f z w t) l q = absurd (omega arith)
 
-  peek-pass : (n : PageName) (x : Held) → heldIn m n ≡ x → Peeks m n o → peekTest m (o .answer) n x ≡ true
+  peek-pass : (n : PageName) (x : Held) → heldIn m n ≡ x → Peeks m n o → peekTest cap many m (o .answer) n x ≡ true
   unfolding peekTest
   peek-pass n (At b) e h = same-list (h .inPool b e)
   peek-pass n Nowhere e h = if-place _ _ (λ g q. same-list (h .inStore g e q))
 
   -- ---- every call
   module _ (z : o .refusal ≡ 0) where
-    pinned : (n : PageName) → Published m (Pin n) o → PinFine n (heldIn m n)
+    pinned : (n : PageName) → Published m cap many (Pin n) o → PinFine n (heldIn m n)
     pinned n h = let s = h .sought n refl in pin-fine n (s .probes) (s .looked) (s .bound) z
 
-    pub said-pass : (c : Call) → Published m c o → Passes (saidTests m (o .answer) (o .bytes) c)
+    pub said-pass : (c : Call) → Published m cap many c o → Passes (saidTests cap many m (o .answer) (o .bytes) c)
     unfolding saidTests
     said-pass (Pin n) h = pinned n h .said & all
     said-pass (Unpin b) h = all
@@ -120,7 +120,7 @@ module _ (m : Memory) (o : Outcome) where
     said-pass (LogInserted p) h = all
     said-pass (LogFlushed p) h = all
 
-    pub leaves-after : (c : Call) → Published m c o → Leaves m o (marksAfter m c) (pagesAfter m c) (blocksAfter m c)
+    pub leaves-after : (c : Call) → Published m cap many c o → Leaves m o (marksAfter cap many m c) (pagesAfter cap many m c) (blocksAfter cap many m c)
     unfolding marksAfter pagesAfter blocksAfter
     leaves-after (Pin n) h = pinned n h .leaves
     leaves-after (Unpin b) h = h .accepts z
@@ -134,6 +134,7 @@ module _ (m : Memory) (o : Outcome) where
     leaves-after (LogInserted p) h = h .accepts z
     leaves-after (LogFlushed p) h = h .accepts z
 
+module _ (m : Memory) (o : Outcome) where
   module _ {k : Marks} {page store : ℕ → List ℕ} (h : Leaves m o k page store) where
     pub clock-pass : Passes (clockTests m o k)
     unfolding clockTests

@@ -1,6 +1,6 @@
 -- The relation between memory and ledger that every call keeps, and what a call has to show.
 use Prim.Native.Nat.{ℕ, _≤_, _<_}
-use mathlib.Core.Path.{_≡_, sym, ap, subst}
+use mathlib.Core.Path.{_≡_, refl, sym, ap, subst}
 use mathlib.Core.Bool.{Bool, true, false, not, cond}
 use mathlib.Core.List.{List, [], _∷_}
 use Rattle.laws.specs.First.{Found, found, missing}
@@ -10,7 +10,7 @@ use Rattle.bufmodel.specs.Word.{pins, pinned, dirty}
 use Rattle.bufmodel.specs.Position.{position}
 use Rattle.bufmodel.specs.Checksum.{bare, passes}
 use Rattle.bufmodel.specs.Rows.{storeBlocks, placeOf}
-use Rattle.bufmodel.specs.Memory.{Memory, buffers, size, wordOf, nameOf, pageOf}
+use Rattle.bufmodel.specs.Memory.{Memory, buffers, size, capOf, wordOf, nameOf, pageOf}
 use Rattle.bufmodel.specs.Books.{emptyAt}
 use Rattle.bufmodel.specs.Outcome.{Outcome}
 use Rattle.bufmodel.specs.Step.{Call, step}
@@ -45,7 +45,7 @@ shelfOf m v =
 
 abbrev pub ledgerOf : Memory → View → Ledger
 ledgerOf m v =
-    record { shelf = shelfOf m v; dirty = v .dirty; last = v .last; flushed = m .control .flushed; put = v .put }
+    record { shelf = shelfOf m v; dirty = v .dirty; last = v .last; flushed = m .control .flushed; put = v .put; cap = capOf m }
 
 abbrev pub viewOf : Ledger → View
 viewOf l =
@@ -114,8 +114,10 @@ pub record Ended (m : Memory) (v : View) (c : Call) (o : Outcome) : Type 0 where
   pub shared : ledgerNext m v c o ≡ ledgerOf (o .after) (viewOf (ledgerNext m v c o))
 
 -- ---- a list of calls over the memory, by induction
--- a call that ended so
+-- a call that ended so; before it the ledger had the memory's cap and number of buffers
 pub record Ran (m : Memory) (l : Ledger) (c : Call) (o : Outcome) (l′ : Ledger) : Type 0 where
+  pub cap : l .cap ≡ capOf m
+  pub many : l .shelf .buffers ≡ buffers m
   pub good : Good (o .after)
   pub words : HeldWords (o .after)
   pub size : l′ .shelf .size ≡ size (o .after)
@@ -141,6 +143,13 @@ pub runs-of : Steps → (m : Memory) (v : View) (calls : List Call) → Kept m v
 runs-of steps m v [] k f = tt
 runs-of steps m v (c ∷ cs) k f =
     let s = steps m v c k (f .0) in (
-      record { good = s .kept .good; words = s .kept .words; size = ap (λ (l : Ledger). l .shelf .size) (s .shared); agrees = s .agrees },
+      record {
+        cap = refl;
+        many = refl;
+        good = s .kept .good;
+        words = s .kept .words;
+        size = ap (λ (l : Ledger). l .shelf .size) (s .shared);
+        agrees = s .agrees;
+      },
       subst (λ (l : Ledger). Runs (step m c .after) l cs) (sym (s .shared)) (runs-of steps _ _ cs (s .kept) (f .1)),
     )

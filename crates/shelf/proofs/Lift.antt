@@ -40,12 +40,13 @@ abbrev Says : Memory → Lent → Ledger → Made → List Made → Called → T
 Says m k l c cs r =
     let o = outcomeOf r in
     let l′ = ledgerAfter l (c .call) (o .answer) (o .refusal) in
-    Agrees m l (c .call) o l′ × Left k r l′ × Published m (c .call) o × ClaimFor (calling step) (r .lent) l′ cs
+    Agrees m l (c .call) o l′ × Left k r l′ × Published m (l .cap) (l .shelf .buffers) (c .call) o
+    × ClaimFor (calling step) (r .lent) l′ cs
 
 -- the words of a control record, one by one
-words-are : {a b c d e a′ b′ c′ d′ e′ : ℕ} → a ≡ a′ → b ≡ b′ → c ≡ c′ → d ≡ d′ → e ≡ e′
-    → _≡_ {A = List ℕ} (a ∷ b ∷ c ∷ d ∷ e ∷ []) (a′ ∷ b′ ∷ c′ ∷ d′ ∷ e′ ∷ [])
-words-are f g h i j = cc
+words-are : {a b c d e f a′ b′ c′ d′ e′ f′ : ℕ} → a ≡ a′ → b ≡ b′ → c ≡ c′ → d ≡ d′ → e ≡ e′ → f ≡ f′
+    → _≡_ {A = List ℕ} (a ∷ b ∷ c ∷ d ∷ e ∷ f ∷ []) (a′ ∷ b′ ∷ c′ ∷ d′ ∷ e′ ∷ f′ ∷ [])
+words-are p q r s t u = cc
 
 -- −1 as 64 one bits
 top-word : (t : ℤ) → lent.topWord t ≡ topWord t
@@ -68,7 +69,7 @@ left-is m l c r =
       control =
           words-are (sym (r .size)) (ap (λ (x : Memory). x .control .hand) (sym back))
           (top-word (o .after .control .top) ∙ ap (λ (x : Memory). topWord (x .control .top)) (sym back)) (r .agrees .inserted)
-          (r .agrees .flushed);
+          (r .agrees .flushed) (r .agrees .cap);
     }
 
 -- what holds of the calls over the memory holds of those that the till program makes
@@ -81,7 +82,8 @@ lift m l (c ∷ cs) g w f r =
     let says : Says m (closed m) l c cs (calledOf o) = (
       subst (λ (x : Outcome). Agrees m l (c .call) x (ledgerAfter l (c .call) (x .answer) (x .refusal))) (sym back) (r .0 .agrees),
       left-is m l (c .call) (r .0),
-      subst (Published m (c .call)) (sym back) (published m (c .call) g w),
+      subst (Published m (l .cap) (l .shelf .buffers) (c .call)) (sym back)
+      (rw (r .0 .cap, r .0 .many) (published m (c .call) g w)),
       lift (o .after) _ cs (r .0 .good) (r .0 .words) (f .2) (r .1),
     ) in
     let fits = top-fits m g in

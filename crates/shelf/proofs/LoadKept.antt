@@ -12,13 +12,13 @@ use Rattle.buftag.specs.declared.lookup.Held.the-variants.{Nowhere}
 use Rattle.buftag.specs.declared.name.PageName.{PageName}
 use Rattle.buftag.specs.Link.{linkOf}
 use Rattle.bufmodel.specs.Checksum.{bare}
-use Rattle.bufmodel.specs.Word.{pins, pinned, dirty, loaded}
+use Rattle.bufmodel.specs.Word.{pins, pinned, dirty, cleanFlags, loaded}
 use Rattle.bufmodel.specs.Rows.{placeOf, storeBlocks}
-use Rattle.bufmodel.specs.Memory.{Memory, buffers, size, wordOf, nameOf, pageOf}
+use Rattle.bufmodel.specs.Memory.{Memory, buffers, size, capOf, wordOf, nameOf, pageOf}
 use Rattle.bufmodel.specs.Books.{emptyAt}
 use Rattle.bufmodel.specs.Moves.{loadAt}
 use Rattle.bufmodel.specs.Pin.{heldIn}
-use Rattle.bufmodel.proofs.WordLaws.{pins-pinned, Held, loaded-fields}
+use Rattle.bufmodel.proofs.WordLaws.{pins-pinned, Held, Fields, loaded-fields}
 use Rattle.bufmodel.proofs.RowsLaws.{place-in}
 use Rattle.bufmodel.proofs.FreeListLaws.{top-empty}
 use Rattle.bufmodel.proofs.LoadLaws.{load-buffers, load-word, load-name, load-kept, load-page}
@@ -96,6 +96,10 @@ module _ (m : Memory) (v : View) (k : Kept m v) (n : PageName) (i g : ℕ) (top 
   own-word : wordOf after i ≡ loaded
   own-word = load-own m n i g below
 
+  -- every cap allows its usage
+  one-use : Fields (capOf m) loaded 1 1 cleanFlags false
+  one-use = loaded-fields (k .good .books .cap .0)
+
   own-page : pageOf after i ≡ block (size m) g (m .store)
   own-page = load-own-page m n i g (k .good) below stands
 
@@ -105,8 +109,8 @@ module _ (m : Memory) (v : View) (k : Kept m v) (n : PageName) (i g : ℕ) (top 
       let one : v .counts g + 1 ≡ 1 = omega (arith, k .unpinned g none) in
       record {
         bytes = k .stored n g place none ∙ ap bare (sym own-page);
-        counts = with-same g (v .counts g + 1) (v .counts) ∙ one ∙ sym (ap pins own-word ∙ loaded-fields .pins);
-        marked = k .unmarked g none ∙ sym (ap dirty own-word ∙ loaded-fields .dirty);
+        counts = with-same g (v .counts g + 1) (v .counts) ∙ one ∙ sym (ap pins own-word ∙ one-use .pins);
+        marked = k .unmarked g none ∙ sym (ap dirty own-word ∙ one-use .dirty);
         last = with-same i (found g) (v .last);
         clean = λ d. ap bare (sym own-page);
         fine = fine;
@@ -130,10 +134,10 @@ module _ (m : Memory) (v : View) (k : Kept m v) (n : PageName) (i g : ℕ) (top 
       }
 
   -- ---- all that the relation says
-  load-words : (j : ℕ) → j < buffers m → emptyAt after j ≡ false → Held (wordOf after j)
+  load-words : (j : ℕ) → j < buffers m → emptyAt after j ≡ false → Held (capOf m) (wordOf after j)
   load-words j l f =
       ⊎-elim
-      (λ e. subst (λ (x : ℕ). Held (wordOf after x)) (sym e) (subst Held (sym own-word) (loaded-fields .held)))
+      (λ e. subst (λ (x : ℕ). Held (capOf m) (wordOf after x)) (sym e) (subst (Held (capOf m)) (sym own-word) (one-use .held)))
       (λ ne. rw (load-word m n i g j ne) (k .words j l (sym (load-kept m n i g j ne) ∙ f)))
       (eq-or-ne j i)
 
@@ -148,7 +152,7 @@ module _ (m : Memory) (v : View) (k : Kept m v) (n : PageName) (i g : ℕ) (top 
 
   -- the word of a page just loaded is pinned
   own-pinned : pinned (wordOf after i) ≡ true
-  own-pinned = ap pinned own-word ∙ pins-pinned loaded (omega (arith, loaded-fields .pins))
+  own-pinned = ap pinned own-word ∙ pins-pinned loaded (omega (arith, one-use .pins))
 
   own-place : placeOf (m .rows) (nameOf after i) ≡ found g
   own-place = ap (placeOf (m .rows)) (load-own-name m n i g (k .good) below) ∙ place

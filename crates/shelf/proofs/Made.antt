@@ -11,9 +11,9 @@ use Rattle.bufmodel.specs.Step.{Pin, Unpin, Read, Write, Flush, Checkpoint, Pee
 use Rattle.bufmodel.specs.Lent.{Lent, called}
 use Rattle.shelf.specs.Statement.{own, calling}
 
-pub set-up-made : (p at : ℕ) (l : Lent) (answer : List ℕ)
-    → called (λ m. setUp m p at) l [] answer ≡ calling step .setsUp p at l answer
-set-up-made p at l answer = refl
+pub set-up-made : (p at cap : ℕ) (l : Lent) (answer : List ℕ)
+    → called (λ m. setUp m p at cap) l [] answer ≡ calling step .setsUp p at cap l answer
+set-up-made p at cap l answer = refl
 
 pub pin-made : (n : PageName) (l : Lent) (answer : List ℕ)
     → called (λ m. pin m n) l [] answer ≡ calling step .calls (Pin n) l (own (Pin n)) answer

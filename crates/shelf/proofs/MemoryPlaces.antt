@@ -16,7 +16,7 @@ use Rattle.buftag.specs.declared.name.PageName.{PageName}
 use Rattle.buftag.specs.declared.number.BufferNumber.{BufferNumber}
 use Rattle.bufmodel.specs.Word.{maxPins, pins, pinned}
 use Rattle.bufmodel.specs.Rows.{blocksAt, rowOf, placeOf}
-use Rattle.bufmodel.specs.Memory.{Memory, buffers, wordOf}
+use Rattle.bufmodel.specs.Memory.{Memory, buffers, capOf, wordOf}
 use Rattle.bufmodel.specs.Sweep.{sweepAll}
 use Rattle.bufmodel.specs.Outcome.{Place, place, refusalOf}
 use Rattle.bufmodel.specs.Pin.{noRow, noBlock, countFull, noVictim, heldIn, namePlaces, pagePlaces, pinPlaces}
@@ -141,8 +141,8 @@ module _ (m : Memory) (n : PageName) (z : refusalOf (pinPlaces m n) ≡ 0) where
       all-false-at (λ i. pinned (wordOf m i)) (buffers m) (refusal-passed 6 _ [] (omega arith) later .0)
 
   -- so the sweep finds a victim
-  pub pin-victim : Good m → heldIn m n ≡ Nowhere → (v : ℕ) × (sweepAll (m .states) (m .control .hand) .victim ≡ found v)
+  pub pin-victim : Good m → heldIn m n ≡ Nowhere → (v : ℕ) × (sweepAll (capOf m) (m .states) (m .control .hand) .victim ≡ found v)
   pin-victim g e =
       let u = pin-open e in
-      let f = sweep-finds (m .states) (m .control .hand) (g .books .hand) (u .0) (u .1) (u .2) (few-used m (g .books)) in
+      let f = sweep-finds (capOf m) (m .states) (m .control .hand) (g .books .hand) (u .0) (u .1) (u .2) (few-used m (g .books)) in
       (f .0, f .1)

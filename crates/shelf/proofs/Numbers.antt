@@ -148,14 +148,14 @@ numbers =
       bit28 = λ w. refl;
       bit31 = λ w. refl;
       emptyWord = λ w. refl;
-      zeroSound = refl;
-      sound = λ w ne.
+      zeroSound = λ cap. refl;
+      sound = λ cap w ne.
           let on : (p : ℕ) → Says (eqb (w / p % 2) 1) (w / p % 2 ≡ 1) = λ p. says-eq (w / p % 2) 1 in
           let three = says-and (says-and (on 16777216) (on 33554432)) (on 2147483648) in
           let dirt = both-or-neither (w / 8388608) (w / 268435456) in
           let low = says-and (says-and (bit-off (w / 4194304)) (bit-off (w / 67108864))) (bit-off (w / 134217728)) in
           let others = says-and (says-and low (bit-off (w / 536870912))) (bit-off (w / 1073741824)) in
-          let says = says-and (says-le (w / 262144 % 16) 5) (says-and (says-and three dirt) others) in
+          let says = says-and (says-le (w / 262144 % 16) cap) (says-and (says-and three dirt) others) in
           let word = says-else (eqb w 0) says in (
             λ s.
                 let k = word .holds s (ne-eqb w 0 ne) in

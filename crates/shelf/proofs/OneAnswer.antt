@@ -84,10 +84,10 @@ same-victim e f g p q =
 
 -- what a pin of page n leaves: of a held page; loaded from a place into the free list's top; into a sweep's victim
 module _ (m : Memory) where
-  abbrev hits : BufferNumber → Rest
-  hits b =
+  abbrev hits : ℕ → BufferNumber → Rest
+  hits cap b =
       record {
-        marks = withWords (with (b .0) (morePins (wordOf m (b .0))) (wordOf m)) (m .control .hand) (marksOf m);
+        marks = withWords (with (b .0) (morePins cap (wordOf m (b .0))) (wordOf m)) (m .control .hand) (marksOf m);
         page = pageOf m;
         store = blocksOf m;
       }
@@ -106,9 +106,9 @@ module _ (m : Memory) where
         store = backed m v (blocksOf m);
       }
 
-module _ {m : Memory} {n : PageName} {o o′ : Outcome} (z : o .refusal ≡ 0) (z′ : o′ .refusal ≡ 0) where
-  both-pins : {a b : ℕ} → Probes m n o a → Probes m n o′ b → Both m o o′
-  both-pins (hit h e a k) (hit h′ e′ a′ k′) = chosen (λ b. b .0 ∷ 1 ∷ 0 ∷ 0 ∷ []) (hits m) (same-at h h′) a a′ k k′
+module _ {m : Memory} {n : PageName} {cap : ℕ} {o o′ : Outcome} (z : o .refusal ≡ 0) (z′ : o′ .refusal ≡ 0) where
+  both-pins : {a b : ℕ} → Probes m n cap o a → Probes m n cap o′ b → Both m o o′
+  both-pins (hit h e a k) (hit h′ e′ a′ k′) = chosen (λ b. b .0 ∷ 1 ∷ 0 ∷ 0 ∷ []) (hits m cap) (same-at h h′) a a′ k k′
   both-pins (hit h e a k) (free h′ t′ e′ a′ p′ k′) = held-clash h h′
   both-pins (hit h e a k) (early e′ s′) = absurd (e′ z′)
   both-pins (hit h e a k) (taken h′ t′ e′ w′ v′ a′ p′ k′) = held-clash h h′
@@ -143,8 +143,9 @@ module _ {m : Memory} {n : PageName} {o o′ : Outcome} {g : ℕ} (e : placeOf (
 same-one : {xs ys : List ℕ} {a b k : ℕ} → xs ≡ one a → ys ≡ one b → getD xs 0 0 ≡ k → getD ys 0 0 ≡ k → xs ≡ ys
 same-one e f x y = e ∙ ap one (sym (ap (λ l. getD l 0 0) e) ∙ x ∙ sym y ∙ ap (λ l. getD l 0 0) f) ∙ sym f
 
-module _ {m : Memory} {l x x′ : Ledger} {o o′ : Outcome} (rows : m .rows ≡ l .shelf .rows) (z : o .refusal ≡ 0) (z′ : o′ .refusal ≡ 0) where
-  pub both : (c : Call) → Agrees m l c o x → Agrees m l c o′ x′ → Published m c o → Published m c o′ → Both m o o′
+module _ {m : Memory} {l x x′ : Ledger} {cap many : ℕ} {o o′ : Outcome} (rows : m .rows ≡ l .shelf .rows) (z : o .refusal ≡ 0)
+    (z′ : o′ .refusal ≡ 0) where
+  pub both : (c : Call) → Agrees m l c o x → Agrees m l c o′ x′ → Published m cap many c o → Published m cap many c o′ → Both m o o′
   both (Pin n) a a′ p p′ = both-pins z z′ (p .sought n refl .looked) (p′ .sought n refl .looked)
   both (Unpin b) a a′ p p′ = same-left (a .answers z ∙ sym (a′ .answers z′)) (p .accepts z) (p′ .accepts z′)
   both (Read b from out) a a′ p p′ = same-left (a .answers z ∙ sym (a′ .answers z′)) (p .accepts z .0) (p′ .accepts z′ .0)
@@ -169,7 +170,8 @@ module _ {m : Memory} {l x x′ : Ledger} {o o′ : Outcome} (rows : m .rows ≡
   both (LogFlushed p) a a′ q q′ = same-left (a .answers z ∙ sym (a′ .answers z′)) (q .accepts z) (q′ .accepts z′)
 
   -- the caller's bytes
-  pub same-bytes : (c : Call) → Agrees m l c o x → Agrees m l c o′ x′ → Published m c o → Published m c o′ → o .bytes ≡ o′ .bytes
+  pub same-bytes : (c : Call) → Agrees m l c o x → Agrees m l c o′ x′ → Published m cap many c o → Published m cap many c o′
+      → o .bytes ≡ o′ .bytes
   same-bytes (Pin n) a a′ p p′ = a .shows z .3 ∙ sym (a′ .shows z′ .3)
   same-bytes (Unpin b) a a′ p p′ = a .shows z ∙ sym (a′ .shows z′)
   same-bytes (Read b from out) a a′ p p′ = p .accepts z .1 ∙ sym (p′ .accepts z′ .1)

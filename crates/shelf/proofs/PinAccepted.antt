@@ -13,7 +13,7 @@ use Rattle.bufmodel.specs.Word.{pinned}
 use Rattle.bufmodel.specs.Position.{position}
 use Rattle.bufmodel.specs.Checksum.{bare}
 use Rattle.bufmodel.specs.Rows.{storeBlocks, placeOf}
-use Rattle.bufmodel.specs.Memory.{Memory, buffers, size, wordOf}
+use Rattle.bufmodel.specs.Memory.{Memory, buffers, size, capOf, wordOf}
 use Rattle.bufmodel.specs.Outcome.{done}
 use Rattle.bufmodel.specs.Step.{Pin}
 use Rattle.shelf.specs.Shelf.{with, refuses, pinnedAt, shelfAfter}
@@ -94,6 +94,7 @@ module _ (m : Memory) (v : View) (n : PageName) (g : ℕ) (answer : List ℕ) (m
     pub rule : PinRule (shelfOf m v) (done answer [] m′) g
     pub many : buffers m ≡ buffers m′
     pub wide : size m ≡ size m′
+    pub cap : capOf m ≡ capOf m′
     pub rows : m .rows ≡ m′ .rows
     pub inserted : m .control .inserted ≡ m′ .control .inserted
     pub flushed : highest (ledgerOf m v) (storeBlocks (m .rows)) back (m .control .flushed) ≡ m′ .control .flushed
@@ -114,6 +115,7 @@ module _ (m : Memory) (v : View) (n : PageName) (g : ℕ) (answer : List ℕ) (m
         shows = (g, place, a .rule, refl);
         many = a .many;
         wide = a .wide;
+        cap = a .cap;
         rows = ap (λ (f : Found). pinnedAt s b f .rows) place ∙ a .rows;
         inserted = ap (λ (f : Found). pinnedAt s b f .inserted) place ∙ a .inserted;
         flushed = a .flushed;

@@ -41,6 +41,7 @@ module _ (m : Memory) (v : View) (k : Kept m v) (n : PageName) (i g : ℕ) (new 
         rule = new-rule m v k g (held-nobody m (k .good) n g place new) i (t .0) (empty-unpinned m i (t .1)) _ _;
         many = sym (load-buffers m n i g);
         wide = refl;
+        cap = refl;
         rows = refl;
         inserted = refl;
         flushed = highest-still (ledgerOf m v) (m .control .flushed) (storeBlocks (m .rows));

@@ -12,7 +12,7 @@ use Rattle.buftag.specs.declared.name.PageName.{PageName}
 use Rattle.buftag.specs.declared.number.BufferNumber.{BufferNumber}
 use Rattle.bufmodel.specs.Word.{pinMore}
 use Rattle.bufmodel.specs.Rows.{storeBlocks}
-use Rattle.bufmodel.specs.Memory.{Memory, wordOf, withStates}
+use Rattle.bufmodel.specs.Memory.{Memory, capOf, wordOf, withStates}
 use Rattle.bufmodel.specs.Outcome.{refusalOf, done}
 use Rattle.bufmodel.specs.Pin.{heldIn, pinPlaces}
 use Rattle.bufmodel.specs.Step.{Pin}
@@ -45,7 +45,7 @@ module _ (m : Memory) (v : View) (k : Kept m v) (n : PageName) (b : BufferNumber
   g = pin-place m n z .0
 
   abbrev now : Memory
-  now = withStates (set (m .states) (b .0) (pinMore word)) m
+  now = withStates (set (m .states) (b .0) (pinMore (capOf m) word)) m
 
   has : Has m (b .0) g
   has = held-has m (k .good) n g (pin-place m n z .1) b e
@@ -63,15 +63,15 @@ module _ (m : Memory) (v : View) (k : Kept m v) (n : PageName) (b : BufferNumber
 
   hit-kept : Kept now (viewLoad v (b .0) g)
   hit-kept =
-      let f = pin-more (k .words (b .0) (has .below) (has .full)) (pin-room m n z b e) in
+      let f = pin-more (k .words (b .0) (has .below) (has .full)) (k .good .books .cap .1) (pin-room m n z b e) in
       let s = k .same (b .0) g has in
-      pins-kept m v k (b .0) g has (pinMore word) (v .counts g + 1) (found g) (with (b .0) (found g) (v .last)) (f .held) (f .dirty)
+      pins-kept m v k (b .0) g has (pinMore (capOf m) word) (v .counts g + 1) (found g) (with (b .0) (found g) (v .last)) (f .held) (f .dirty)
       (omega (arith, s .counts, f .pins))
-      (ap (λ (t : Bool). cond t (found g) missing) (sym (pins-pinned (pinMore word) (omega (arith, f .pins)))))
+      (ap (λ (t : Bool). cond t (found g) missing) (sym (pins-pinned (pinMore (capOf m) word) (omega (arith, f .pins)))))
       (with-old (b .0) (found g) (v .last) (sym (s .last)))
 
   -- the pin as the program makes it, accepted
-  pub hit-accepted : Accepted m v (Pin n) (b .0 ∷ 1 ∷ 0 ∷ 0 ∷ []) [] (withStates (set (m .states) (b .0) (pinMore (wordOf m (b .0)))) m)
+  pub hit-accepted : Accepted m v (Pin n) (b .0 ∷ 1 ∷ 0 ∷ 0 ∷ []) [] (withStates (set (m .states) (b .0) (pinMore (capOf m) (wordOf m (b .0)))) m)
   unfolding bufferIn wroteIn
   hit-accepted =
       pin-accepted m v n g answer now (pin-place m n z .1)
@@ -79,8 +79,9 @@ module _ (m : Memory) (v : View) (k : Kept m v) (n : PageName) (b : BufferNumber
         number = sym (pin-number m v k n) ∙ z;
         words = (b .0, 1, 0, 0, refl);
         rule = hit-rule;
-        many = sym (length-set (m .states) (b .0) (pinMore word));
+        many = sym (length-set (m .states) (b .0) (pinMore (capOf m) word));
         wide = refl;
+        cap = refl;
         rows = refl;
         inserted = refl;
         flushed = highest-still (ledgerOf m v) (m .control .flushed) (storeBlocks (m .rows));

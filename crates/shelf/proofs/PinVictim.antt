@@ -16,7 +16,7 @@ use Rattle.buftag.specs.Link.{linkOf}
 use Rattle.bufmodel.specs.Word.{pinned, dirty}
 use Rattle.bufmodel.specs.Checksum.{bare}
 use Rattle.bufmodel.specs.Rows.{storeBlocks, placeOf}
-use Rattle.bufmodel.specs.Memory.{Memory, buffers, size, wordOf, nameOf, withStates, withHand}
+use Rattle.bufmodel.specs.Memory.{Memory, buffers, size, capOf, wordOf, nameOf, withStates, withHand}
 use Rattle.bufmodel.specs.Sweep.{Swept, Sweeps, sweepAll}
 use Rattle.bufmodel.specs.Moves.{writeBack, release, loadAt, load}
 use Rattle.bufmodel.specs.Pin.{heldIn}
@@ -48,7 +48,7 @@ wrote-ind false = refl
 
 -- ---- the sweep
 abbrev pub sweepOf : Memory → Swept
-sweepOf m = sweepAll (m .states) (m .control .hand)
+sweepOf m = sweepAll (capOf m) (m .states) (m .control .hand)
 
 -- ---- a buffer with a clean unpinned page is released, and another page that no buffer has is loaded there
 module _ (m : Memory) (v : View) (k : Kept m v) (w h : ℕ) (own : Has m w h) (free : pinned (wordOf m w) ≡ false)
@@ -148,6 +148,7 @@ module _ (m : Memory) (v : View) (k : Kept m v) (n : PageName) (w g : ℕ) (new 
               (sym (less-pinned (from .each w)) ∙ from .taken w victim .1) _ _;
           many = after-many;
           wide = refl;
+          cap = refl;
           rows = refl;
           inserted = refl;
           flushed = highest-last (ledgerOf m v) v (wroteIn answer) w (page .0) (m .control .flushed) (storeBlocks (m .rows))

@@ -3,7 +3,7 @@ use mathlib.Core.Path.{_≡_, refl, ap, subst}
 use mathlib.Core.Bool.{false}
 use mathlib.Core.Logic.{_≢_}
 use Rattle.buftag.specs.declared.name.PageName.{PageName}
-use Rattle.bufmodel.specs.Memory.{Memory}
+use Rattle.bufmodel.specs.Memory.{Memory, buffers, capOf}
 use Rattle.bufmodel.specs.Outcome.{Outcome}
 use Rattle.bufmodel.specs.Step.{Call, Pin, Unpin, Read, Write, Flush, Checkpoint, Peek, Extend, Drop, LogInserted, LogFlushed, step}
 use Rattle.bufmodel.proofs.GoodLaws.{Good}
@@ -35,14 +35,14 @@ pin-same : {a b : PageName} → Pin a ≡ Pin b → a ≡ b
 pin-same e = cc
 
 -- a call that is no pin has no probes
-other-published : {m : Memory} {c : Call} → isPin c ≡ false → Says m c → Published m c (step m c)
+other-published : {m : Memory} {c : Call} → isPin c ≡ false → Says m c → Published m (capOf m) (buffers m) c (step m c)
 other-published {m} {c} h says = record { sought = λ n e. absurd (not-pin h n e); accepts = says; same = refused-same m c }
 
 -- write, flush and checkpoint set a word's flags, and so ask what flags it had
-pub published : (m : Memory) (c : Call) → Good m → HeldWords m → Published m c (step m c)
+pub published : (m : Memory) (c : Call) → Good m → HeldWords m → Published m (capOf m) (buffers m) c (step m c)
 published m (Pin n) k held =
     record {
-      sought = λ n′ e. subst (λ (x : PageName). Sought m x (step m (Pin n))) (pin-same e) (pin-sought m k n);
+      sought = λ n′ e. subst (λ (x : PageName). Sought m x (capOf m) (buffers m) (step m (Pin n))) (pin-same e) (pin-sought m k n);
       accepts = λ z. tt;
       same = refused-same m (Pin n);
     }

@@ -1,5 +1,5 @@
 -- A pin's probes, buffer and words are as published: held, from the free list, the victim of a sweep, or refused.
-use Prim.Native.Nat.{ℕ, _*_, _≤_, _<_}
+use Prim.Native.Nat.{ℕ, _+_, _*_, _≤_, _<_}
 use mathlib.Core.Path.{_≡_, refl, sym, ap, _∙_, subst}
 use mathlib.Core.Bool.{Bool}
 use mathlib.Core.Logic.{_≢_, ⊎-elim}
@@ -23,7 +23,7 @@ use Rattle.buftag.specs.Link.{linkOf}
 use Rattle.buftag.proofs.NameLaws.{bucket-lt}
 use Rattle.bufmodel.specs.Word.{dirty}
 use Rattle.bufmodel.specs.Rows.{storeBlocks, placeOf}
-use Rattle.bufmodel.specs.Memory.{Memory, buffers, size, wordOf, nameOf, pageOf, withStates, withHand}
+use Rattle.bufmodel.specs.Memory.{Memory, buffers, size, capOf, wordOf, nameOf, pageOf, withStates, withHand}
 use Rattle.bufmodel.specs.Books.{BooksSound}
 use Rattle.bufmodel.specs.Sweep.{Swept, Sweeps, sweepAll}
 use Rattle.bufmodel.specs.Moves.{writeBack, release, loadAt, load}
@@ -59,13 +59,13 @@ load-pages m n i g l pool page j = put-with (size m) (buffers m) (blocksOf m g) 
 
 -- the sweep of a sound memory is as published, and ends in time
 pub sweep-published : (m : Memory) → BooksSound m
-    → let s = sweepAll (m .states) (m .control .hand) in
-    Sweeps (buffers m) 0 (m .control .hand) (m .states) s × (s .probes ≤ 6 * buffers m)
-sweep-published m b = sweepAll-relates (m .states) (m .control .hand) (b .hand) (few-used m b)
+    → let s = sweepAll (capOf m) (m .states) (m .control .hand) in
+    Sweeps (buffers m) 0 (m .control .hand) (m .states) s × (s .probes ≤ (capOf m + 1) * buffers m)
+sweep-published m b = sweepAll-relates (capOf m) (m .states) (m .control .hand) (b .hand) (few-used m b)
 
 module _ (m : Memory) (k : Good m) (n : PageName) where
   -- ---- refused
-  stuck-sought : refusalOf (pinPlaces m n) ≡ 6 → Sought m n (refused 6 [] m)
+  stuck-sought : refusalOf (pinPlaces m n) ≡ 6 → Sought m n (capOf m) (buffers m) (refused 6 [] m)
   stuck-sought e =
       let h = pin-stuck m n e in
       let w = sweep-stuck (m .states) (m .control .hand) (k .books .hand) (h .1) in
@@ -78,21 +78,21 @@ module _ (m : Memory) (k : Good m) (n : PageName) where
         answered = λ z. absurd (omega arith);
       }
 
-  refused-sought : (i : ℕ) → i ≢ 0 → refusalOf (pinPlaces m n) ≡ i → Sought m n (refused i [] m)
+  refused-sought : (i : ℕ) → i ≢ 0 → refusalOf (pinPlaces m n) ≡ i → Sought m n (capOf m) (buffers m) (refused i [] m)
   refused-sought i ne e =
       ⊎-elim
-      (λ q. subst (λ (j : ℕ). Sought m n (refused j [] m)) (sym q) (stuck-sought (e ∙ q)))
+      (λ q. subst (λ (j : ℕ). Sought m n (capOf m) (buffers m) (refused j [] m)) (sym q) (stuck-sought (e ∙ q)))
       (λ f. record { probes = 0; looked = early ne f; bound = omega arith; atSix = λ z. absurd (f z); answered = λ z. absurd (ne z) })
       (eq-or-ne i 6)
 
   -- ---- held
-  hit-sought : (b : BufferNumber) → heldIn m n ≡ At b → Sought m n (pinHeld m (b .0))
+  hit-sought : (b : BufferNumber) → heldIn m n ≡ At b → Sought m n (capOf m) (buffers m) (pinHeld m (b .0))
   unfolding pinHeld
   hit-sought b e =
       record {
         probes = 0;
         looked = hit {b = b} e refl refl
-            (stays-set m _ refl refl (held-at m n b e .0) (more-pins (wordOf m (b .0))) refl (λ j l. refl) (λ g l. refl));
+            (stays-set m _ refl refl (held-at m n b e .0) (more-pins (capOf m) (wordOf m (b .0))) refl (λ j l. refl) (λ g l. refl));
         bound = omega arith;
         atSix = λ q. absurd (omega arith);
         answered = λ q. refl;
@@ -123,10 +123,10 @@ module _ (m : Memory) (k : Good m) (n : PageName) where
           blocks = λ h l. refl;
         }
 
-    free-sought : (i : ℕ) → linkOf (m .control .top) ≡ To i → Sought m n (pinFree m n i)
+    free-sought : (i : ℕ) → linkOf (m .control .top) ≡ To i → Sought m n (capOf m) (buffers m) (pinFree m n i)
     unfolding pinFree
     free-sought i top =
-        subst (λ (o : Memory). Sought m n (done (i ∷ 0 ∷ 0 ∷ 0 ∷ []) [] o)) (sym (load-is m n i g top place))
+        subst (λ (o : Memory). Sought m n (capOf m) (buffers m) (done (i ∷ 0 ∷ 0 ∷ 0 ∷ []) [] o)) (sym (load-is m n i g top place))
         (record {
           probes = 0;
           looked = free new top refl refl place (free-leaves i (top-empty m k i top .0) _);
@@ -138,9 +138,9 @@ module _ (m : Memory) (k : Good m) (n : PageName) where
     -- ---- the victim of a sweep
     module _ (top : linkOf (m .control .top) ≡ End) where
       abbrev s : Swept
-      s = sweepAll (m .states) (m .control .hand)
+      s = sweepAll (capOf m) (m .states) (m .control .hand)
 
-      sweeps : Sweeps (buffers m) 0 (m .control .hand) (m .states) s × (s .probes ≤ 6 * buffers m)
+      sweeps : Sweeps (buffers m) 0 (m .control .hand) (m .states) s × (s .probes ≤ (capOf m + 1) * buffers m)
       sweeps = sweep-published m (k .books)
 
       from : SweptFrom (m .states) s
@@ -233,11 +233,11 @@ module _ (m : Memory) (k : Good m) (n : PageName) where
               blocks = λ h l. store-back h;
             }
 
-        taken-sought : Sought m n (pinVictim m n s (found v))
+        taken-sought : Sought m n (capOf m) (buffers m) (pinVictim m n s (found v))
         unfolding pinVictim
         taken-sought =
             let answer = v ∷ 0 ∷ ind (dirty (wordOf m v)) ∷ s .probes ∷ [] in
-            subst (λ (o : Memory). Sought m n (done answer [] o)) (sym after-is)
+            subst (λ (o : Memory). Sought m n (capOf m) (buffers m) (done answer [] o)) (sym after-is)
             (record {
               probes = s .probes;
               looked = taken new top refl (sweeps .0) victim
@@ -254,41 +254,41 @@ module _ (m : Memory) (k : Good m) (n : PageName) where
 
     module _ (new : heldIn m n ≡ Nowhere) where
       -- some buffer is unpinned, so a sweep finds a victim
-      swept-sought : linkOf (m .control .top) ≡ End → Sought m n (pinSwept m n (sweepAll (m .states) (m .control .hand)))
+      swept-sought : linkOf (m .control .top) ≡ End → Sought m n (capOf m) (buffers m) (pinSwept m n (sweepAll (capOf m) (m .states) (m .control .hand)))
       unfolding pinSwept
       swept-sought top =
           let f = pin-victim m n z k new in
-          subst (λ (x : Found). Sought m n (pinVictim m n (sweepAll (m .states) (m .control .hand)) x)) (sym (f .1))
+          subst (λ (x : Found). Sought m n (capOf m) (buffers m) (pinVictim m n (sweepAll (capOf m) (m .states) (m .control .hand)) x)) (sym (f .1))
           (taken-sought new (page .0) (page .1) top (f .0) (f .1))
 
-      new-sought : Sought m n (pinNew m n (linkOf (m .control .top)))
+      new-sought : Sought m n (capOf m) (buffers m) (pinNew m n (linkOf (m .control .top)))
       unfolding pinNew
       new-sought =
           ⊎-elim
-          (λ top. subst (λ (l : Link). Sought m n (pinNew m n l)) (sym top) (swept-sought top))
+          (λ top. subst (λ (l : Link). Sought m n (capOf m) (buffers m) (pinNew m n l)) (sym top) (swept-sought top))
           (λ t.
-          subst (λ (l : Link). Sought m n (pinNew m n l)) (sym (t .1))
+          subst (λ (l : Link). Sought m n (capOf m) (buffers m) (pinNew m n l)) (sym (t .1))
           (free-sought new (page .0) (page .1) (t .0) (t .1)))
           (top-none m k)
 
-    accepted-sought : Sought m n (pinTo m n (heldIn m n))
+    accepted-sought : Sought m n (capOf m) (buffers m) (pinTo m n (heldIn m n))
     unfolding pinTo
     accepted-sought = go (heldIn m n) refl
       where
-        go : (h : Held) → heldIn m n ≡ h → Sought m n (pinTo m n h)
+        go : (h : Held) → heldIn m n ≡ h → Sought m n (capOf m) (buffers m) (pinTo m n h)
         go (At b) e = hit-sought b e
         go Nowhere e = new-sought e
 
   -- ---- refused or accepted
-  pub pin-sought : Sought m n (step m (Pin n))
+  pub pin-sought : Sought m n (capOf m) (buffers m) (step m (Pin n))
   unfolding step pin
   pin-sought =
       let own = pinPlaces m n in
       let o = pinTo m n (heldIn m n) in
       let e = checked-good m k own in
       ⊎-elim
-      (λ z. subst (Sought m n) (sym (outcome-done [] m o (e ∙ z))) (accepted-sought z))
+      (λ z. subst (Sought m n (capOf m) (buffers m)) (sym (outcome-done [] m o (e ∙ z))) (accepted-sought z))
       (λ ne.
       let f : checked m own ≢ 0 = λ z. ne (sym e ∙ z) in
-      subst (Sought m n) (sym (outcome-refused [] m o (checked m own) f)) (refused-sought (checked m own) f (sym e)))
+      subst (Sought m n (capOf m) (buffers m)) (sym (outcome-refused [] m o (checked m own) f)) (refused-sought (checked m own) f (sym e)))
       (eq-or-ne (refusalOf own) 0)

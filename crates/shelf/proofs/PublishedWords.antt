@@ -4,29 +4,29 @@ use mathlib.Core.Path.{_≡_, refl, sym, ap, _∙_}
 use mathlib.Core.Bool.{Bool, true, false, _&&_, _||_, cond}
 use mathlib.Core.Logic.{⊎-elim}
 use native.Mathlib.Omega.{arith}
-use lib.Dec.{eqb, leb}
+use lib.Dec.{leb, ltb}
 use borrow.Author.Tests.{eqb-true, eqb-false, leb-true}
 use Rattle.laws.proofs.Tests.{true-or-false, and-left}
-use Rattle.bufmodel.specs.Word.{maxUsage, pins, usage, flags, pack, cleanFlags, dirtyFlags, dirty, empty, soundFlags, soundWord}
+use Rattle.bufmodel.specs.Word.{pins, usage, flags, pack, cleanFlags, dirtyFlags, dirty, empty, soundFlags, soundWord}
 use Rattle.bufmodel.specs.Word.{pinMore, pinLess, makeDirty, makeClean, loaded}
-use Rattle.bufmodel.specs.Memory.{Memory, buffers, wordOf}
+use Rattle.bufmodel.specs.Memory.{Memory, buffers, capOf, wordOf}
 use Rattle.bufmodel.specs.Books.{emptyAt, BooksSound}
 use Rattle.bufmodel.proofs.WordLaws.{pack-fields, empty-zero, Held, sound-held, dirty-is}
 use Rattle.bufmodel.proofs.HeldLaws.{dirty-full}
 use Rattle.shelf.specs.Published.{morePins, dirtied, cleaned, justLoaded}
 
 -- ---- the counts: any word, since its fields are packed by sums
-pub more-pins : (w : ℕ) → pinMore w ≡ morePins w
+pub more-pins : (cap w : ℕ) → pinMore cap w ≡ morePins cap w
 unfolding pinMore morePins pack
-more-pins w =
-    ⊎-elim (λ e. rw e (omega (arith, pack-fields w))) (λ e. rw e (omega (arith, pack-fields w))) (true-or-false (eqb (usage w) 5))
+more-pins cap w =
+    ⊎-elim (λ e. rw e (omega (arith, pack-fields w))) (λ e. rw e (omega (arith, pack-fields w))) (true-or-false (ltb (usage w) cap))
 
 pub less-pins : (w : ℕ) → 0 < pins w → pinLess w ≡ w - 1
 unfolding pinLess pack
 less-pins w h = omega (arith, pack-fields w)
 
 -- ---- the flags: a word in use has one of two
-module _ {w : ℕ} (k : Held w) where
+module _ {cap w : ℕ} (k : Held cap w) where
   dirty-flags : dirty w ≡ true → flags w ≡ dirtyFlags
   dirty-flags d = eqb-true (flags w) dirtyFlags (sym (dirty-is k) ∙ d)
 
@@ -47,7 +47,7 @@ module _ {w : ℕ} (k : Held w) where
   less-dirt d = omega (arith, pack-fields w, dirty-flags d)
 
 -- a page that was not dirty keeps its word
-pub cleaned-is : (w : ℕ) → (dirty w ≡ true → Held w) → cond (dirty w) (makeClean w) w ≡ cleaned w
+pub cleaned-is : {cap : ℕ} (w : ℕ) → (dirty w ≡ true → Held cap w) → cond (dirty w) (makeClean w) w ≡ cleaned w
 unfolding cleaned
 cleaned-is w k = ⊎-elim (λ d. rw d (less-dirt (k d) d)) (λ d. rw d refl) (true-or-false (dirty w))
 
@@ -56,27 +56,27 @@ unfolding loaded pack
 loaded-is = refl
 
 -- ---- the words of a memory with sound books
--- a sound word's usage is not above the greatest, however wide the word
-sound-few : (w : ℕ) → soundWord w ≡ true → usage w ≤ maxUsage
+-- a sound word's usage is not above the cap, however wide the word
+sound-few : (cap w : ℕ) → soundWord cap w ≡ true → usage w ≤ cap
 unfolding soundWord usage
-sound-few w s =
+sound-few cap w s =
     ⊎-elim
     (λ e. omega (arith, empty-zero w e))
-    (λ f. leb-true _ _ (and-left _ (soundFlags w) (sym (ap (λ (t : Bool). t || (leb (usage w) maxUsage && soundFlags w)) f) ∙ s)))
+    (λ f. leb-true _ _ (and-left _ (soundFlags w) (sym (ap (λ (t : Bool). t || (leb (usage w) cap && soundFlags w)) f) ∙ s)))
     (true-or-false (empty w))
 
 -- each word but 0 has the flags of a buffer in use
 abbrev pub HeldWords : Memory → Type 0
-HeldWords m = (i : ℕ) → i < buffers m → emptyAt m i ≡ false → Held (wordOf m i)
+HeldWords m = (i : ℕ) → i < buffers m → emptyAt m i ≡ false → Held (capOf m) (wordOf m i)
 
 module _ (m : Memory) where
-  pub few-used : BooksSound m → (i : ℕ) → i < buffers m → usage (wordOf m i) ≤ maxUsage
-  few-used b i l = sound-few (wordOf m i) (b .words i l)
+  pub few-used : BooksSound m → (i : ℕ) → i < buffers m → usage (wordOf m i) ≤ capOf m
+  few-used b i l = sound-few (capOf m) (wordOf m i) (b .words i l)
 
   -- so where words have 32 bits: the test of a word looks at no others
   pub held-words : BooksSound m → ((i : ℕ) → i < buffers m → wordOf m i < 2 ^ 32) → HeldWords m
   unfolding emptyAt
   held-words b narrow i l f = sound-held (narrow i l) (b .words i l) f
 
-  pub dirty-held : HeldWords m → (i : ℕ) → i < buffers m → dirty (wordOf m i) ≡ true → Held (wordOf m i)
+  pub dirty-held : HeldWords m → (i : ℕ) → i < buffers m → dirty (wordOf m i) ≡ true → Held (capOf m) (wordOf m i)
   dirty-held held i l d = held i l (dirty-full m i d)

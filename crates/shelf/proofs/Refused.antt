@@ -47,6 +47,7 @@ module _ (m : Memory) (v : View) (c : Call) (kept : Kept m v) where
               kept = λ h. refl;
               rows = refl;
               inserted = refl;
+              cap = refl;
               six = six-of (shelfOf m v) c number;
               flushed = refl;
               ordered = λ g h. kept .put g h .1;

@@ -9,7 +9,7 @@ use Rattle.laws.proofs.Tests.{eq-or-ne, never}
 use Rattle.bufmodel.specs.Checksum.{bare}
 use Rattle.bufmodel.specs.Word.{pins, pinned, dirty}
 use Rattle.bufmodel.specs.Rows.{placeOf}
-use Rattle.bufmodel.specs.Memory.{Memory, buffers, size, wordOf, nameOf}
+use Rattle.bufmodel.specs.Memory.{Memory, buffers, size, capOf, wordOf, nameOf}
 use Rattle.bufmodel.specs.Books.{emptyAt}
 use Rattle.bufmodel.specs.Moves.{release}
 use Rattle.bufmodel.proofs.WordLaws.{unpinned-none, Held}
@@ -84,7 +84,7 @@ module _ (m : Memory) (v : View) (k : Kept m v) (i g : ℕ) (own : Has m i g) (f
         fine = q .fine;
       }
 
-  release-words : (j : ℕ) → j < buffers (release m i) → emptyAt (release m i) j ≡ false → Held (wordOf (release m i) j)
+  release-words : (j : ℕ) → j < buffers (release m i) → emptyAt (release m i) j ≡ false → Held (capOf m) (wordOf (release m i) j)
   release-words j l f =
       let ne : j ≢ i = λ e. never (ap (emptyAt (release m i)) e ∙ release-empty m i (own .below)) f in
       rw (release-word m i j ne) (k .words j (rw (release-buffers m i) at l) (sym (release-kept m i j ne) ∙ f))

@@ -1,7 +1,7 @@
--- Set up is accepted exactly where lengths and rows keep the rules, and leaves the books of empty buffers.
+-- Set up is accepted exactly where lengths and rows keep the rules and the cap is from 1 to 15, and leaves the books of empty buffers.
 use Prim.Native.Nat.{ℕ, zero, suc, _+_, _<_}
 use mathlib.Core.Path.{_≡_, refl, sym, ap, _∙_, subst}
-use mathlib.Core.Logic.{⊎-elim, inr}
+use mathlib.Core.Logic.{⊎-elim, inl, inr}
 use mathlib.Core.Bool.{Bool, true, false, not, cond}
 use mathlib.Core.List.{List, [], _∷_}
 use native.Mathlib.Omega.{arith}
@@ -9,8 +9,11 @@ use lib.ListN.{length, length-replicate, getD-replicate}
 use lib.IntN.{pos}
 use lib.Dec.{eqb}
 use borrow.Author.Tests.{eq-eqb, ne-eqb, eqb-true, eqb-false}
+use Rattle.laws.specs.Says.{Says}
 use Rattle.laws.proofs.Tests.{eq-or-ne, never}
+use Rattle.laws.proofs.Says.{says-le, says-and}
 use Rattle.buftag.specs.Link.{none, numberAt}
+use Rattle.bufmodel.specs.Word.{soundCap}
 use Rattle.bufmodel.specs.Memory.{Memory, buffers}
 use Rattle.bufmodel.specs.Sizes.{sizedFor, SizedFor}
 use Rattle.bufmodel.specs.Outcome.{place, refusalOf, zeros, done, refused, outcome}
@@ -20,7 +23,7 @@ use Rattle.bufmodel.proofs.SizesLaws.{sizes-say}
 use Rattle.bufmodel.proofs.LentLaws.{opened-closed}
 use Rattle.bufmodel.proofs.FreshLaws.{fresh-word, fresh-name, fresh-good}
 use Rattle.shelf.specs.Published.{marksOf, Alike, listEnd}
-use Rattle.shelf.specs.Statement.{freshMarks, Fresh, SetsUp}
+use Rattle.shelf.specs.Statement.{freshMarks, Fresh, Lends, Capped, SetsUp}
 
 -- ---- the free list
 free-number : (j n i : ℕ) → i < n → numberAt (freeLinks j n) i ≡ cond (eqb (suc i) n) listEnd (pos (suc (j + i)))
@@ -37,20 +40,20 @@ free-number j (suc (suc n)) (suc i) l =
     (eq-or-ne (suc i) (suc n))
 
 -- ---- the fresh memory, as it is lent
-module _ (m : Lent) (p at : ℕ) (s : SizedFor p (opened m)) where
+module _ (m : Lent) (p at cap : ℕ) (s : SizedFor p (opened m)) where
   abbrev k : Memory
   k = opened m
 
-  back : opened (closed (fresh k p at)) ≡ fresh k p at
+  back : opened (closed (fresh k p at cap)) ≡ fresh k p at cap
   unfolding fresh
-  back = opened-closed (fresh k p at) (inr (0, refl, omega arith))
+  back = opened-closed (fresh k p at cap) (inr (0, refl, omega arith))
 
-  fresh-alike : Alike (length (m .states)) (length (m .heads)) (marksOf (fresh k p at)) (freshMarks (length (m .states)))
+  fresh-alike : Alike (length (m .states)) (length (m .heads)) (marksOf (fresh k p at cap)) (freshMarks (length (m .states)))
   unfolding fresh opened
   fresh-alike =
       record {
-        words = λ i l. fresh-word k p at i;
-        names = λ i l. fresh-name k p at i;
+        words = λ i l. fresh-word k p at cap i;
+        names = λ i l. fresh-name k p at cap i;
         links = λ i l.
             free-number 0 (buffers k) i l ∙ ap (λ (t : ℕ). cond (eqb (suc i) (buffers k)) listEnd (pos (suc t))) (omega arith);
         chains = λ i l. getD-replicate (length (m .chain)) i none (pos 0) (omega (arith, s .chain));
@@ -59,13 +62,13 @@ module _ (m : Lent) (p at : ℕ) (s : SizedFor p (opened m)) where
         top = refl;
       }
 
-  fresh-lent : Fresh m (closed (fresh k p at)) p at
+  fresh-lent : Capped cap → Fresh m (closed (fresh k p at cap)) p at cap
   unfolding fresh opened closed wordsOf topWord
-  fresh-lent =
+  fresh-lent c =
       record {
         many = length-replicate (length (m .states)) 0;
         wide = length-replicate (length (m .heads)) none;
-        sizes = subst (SizedFor p) (sym back) (fresh-good k p at s .sizes);
+        sizes = subst (SizedFor p) (sym back) (fresh-good k p at cap s c .sizes);
         alike = subst
             (λ (x : Memory). Alike (length (m .states)) (length (m .heads)) (marksOf x) (freshMarks (length (m .states))))
             (sym back) fresh-alike;
@@ -77,45 +80,65 @@ module _ (m : Lent) (p at : ℕ) (s : SizedFor p (opened m)) where
 
 -- ---- accepted or refused
 -- with a control record of another length, or sizes that do not fit: 1, and nothing changed
-refuses-so : (m : Lent) (p at : ℕ) → (SizedFor p (opened m) × (length (m .control) ≡ 5) → ⊥)
-    → SetsUp m p at (record { result = 1; answer = zeros; bytes = []; lent = m })
-refuses-so m p at not =
+refuses-so : (m : Lent) (p at cap : ℕ) → (Lends m p → ⊥) → SetsUp m p at cap (record { result = 1; answer = zeros; bytes = []; lent = m })
+refuses-so m p at cap not =
     record {
-      accepted = (λ z. absurd (omega arith), λ s. absurd (not s));
+      accepted = (λ z. absurd (omega arith), λ s. absurd (not (s .0)));
       fresh = λ z. absurd (omega arith);
-      refused = λ h. (refl, refl);
+      number = λ h. inl (refl, not);
+      refused = λ h. refl;
       answer = refl;
       bytes = refl;
     }
 
-module _ (m : Lent) (p at : ℕ) where
-  -- by the test of the sizes
-  abbrev ends : Bool → Called
-  ends t =
-      let o = outcome (refusalOf (place 1 (not t) ∷ [])) [] (opened m) (done zeros [] (fresh (opened m) p at)) in
+-- the test of a cap decides that it is from 1 to 15
+cap-says : (cap : ℕ) → Says (soundCap cap) (Capped cap)
+unfolding soundCap
+cap-says cap = says-and (says-le 1 cap) (says-le cap 15)
+
+module _ (m : Lent) (p at cap : ℕ) where
+  -- by the tests of the sizes and the cap
+  abbrev ends : Bool → Bool → Called
+  ends t u =
+      let o = outcome (refusalOf (place 1 (not t) ∷ place 18 (not u) ∷ [])) [] (opened m) (done zeros [] (fresh (opened m) p at cap)) in
       ended m o (o .refusal)
 
-  by-sizes : length (m .control) ≡ 5 → (t : Bool) → sizedFor p (opened m) ≡ t → SetsUp m p at (ends t)
+  by-cap : Lends m p → (u : Bool) → soundCap cap ≡ u → SetsUp m p at cap (ends true u)
   unfolding refusalOf outcome ended
-  by-sizes long true e =
-      let s = sizes-say p (opened m) .holds e in
+  by-cap s true e =
       record {
-        accepted = (λ z. (s, long), λ y. refl);
-        fresh = λ z. fresh-lent m p at s;
+        accepted = (λ z. (s, cap-says cap .holds e), λ y. refl);
+        fresh = λ z. fresh-lent m p at cap (s .0) (cap-says cap .holds e);
+        number = λ h. absurd (h refl);
         refused = λ h. absurd (h refl);
         answer = refl;
         bytes = refl;
       }
-  by-sizes long false e = refuses-so m p at (λ s. never (sizes-say p (opened m) .shown (s .0)) e)
+  by-cap s false e =
+      let bad : Capped cap → ⊥ = λ c. never (cap-says cap .shown c) e in
+      record {
+        accepted = (λ z. absurd (omega arith), λ y. absurd (bad (y .1)));
+        fresh = λ z. absurd (omega arith);
+        number = λ h. inr (refl, s);
+        refused = λ h. refl;
+        answer = refl;
+        bytes = refl;
+      }
+
+  by-sizes : length (m .control) ≡ controlWords → (t : Bool) → sizedFor p (opened m) ≡ t → SetsUp m p at cap (ends t (soundCap cap))
+  unfolding refusalOf outcome ended
+  by-sizes long true e = by-cap (sizes-say p (opened m) .holds e, long) (soundCap cap) refl
+  by-sizes long false e = refuses-so m p at cap (λ s. never (sizes-say p (opened m) .shown (s .0)) e)
 
   -- and of the control record's length
   by-length : (t : Bool) → eqb (length (m .control)) controlWords ≡ t
-      → SetsUp m p at (cond t (ends (sizedFor p (opened m))) (record { result = 1; answer = zeros; bytes = []; lent = m }))
+      → SetsUp m p at cap
+      (cond t (ends (sizedFor p (opened m)) (soundCap cap)) (record { result = 1; answer = zeros; bytes = []; lent = m }))
   by-length true e = by-sizes (eqb-true _ _ e) (sizedFor p (opened m)) refl
-  by-length false e = refuses-so m p at (λ s. absurd (eqb-false _ _ e (s .1)))
+  by-length false e = refuses-so m p at cap (λ s. absurd (eqb-false _ _ e (s .1)))
 
-pub sets-up : (m : Lent) (p at : ℕ) (answer : List ℕ) → length answer ≡ answerWords
-    → SetsUp m p at (called (λ k. setUp k p at) m [] answer)
+pub sets-up : (m : Lent) (p at cap : ℕ) (answer : List ℕ) → length answer ≡ answerWords
+    → SetsUp m p at cap (called (λ k. setUp k p at cap) m [] answer)
 unfolding called setUp
-sets-up m p at answer long =
-    rw (eq-eqb (length answer) answerWords long) (by-length m p at (eqb (length (m .control)) controlWords) refl)
+sets-up m p at cap answer long =
+    rw (eq-eqb (length answer) answerWords long) (by-length m p at cap (eqb (length (m .control)) controlWords) refl)

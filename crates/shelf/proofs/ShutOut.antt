@@ -33,6 +33,7 @@ use Rattle.shelf.specs.Tests.{Clause, Verdict, Fine, Fails}
 use Rattle.shelf.specs.Trial.{
   size,
   log,
+  cap,
   bench,
   unsummed,
   stock,
@@ -56,6 +57,7 @@ use Rattle.shelf.specs.WrongCalls.{wrongRefusals, wrongFlushes, wrongBac
 use Rattle.shelf.specs.WrongBooks.{wrongBuffers, wrongCounts}
 use Rattle.shelf.specs.WrongSums.{wrongSums, wrongBytes, wrongVerified, wrongRefused}
 use Rattle.shelf.specs.WrongLent.{wrongLent, wrongSetUps}
+use Rattle.shelf.specs.WrongCaps.{wrongRises, wrongCaps}
 use Rattle.shelf.specs.WrongPools.{wrongPools}
 use Rattle.shelf.proofs.JudgeLaws.{judge-fine}
 use Rattle.shelf.proofs.Computes.{computes}
@@ -133,25 +135,25 @@ fits-calls (c ∷ cs) h =
     (fits-call c (and-left (fitsCall c) (fitsCalls cs) h), refl, fits-calls cs (and-right (fitsCall c) (fitsCalls cs) h))
 
 -- ---- a pool that meets the statement passes every trial, and one that fails does not meet it
-pub passes : (pool : Pool) → Demand3For pool → (m : Lent) (p at : ℕ) (calls : List Call) → fits m p at calls ≡ true
-    → verdict pool m p at calls ≡ Fine
+pub passes : (pool : Pool) → Demand3For pool → (m : Lent) (p at cap : ℕ) (calls : List Call) → fits m p at cap calls ≡ true
+    → verdict pool m p at cap calls ≡ Fine
 unfolding verdict fits
-passes pool d m p at calls h =
+passes pool d m p at cap calls h =
     let test = each _ h in
-    judge-fine pool d m p at slice (map made calls) (fits-lent m (test 0)) (ltb-true _ _ (test 1)) (ltb-true _ _ (test 2)) refl
-    (fits-calls calls (test 3))
+    judge-fine pool d m p at cap slice (map made calls) (fits-lent m (test 0)) (ltb-true _ _ (test 1)) (ltb-true _ _ (test 2))
+    (ltb-true _ _ (test 3)) refl (fits-calls calls (test 4))
 
-pub refuted : (pool : Pool) (m : Lent) (p at : ℕ) (calls : List Call) {c : Clause} → fits m p at calls ≡ true
-    → verdict pool m p at calls ≡ Fails c → Demand3For pool → ⊥
-refuted pool m p at calls h e d = let f = passes pool d m p at calls h in let z : _≡_ {A = ℕ} 0 1 = cc in omega arith
+pub refuted : (pool : Pool) (m : Lent) (p at cap : ℕ) (calls : List Call) {c : Clause} → fits m p at cap calls ≡ true
+    → verdict pool m p at cap calls ≡ Fails c → Demand3For pool → ⊥
+refuted pool m p at cap calls h e d = let f = passes pool d m p at cap calls h in let z : _≡_ {A = ℕ} 0 1 = cc in omega arith
 
 -- ---- the wrong pools of the list
 -- a pool on the trial of an entry, and that this is a trial
 abbrev pub tried : Pool → Wrong → Verdict
-tried pool w = verdict pool (w .lent) (w .size) (w .log) (w .calls)
+tried pool w = verdict pool (w .lent) (w .size) (w .log) (w .cap) (w .calls)
 
 abbrev isTrial : Wrong → Bool
-isTrial w = fits (w .lent) (w .size) (w .log) (w .calls)
+isTrial w = fits (w .lent) (w .size) (w .log) (w .cap) (w .calls)
 
 -- each entry is a trial; each pool is caught, by the clause that the list says; the right pool passes the same trials
 pub record Shown (ws : List Wrong) : Type 0 where
@@ -233,10 +235,20 @@ setUps : Shown wrongSetUps
 unfolding computes
 setUps = record { trials = refl; caught = refl; passed = refl }
 
+rises : Shown wrongRises
+unfolding computes
+rises = record { trials = refl; caught = refl; passed = refl }
+
+caps : Shown wrongCaps
+unfolding computes
+caps = record { trials = refl; caught = refl; passed = refl }
+
 pub shown : Shown wrongPools
 unfolding wrongPools
 shown =
     refusals & flushes & backs & answers & pages & files & buffers & counts & sums & sumBytes & verified & refusedSums & lent & setUps
+    & rises
+    & caps
 
 pub caught : map (λ w. tried (w .pool) w) wrongPools ≡ map (λ w. Fails (w .refusedBy)) wrongPools
 caught = shown .caught
@@ -251,7 +263,7 @@ unfolding every
 all-shut [] h e = tt
 all-shut (w ∷ ws) h e =
     let here : tried (w .pool) w ≡ Fails (w .refusedBy) = cc in (
-      refuted (w .pool) (w .lent) (w .size) (w .log) (w .calls) (and-left (isTrial w) _ h) here,
+      refuted (w .pool) (w .lent) (w .size) (w .log) (w .cap) (w .calls) (and-left (isTrial w) _ h) here,
       all-shut ws (and-right (isTrial w) _ h) (cc),
     )
 
@@ -268,7 +280,7 @@ all-fine : (pool : Pool) → Demand3For pool → (ws : List Wrong) → every (ma
 unfolding every
 all-fine pool d [] h = tt
 all-fine pool d (w ∷ ws) h =
-    (passes pool d (w .lent) (w .size) (w .log) (w .calls) (and-left (isTrial w) _ h), all-fine pool d ws (and-right (isTrial w) _ h))
+    (passes pool d (w .lent) (w .size) (w .log) (w .cap) (w .calls) (and-left (isTrial w) _ h), all-fine pool d ws (and-right (isTrial w) _ h))
 
 pub right-passes : Demand3 → AllFine (calling step) wrongPools
 right-passes d = all-fine (calling step) d wrongPools (shown .trials)
@@ -282,7 +294,7 @@ moves = ifRefused (λ m c o. leaving (withHand 1) o)
 
 -- the bench of two buffers, set up
 abbrev begun : Memory
-begun = opened (calling step .setsUp size log (bench 2) slice .lent)
+begun = opened (calling step .setsUp size log cap (bench 2) slice .lent)
 
 begun-words : allBelow (2 ^ 32) (begun .states) ≡ true
 unfolding computes
@@ -340,7 +352,7 @@ verifiesHeld =
 -- the page of stock is pinned, and its block in the store is bad
 abbrev holding : Lent
 holding =
-    let begun = calling step .setsUp size log (bench 1) slice .lent in
+    let begun = calling step .setsUp size log cap (bench 1) slice .lent in
     let k = opened (calling step .calls (pin stock 0) begun [] slice .lent) in
     closed (withStore (unsummed 1 .store) k)
 
@@ -348,7 +360,7 @@ holding-sized : sizedFor (opened holding .control .size) (opened holding) ≡ tr
 unfolding computes
 holding-sized = refl
 
-holding-control : length (holding .control) ≡ 5
+holding-control : length (holding .control) ≡ 6
 unfolding computes
 holding-control = refl
 

@@ -85,6 +85,7 @@ module _ (m : Memory) (v : View) (k : Kept m v) (r : BackUpTo m v (buffers m)) w
         shows = refl;
         many = sym (r .many);
         wide = refl;
+        cap = refl;
         rows = refl;
         inserted = refl;
         flushed = flushed-now;

@@ -77,6 +77,7 @@ module _ (m : Memory) (v : View) (k : Kept m v) (f : FileName) where
           shows = refl;
           many = sym (x .many);
           wide = refl;
+          cap = refl;
           rows = ap (λ (s : Shelf). s .rows) (shelf-dropped m v f r e _);
           inserted = ap (λ (s : Shelf). s .inserted) (shelf-dropped m v f r e _);
           flushed = highest-still (ledgerOf m v) (m .control .flushed) (storeBlocks (m .rows));

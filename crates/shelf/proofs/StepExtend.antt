@@ -91,6 +91,7 @@ module _ (m : Memory) (v : View) (k : Kept m v) (f : FileName) (r : ℕ) (e : ro
         shows = (r, e, refl, refl);
         many = refl;
         wide = refl;
+        cap = refl;
         rows = ap (λ (s : Shelf). s .rows) shelf-then;
         inserted = ap (λ (s : Shelf). s .inserted) shelf-then;
         flushed = highest-still (ledgerOf m v) (m .control .flushed) (storeBlocks (m .rows));

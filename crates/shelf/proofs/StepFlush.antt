@@ -60,6 +60,7 @@ module _ (m : Memory) (v : View) (k : Kept m v) (i g : ℕ) (x : Has m i g) (hel
             shows = refl;
             many = refl;
             wide = refl;
+            cap = refl;
             rows = refl;
             inserted = refl;
             flushed = highest-none (ledgerOf m v) back (m .control .flushed) (storeBlocks (m .rows)) (λ h b. back-none h);
@@ -107,6 +108,7 @@ module _ (m : Memory) (v : View) (k : Kept m v) (i g : ℕ) (x : Has m i g) (hel
             shows = refl;
             many = simp length-set;
             wide = refl;
+            cap = refl;
             rows = refl;
             inserted = refl;
             flushed = flushed-one;

@@ -59,6 +59,7 @@ module _ (m : Memory) (v : View) (k : Kept m v) (p : ℕ) where
         shows = refl;
         many = refl;
         wide = refl;
+        cap = refl;
         rows = refl;
         inserted = refl;
         flushed = highest-still (ledgerOf m v) (max (m .control .flushed) p) (storeBlocks (m .rows));
@@ -93,6 +94,7 @@ module _ (m : Memory) (v : View) (k : Kept m v) (p : ℕ) where
         shows = refl;
         many = refl;
         wide = refl;
+        cap = refl;
         rows = refl;
         inserted = refl;
         flushed = highest-still (ledgerOf m v) (m .control .flushed) (storeBlocks (m .rows));

@@ -70,6 +70,7 @@ module _ (m : Memory) (v : View) (k : Kept m v) (i : ℕ) where
         shows = refl;
         many = sym (length-set (m .states) i (pinLess (wordOf m i)));
         wide = refl;
+        cap = refl;
         rows = ap (λ (f : Found). unpinnedAt (shelfOf m v) i f .rows) (p .holds);
         inserted = ap (λ (f : Found). unpinnedAt (shelfOf m v) i f .inserted) (p .holds);
         flushed = highest-still (ledgerOf m v) (m .control .flushed) (storeBlocks (m .rows));

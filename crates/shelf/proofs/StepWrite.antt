@@ -92,6 +92,7 @@ module _ (m : Memory) (v : View) (k : Kept m v) (i from : ℕ) (bytes : List ℕ
         shows = refl;
         many = sym (length-set (m .states) i (makeDirty (wordOf m i)));
         wide = refl;
+        cap = refl;
         rows = ap (λ (f : Found). writtenAt (shelfOf m v) from bytes at f .rows) (p .0 .holds);
         inserted = ap (λ (f : Found). writtenAt (shelfOf m v) from bytes at f .inserted) (p .0 .holds);
         flushed = highest-still (ledgerOf m v) (m .control .flushed) (storeBlocks (m .rows));

@@ -17,7 +17,7 @@ use Rattle.bufmodel.specs.Word.{pins, pinned, dirty, empty, soundWord}
 use Rattle.bufmodel.specs.Position.{position}
 use Rattle.bufmodel.specs.Checksum.{bare, passes}
 use Rattle.bufmodel.specs.Rows.{storeBlocks, placeOf}
-use Rattle.bufmodel.specs.Memory.{Memory, buffers, size, wordOf, nameOf, pageOf, withStates}
+use Rattle.bufmodel.specs.Memory.{Memory, buffers, size, capOf, wordOf, nameOf, pageOf, withStates}
 use Rattle.bufmodel.specs.Books.{emptyAt}
 use Rattle.bufmodel.proofs.GoodLaws.{Good}
 use Rattle.bufmodel.proofs.WordLaws.{Held, held-sound, held-lt}
@@ -38,7 +38,7 @@ pub record Elsewhere (v v′ : View) (i g : ℕ) : Type 0 where
 
 -- ---- the change: buffer i has page g; its new word is w
 pub record Turned (m : Memory) (v : View) (i g flushed w : ℕ) (pool store : List ℕ) (v′ : View) : Type 0 where
-  pub held : Held w
+  pub held : Held (capOf m) w
   -- flushed may rise
   pub log : flushed ≤ m .control .inserted
   -- other pages in the pool and other blocks of the store stay
@@ -116,9 +116,9 @@ module _ (m : Memory) (v : View) (k : Kept m v) (i g : ℕ) (x : Has m i g) (flu
   nobody-other h n e = n i (has-now i h (subst (Has m i) (sym e) x))
 
   -- ---- the books
-  word-sound : (j : ℕ) → j < buffers m → soundWord (wordOf m′ j) ≡ true
+  word-sound : (j : ℕ) → j < buffers m → soundWord (capOf m) (wordOf m′ j) ≡ true
   word-sound j b =
-      each (λ j y. j < buffers m → soundWord y ≡ true) (λ b. held-sound (held-lt (t .held)) (t .held) .0)
+      each (λ j y. j < buffers m → soundWord (capOf m) y ≡ true) (λ b. held-sound (held-lt (t .held)) (t .held) .0)
       (λ j ne b. k .good .books .words j b) j b
 
   page-low : (j : ℕ) → j < buffers m → dirty (wordOf m′ j) ≡ true → position (block (size m) j pool) ≤ m .control .inserted
@@ -184,7 +184,7 @@ module _ (m : Memory) (v : View) (k : Kept m v) (i g : ℕ) (x : Has m i g) (flu
       record {
         good = good-now;
         words = λ j b.
-            each (λ j y. j < buffers m → empty y ≡ false → Held y) (λ b f. t .held) (λ j ne b f. k .words j b f) j (rw many at b);
+            each (λ j y. j < buffers m → empty y ≡ false → Held (capOf m) y) (λ b f. t .held) (λ j ne b f. k .words j b f) j (rw many at b);
         same = λ j h y. same-now j h (has-then j h y);
         unpinned = λ h n. t .elsewhere .counts h (nobody-other h n) ∙ k .unpinned h (nobody-then h n);
         unmarked = λ h n. t .elsewhere .marks h (nobody-other h n) ∙ k .unmarked h (nobody-then h n);
@@ -214,7 +214,7 @@ block-passes m v k i g x n e = not-false _ (sym (k .passed n g e) ∙ k .same i 
 
 -- ---- another pin count alone: unpin and a hit. The new word w has count c, and the number then holds f
 module _ (m : Memory) (v : View) (k : Kept m v) (i g : ℕ) (x : Has m i g) where
-  pub pins-kept : (w c : ℕ) (f : Found) (last : ℕ → Found) → Held w → dirty w ≡ dirty (wordOf m i) → c ≡ pins w
+  pub pins-kept : (w c : ℕ) (f : Found) (last : ℕ → Found) → Held (capOf m) w → dirty w ≡ dirty (wordOf m i) → c ≡ pins w
       → f ≡ cond (pinned w) (found g) missing
       → ((j : ℕ) → last j ≡ v .last j)
       → Kept (withStates (set (m .states) i w) m)

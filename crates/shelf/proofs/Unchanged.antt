@@ -5,7 +5,7 @@ use mathlib.Core.Bool.{false}
 use mathlib.Core.List.{List}
 use Rattle.laws.proofs.Tests.{never}
 use Rattle.bufmodel.specs.Rows.{storeBlocks}
-use Rattle.bufmodel.specs.Memory.{Memory}
+use Rattle.bufmodel.specs.Memory.{Memory, capOf}
 use Rattle.bufmodel.specs.Outcome.{done}
 use Rattle.bufmodel.specs.Step.{Call, Checkpoint}
 use Rattle.shelf.specs.Shelf.{refuses}
@@ -24,10 +24,11 @@ pub ledger-stays : (m : Memory) (v : View)
       last = v .last;
       flushed = highest (ledgerOf m v) (storeBlocks (m .rows)) (λ g. false) (m .control .flushed);
       put = v .put;
+      cap = capOf m;
     })
     (ledgerOf m v)
 ledger-stays m v =
-    ap (λ (f : ℕ). record { shelf = shelfOf m v; dirty = v .dirty; last = v .last; flushed = f; put = v .put })
+    ap (λ (f : ℕ). record { shelf = shelfOf m v; dirty = v .dirty; last = v .last; flushed = f; put = v .put; cap = capOf m })
     (highest-still (ledgerOf m v) (m .control .flushed) (storeBlocks (m .rows)))
 
 -- nothing is left to show but the number and what the call shows
@@ -42,6 +43,7 @@ unchanged m v k c answer bytes e other number answers shows none =
       shows = shows;
       many = refl;
       wide = refl;
+      cap = refl;
       rows = ap (λ (l : Ledger). l .shelf .rows) e;
       inserted = ap (λ (l : Ledger). l .shelf .inserted) e;
       flushed = ap (λ (l : Ledger). l .flushed) e;

@@ -2,7 +2,7 @@
 -- the sentence that it is, of document 01 or of the demand.
 use Prim.Native.Nat.{ℕ, zero, suc, _+_, _^_, _≤_, _<_}
 use mathlib.Core.Path.{_≡_}
-use mathlib.Core.Logic.{_≢_, _↔_}
+use mathlib.Core.Logic.{_≢_, _⊎_, _↔_}
 use mathlib.Core.Bool.{true, false, cond}
 use mathlib.Core.List.{List, [], _∷_}
 use lib.ListN.{length, getD, take, drop}
@@ -203,12 +203,15 @@ pub record Fresh (m k : Lent) (p at cap : ℕ) : Type 0 where
 abbrev pub Lends : Lent → ℕ → Type 0
 Lends m p = SizedFor p (opened m) × (length (m .control) ≡ 6)
 
--- accepted exactly where they do and the cap is from 1 to 15; else 1, or, after 1, 18, and nothing changed
+-- the cap is from 1 to 15
+abbrev pub Capped : ℕ → Type 0
+Capped cap = (1 ≤ cap) × (cap ≤ 15)
+
+-- accepted exactly where both hold; else 1, or, after 1, 18, and nothing changed
 pub record SetsUp (m : Lent) (p at cap : ℕ) (r : Called) : Type 0 where
-  pub accepted : (r .result ≡ 0) ↔ (Lends m p × (1 ≤ cap) × (cap ≤ 15))
+  pub accepted : (r .result ≡ 0) ↔ (Lends m p × Capped cap)
   pub fresh : r .result ≡ 0 → Fresh m (r .lent) p at cap
-  pub sizes : (Lends m p → ⊥) → r .result ≡ 1
-  pub capped : Lends m p → ((1 ≤ cap) × (cap ≤ 15) → ⊥) → r .result ≡ 18
+  pub number : r .result ≢ 0 → ((r .result ≡ 1) × (Lends m p → ⊥)) ⊎ ((r .result ≡ 18) × Lends m p)
   pub refused : r .result ≢ 0 → r .lent ≡ m
   pub answer : r .answer ≡ zeros
   pub bytes : r .bytes ≡ []
