@@ -87,3 +87,4 @@ pub mod JudgePublishedLaws
 pub mod JudgeLaws
 pub mod Computes
 pub mod ShutOut
+pub mod ShutCaps

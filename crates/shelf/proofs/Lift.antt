@@ -83,7 +83,7 @@ lift m l (c ∷ cs) g w f r =
       subst (λ (x : Outcome). Agrees m l (c .call) x (ledgerAfter l (c .call) (x .answer) (x .refusal))) (sym back) (r .0 .agrees),
       left-is m l (c .call) (r .0),
       subst (Published m (l .cap) (l .shelf .buffers) (c .call)) (sym back)
-      (rw (r .0 .cap, r .0 .many) (published m (c .call) g w)),
+          (rw (r .0 .cap, r .0 .many) (published m (c .call) g w)),
       lift (o .after) _ cs (r .0 .good) (r .0 .words) (f .2) (r .1),
     ) in
     let fits = top-fits m g in
