@@ -1,15 +1,12 @@
 -- The marked cases A to J of document 01 ("Pages on the bench"), and unmarked ones: one list, which one theorem covers.
-use Prim.Native.Nat.{ℕ, _*_, _/_, _%_}
+use Prim.Native.Nat.{ℕ, _+_, _-_, _^_}
 use mathlib.Core.Path.{_≡_, refl, sym, ap, ap₂, _∙_}
 use mathlib.Core.List.{List, [], _∷_, _++_}
 use lib.ListN.{getD, take, drop, replicate}
 use lib.IntN.{ℤ, pos, negsuc}
-use Rattle.buftag.specs.declared.name.FileName.{FileName}
-use Rattle.buftag.specs.Name.{fileOf, nameOf, nameBytes}
-use Rattle.buftag.specs.Names.{nameWords}
-use Rattle.buftag.specs.Link.{none}
+use Rattle.buftag.specs.Name.{nameOf, nameBytes}
 use Rattle.bufmodel.specs.Position.{position, positionBytes}
-use Rattle.bufmodel.specs.Memory.{Memory, withRows, withStore}
+use Rattle.bufmodel.specs.Memory.{Memory, withStore}
 use Rattle.bufmodel.specs.Outcome.{zeros}
 use Rattle.bufmodel.specs.Calls.{setUp}
 use Rattle.bufmodel.specs.Step.{
@@ -30,64 +27,23 @@ use Rattle.bufmodel.specs.Step.{
   answers,
 }
 use Rattle.bufmodel.specs.Lent.{Lent, called}
-
--- ---- the bench: N = 3, B = 3, P = 1024, log 100; one file with 4 blocks of zeros, capacity 5. What stands in the books before set up
--- does not matter
-unfoldable pub bench : Memory
-bench =
-    record {
-      control = record { size = 0; hand = 9; top = pos 9; inserted = 7; flushed = 8; cap = 9 };
-      states = replicate 3 7;
-      names = replicate (nameWords * 3) 7;
-      pool = replicate 3072 7;
-      free = replicate 3 none;
-      heads = replicate 3 none;
-      chain = replicate 3 none;
-      rows = 1663 ∷ 5 ∷ 16384 ∷ 0 ∷ 4 ∷ 5 ∷ [];
-      store = replicate 5120 0;
-    }
-
-abbrev file : FileName
-file = fileOf 1663 5 16384 0
-
-abbrev block : ℕ → Call
-block b = Pin (nameOf 1663 5 16384 0 b)
-
--- The same with two files, a table and its free space map, of capacities 2 and 3. Blocks 0 and 1 of the store are the table's, which has
--- one block yet; 2, 3 and 4 are the map's, which has two. Two bytes behind a page's checksum, here the first argument, tell the block.
--- Those at or above the count have checksums of nothing
-abbrev page : ℕ → ℕ → List ℕ
-page s k = replicate 8 0 ++ (s % 256 ∷ s / 256 ∷ k ∷ k ∷ replicate 1012 0)
-
-unfoldable pub twoFiles : Memory
-twoFiles =
-    withRows (1663 ∷ 5 ∷ 16384 ∷ 0 ∷ 1 ∷ 2 ∷ 1663 ∷ 5 ∷ 16384 ∷ 1 ∷ 2 ∷ 3 ∷ [])
-    (withStore (page 0 0 ++ (page 11 11 ++ (page 30775 12 ++ (page 51162 13 ++ page 14 14)))) bench)
-
--- The bench with one byte turned in blocks 3 and 4, the latter above the count; neither has a checksum
-unfoldable pub damaged : Memory
-damaged = withStore (replicate 3084 0 ++ (1 ∷ (replicate 1023 0 ++ (1 ∷ replicate 1011 0)))) bench
-
-abbrev mapFile : FileName
-mapFile = fileOf 1663 5 16384 1
-
-abbrev mapBlock : ℕ → Call
-mapBlock b = Pin (nameOf 1663 5 16384 1 b)
-
-abbrev mapPeek : ℕ → Call
-mapPeek b = Peek (nameOf 1663 5 16384 1 b)
-
-abbrev peek : ℕ → Call
-peek b = Peek (nameOf 1663 5 16384 0 b)
+use Rattle.bufmodel.specs.Bench.{bench, file, block, twoFiles, damaged, mapFile, mapBlock, mapPeek, peek}
 
 -- ---- what is seen. These are definitions and not abbreviations, so that the checker computes the memory once for all that is read off it
 -- the memory after set up and these calls
 unfoldable pub after : Memory → List Call → Memory
 after m calls = memoryAfter (setUp m 1024 100 5 .after) calls
 
+-- the same on the bench with another cap
+unfoldable pub warmed : ℕ → List Call → Memory
+warmed cap calls = memoryAfter (setUp bench 1024 100 cap .after) calls
+
 -- the refusal number and the answer's words of each of some calls, after others
 unfoldable pub seen : Memory → List Call → List Call → List (List ℕ)
 seen m before calls = answers (after m before) calls
+
+unfoldable pub seenAt : ℕ → List Call → List Call → List (List ℕ)
+seenAt cap before calls = answers (warmed cap before) calls
 
 -- the bytes that a read of a buffer's page hands back, after some calls
 unfoldable pub bytes : Memory → List Call → ℕ → ℕ → ℕ → List ℕ
@@ -148,9 +104,12 @@ three = block 0 ∷ block 1 ∷ block 2 ∷ []
 abbrev unpinned : List Call
 unpinned = three ++ (Unpin 0 ∷ Unpin 1 ∷ Unpin 2 ∷ [])
 
--- buffers 0 and 1 pinned, 2 unpinned with usage 5
+-- buffers 0 and 1 pinned, 2 unpinned with this usage
+abbrev used : ℕ → List Call
+used n = three ++ (replicate (n - 1) (block 2) ++ replicate n (Unpin 2))
+
 abbrev clocked : List Call
-clocked = three ++ (replicate 4 (block 2) ++ replicate 5 (Unpin 2))
+clocked = used 5
 
 abbrev write : ℕ → Call
 write position = Write 0 8 (1 ∷ []) position
@@ -298,8 +257,38 @@ sumCases =
     ((0 ∷ 0 ∷ 1 ∷ 0 ∷ 0 ∷ []) ∷ (0 ∷ 1 ∷ 0 ∷ 0 ∷ 0 ∷ []) ∷ [])
     ∷ []
 
+-- caps
+unfoldable pub capCases : List Case
+capCases =
+    -- H at other caps: the sweep looks at each buffer cap + 1 times
+    case unmarked (seenAt 1 (used 1) (block 3 ∷ [])) (at 2 6 ∷ [])
+    ∷ case unmarked (seenAt 15 (used 15) (block 3 ∷ [])) (at 2 48 ∷ [])
+    -- A page pinned more often than the cap: usage stays there
+    ∷ case unmarked (just (getD (warmed 1 (replicate 3 (block 0)) .states) 0 0)) (just 0x83040003)
+    ∷ case unmarked (just (getD (warmed 2 (replicate 3 (block 0)) .states) 0 0)) (just 0x83080003)
+    ∷ case unmarked (just (getD (warmed 15 (replicate 16 (block 0)) .states) 0 0)) (just 0x833C0010)
+    -- Set up: 18, cap outside 1 to 15, after 1, sizes
+    ∷ case unmarked (just (setUp bench 1024 100 0 .refusal)) (just 18)
+    ∷ case unmarked (just (setUp bench 1024 100 1 .refusal)) (just 0)
+    ∷ case unmarked (just (setUp bench 1024 100 15 .refusal)) (just 0)
+    ∷ case unmarked (just (setUp bench 1024 100 16 .refusal)) (just 18)
+    ∷ case unmarked (just (setUp bench 1024 100 (2 ^ 63 + 5) .refusal)) (just 18)
+    ∷ case unmarked (just (setUp bench 1000 100 0 .refusal)) (just 1)
+    -- A bad cap is 2 for other calls, and so is one below a usage count
+    ∷ case unmarked (told bench [] (1024 ∷ 0 ∷ 0 ∷ 100 ∷ 100 ∷ 0 ∷ []) (Checkpoint ∷ []))
+    (only 2 ∷ (1024 ∷ 0 ∷ 0 ∷ 100 ∷ 100 ∷ 0 ∷ []) ∷ [])
+    ∷ case unmarked (told bench [] (1024 ∷ 0 ∷ 0 ∷ 100 ∷ 100 ∷ 16 ∷ []) (Checkpoint ∷ []))
+    (only 2 ∷ (1024 ∷ 0 ∷ 0 ∷ 100 ∷ 100 ∷ 16 ∷ []) ∷ [])
+    ∷ case unmarked (told bench [] (1024 ∷ 0 ∷ 0 ∷ 100 ∷ 100 ∷ (2 ^ 63 + 5) ∷ []) (Checkpoint ∷ []))
+    (only 2 ∷ (1024 ∷ 0 ∷ 0 ∷ 100 ∷ 100 ∷ (2 ^ 63 + 5) ∷ []) ∷ [])
+    ∷ case unmarked (told bench (block 0 ∷ block 0 ∷ []) (1024 ∷ 0 ∷ 1 ∷ 100 ∷ 100 ∷ 1 ∷ []) (Checkpoint ∷ []))
+    (only 2 ∷ (1024 ∷ 0 ∷ 1 ∷ 100 ∷ 100 ∷ 1 ∷ []) ∷ [])
+    ∷ case unmarked (told bench (block 0 ∷ block 0 ∷ []) (1024 ∷ 0 ∷ 1 ∷ 100 ∷ 100 ∷ 2 ∷ []) (Checkpoint ∷ []))
+    (counted 0 ∷ (1024 ∷ 0 ∷ 1 ∷ 100 ∷ 100 ∷ 2 ∷ []) ∷ [])
+    ∷ []
+
 unfoldable pub cases : List Case
-cases = benchCases ++ (fileCases ++ sumCases)
+cases = benchCases ++ (fileCases ++ (sumCases ++ capCases))
 
 -- what the definitions give: where this unfolds, they compute
 unfoldable pub given : List Case → List Shown
@@ -360,8 +349,9 @@ unfolding Rattle.laws.specs.Every.all Rattle.laws.specs.Every.any Rattle.laws
     Rattle.bufmodel.specs.Step.memoryAfter Rattle.bufmodel.specs.Step.answers
     Rattle.bufmodel.specs.Lent.topOf Rattle.bufmodel.specs.Lent.topWord Rattle.bufmodel.specs.Lent.controlOf
     Rattle.bufmodel.specs.Lent.wordsOf Rattle.bufmodel.specs.Lent.opened Rattle.bufmodel.specs.Lent.closed
-    Rattle.bufmodel.specs.Lent.ended Rattle.bufmodel.specs.Lent.called bench twoFiles damaged after seen bytes blocks
-    results told linksAfter
+    Rattle.bufmodel.specs.Lent.ended Rattle.bufmodel.specs.Lent.called Rattle.bufmodel.specs.Bench.bench
+    Rattle.bufmodel.specs.Bench.twoFiles Rattle.bufmodel.specs.Bench.damaged after warmed seen seenAt bytes blocks results
+    told linksAfter
 given [] = []
 given (c ∷ cs) = c .gives ∷ given cs
 
@@ -382,6 +372,10 @@ sum-hold : given sumCases ≡ said sumCases
 unfolding sumCases given said
 sum-hold = refl
 
+cap-hold : given capCases ≡ said capCases
+unfolding capCases given said
+cap-hold = refl
+
 given-append : (xs ys : List Case) → given (xs ++ ys) ≡ given xs ++ given ys
 unfolding given
 given-append [] ys = refl
@@ -397,4 +391,5 @@ joined xs ys h k = given-append xs ys ∙ ap₂ (λ (a b : List Shown). a ++ b) 
 
 pub cases-hold : given cases ≡ said cases
 unfolding cases
-cases-hold = joined benchCases (fileCases ++ sumCases) bench-hold (joined fileCases sumCases file-hold sum-hold)
+cases-hold =
+    joined benchCases _ bench-hold (joined fileCases _ file-hold (joined sumCases capCases sum-hold cap-hold))

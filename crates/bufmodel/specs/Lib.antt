@@ -13,4 +13,5 @@ pub mod Pin
 pub mod Calls
 pub mod Step
 pub mod Lent
+pub mod Bench
 pub mod Cases
