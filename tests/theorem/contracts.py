@@ -8,7 +8,7 @@ EXPORT = re.compile(r'#\[no_mangle\]\npub extern "C" fn (\w+)\((.*?)\) -> u32\n(
 SLICES = ['control', 'states', 'names', 'pool', 'free', 'heads', 'chain', 'rows', 'store']
 # each call with its arguments, as the equations of Made.antt.in have it, and the caller's own bytes
 CALLS = {
-    'bufpool_set_up': ('setUp m «page_size» position', None),
+    'bufpool_set_up': ('setUp m «page_size» position «cap»', None),
     'bufpool_pin': ('pin m (nameOf tablespace database relation fork block)', None),
     'bufpool_unpin': ('unpin m buffer', None),
     'bufpool_read': ('read m buffer from (now (out .entry))', 'out'),
@@ -23,7 +23,7 @@ CALLS = {
 }
 # the exports that touch no pool: parameters and contract
 OTHERS = {
-    'bufpool_interface_2': ('', 'ensures { λ r. ⌜ r ≡ interface ⌝ }'),
+    'bufpool_interface_3': ('', 'ensures { λ r. ⌜ r ≡ interface ⌝ }'),
     'bufpool_checksum': (
         'page: &[u8], block: u32, answer: &mut [u64]',
         'ensures { λ r. ⌜ r ≡ sumResult (now (page .entry)) (now (answer .entry)) ⌝ } '
@@ -31,7 +31,7 @@ OTHERS = {
 }
 # what these two say, as bufpool's own specs define it
 DEFINITIONS = {
-    'Interface.antt': ['interface = 2'],
+    'Interface.antt': ['interface = 3'],
     'Checksum.antt': [
         'sumResult page answer = cond (eqb (length answer) answerWords && permitted (length page)) 0 1',
         'sumWords page block = cond (permitted (length page)) (one (checksum block page)) zeros',
