@@ -45,11 +45,14 @@ void must(const struct shop *shop, const char *call, uint32_t refusal)
     stop_refused(call, refusal, bufpool_refusal_words(refusal));
 }
 
-/* The memory that set up is lent has no books yet. */
-static void must_set_up(const struct shop *shop, uint64_t page, uint32_t refusal)
+/* The memory that it is lent has no books yet: what is wrong with it is asked in another way than after other calls. */
+static void set_up(struct shop *shop, uint64_t page, uint64_t cap)
 {
     char why[BUFPOOL_WHY_BYTES];
-    if (refusal != BUFPOOL_DONE && bufpool_why_set_up(&shop->pool, page, why, sizeof why) == refusal) stop_refused("set up", refusal, why);
+    uint32_t refusal = bufpool_set_up_pool(&shop->pool, page, shop->card->position, cap);
+    if (refusal != BUFPOOL_DONE && bufpool_why_set_up(&shop->pool, page, cap, why, sizeof why) == refusal) {
+        stop_refused("set up", refusal, why);
+    }
     must(shop, "set up", refusal);
 }
 
@@ -126,9 +129,10 @@ static uint64_t buckets_for(uint32_t buffers)
     return buckets;
 }
 
-void shop_start(struct shop *shop, int fd, uint32_t buffers)
+void shop_start(struct shop *shop, int fd, const struct sizes *sizes)
 {
     struct bufpool *m = &shop->pool;
+    uint32_t buffers = sizes->buffers;
     uint64_t page, bytes, buckets = buckets_for(buffers);
     map_card(shop, fd);
     page = shop->card->page_size;
@@ -142,7 +146,7 @@ void shop_start(struct shop *shop, int fd, uint32_t buffers)
     if (shop->card->day_block > receipts_blocks(shop)) stop("the card's day begins behind its last block");
     shop->page_lines = shop->last_lines = (uint32_t)page / LINE_BYTES - 1;
     shop->receipts = 0;
-    must_set_up(shop, page, bufpool_set_up_pool(m, page, shop->card->position));
+    set_up(shop, page, sizes->cap);
     trail_note(shop, "set up at log position %llu", (unsigned long long)shop->card->position);
 }
 

@@ -34,7 +34,7 @@ struct shop {
 };
 
 struct sizes {
-    uint32_t buffers, page, blocks, used; /* used: blocks that older days have filled */
+    uint32_t buffers, cap, page, blocks, used; /* cap: of the usage counts; used: blocks that older days have filled */
 };
 
 extern const struct bufpool_file receipts_file, practice_file;
@@ -48,8 +48,9 @@ int card_open(const char *path);
 /* No further start is made with it. */
 void card_close(int fd);
 
-/* Maps the card, takes fresh memory and sets the pool up. Stops at a card whose notes do not fit its length or each other. */
-void shop_start(struct shop *shop, int fd, uint32_t buffers);
+/* Maps the card, takes fresh memory and sets the pool up with so many buffers and this cap: the card has neither. Stops at a card whose
+   notes do not fit its length or each other. */
+void shop_start(struct shop *shop, int fd, const struct sizes *sizes);
 
 /* Puts the log on the card up to its end, and says so to the pool. It goes before each call that may write a page back: flush,
    checkpoint, and a pin when no buffer is free. */

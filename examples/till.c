@@ -138,7 +138,7 @@ static uint32_t number(const char *option, const char *text)
 
 static void usage(void)
 {
-    fputs("usage: till [--buffers N] [--page P] [--blocks N] [--used N] [--look-back N] [--mornings N]\n"
+    fputs("usage: till [--buffers N] [--cap N] [--page P] [--blocks N] [--used N] [--look-back N] [--mornings N]\n"
           "            [--pause MS] [--memory] [--trail FILE] [CARD]\n"
           "                                       a new card; a temporary one if no name is given\n"
           "       till --read CARD                reads back the day of a card made before\n", stderr);
@@ -147,10 +147,10 @@ static void usage(void)
 
 static struct options options_of(char **arg)
 {
-    struct options o = {{3, 1024, 8, 0}, 0, 1, 0, 0, 0, NULL, NULL};
+    struct options o = {{3, BUFPOOL_DEFAULT_CAP, 1024, 8, 0}, 0, 1, 0, 0, 0, NULL, NULL};
     struct { const char *name; uint32_t *value; } numbers[] = {
-        {"--buffers", &o.sizes.buffers}, {"--page", &o.sizes.page}, {"--blocks", &o.sizes.blocks}, {"--used", &o.sizes.used},
-        {"--look-back", &o.look_back}, {"--mornings", &o.mornings}, {"--pause", &o.pause}};
+        {"--buffers", &o.sizes.buffers}, {"--cap", &o.sizes.cap}, {"--page", &o.sizes.page}, {"--blocks", &o.sizes.blocks},
+        {"--used", &o.sizes.used}, {"--look-back", &o.look_back}, {"--mornings", &o.mornings}, {"--pause", &o.pause}};
     size_t k, count = sizeof numbers / sizeof *numbers;
     while (*++arg != NULL) {
         for (k = 0; k < count && strcmp(*arg, numbers[k].name) != 0; k++) continue;
@@ -176,7 +176,7 @@ static struct options options_of(char **arg)
 static void first_start(struct shop *shop, int fd, const struct options *o)
 {
     uint32_t k;
-    shop_start(shop, fd, o->sizes.buffers);
+    shop_start(shop, fd, &o->sizes);
     printf("first start: %u buffers, %u blocks of %u bytes on the card, %u lines on a page\n",
            o->sizes.buffers, o->sizes.blocks, o->sizes.page, shop->page_lines);
     day_look_back(shop, o->look_back);
@@ -197,7 +197,7 @@ int main(int argc, char **argv)
     memset(&shop, 0, sizeof shop);
     if (o.trail != NULL) shop.trail = trail_new(o.trail);
     if (!o.read_only) first_start(&shop, fd, &o);
-    shop_start(&shop, fd, o.sizes.buffers);
+    shop_start(&shop, fd, &o.sizes);
     printf("second start: fresh memory, log position %llu\n", (unsigned long long)shop.card->position);
     day_read_back(&shop);
     trail_end(&shop);

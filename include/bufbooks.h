@@ -22,7 +22,7 @@ extern "C" {
 
 /* Whether memory is fit for a call: what every call but set up checks first. It changes nothing. Each slice is a pointer and its
    number of elements; no pointer is null.
-   control      P, hand, top of the free list (-1 as 64 one bits), inserted and flushed log position
+   control      P, hand, top of the free list (-1 as 64 one bits), inserted and flushed log position, cap
    states       N state words                       names   N names of five words
    pool         N pages of P bytes                  free    N free links
    heads        B heads of the bucket chains        chain   N chain links

@@ -164,6 +164,7 @@ BUFPOOL_INLINE uint32_t bufpool_lend(struct bufpool *m, void *memory, uint64_t m
 BUFPOOL_INLINE uint64_t bufpool_page_size(const struct bufpool *m) { return m->control[BUFPOOL_CONTROL_AT_PAGE_SIZE]; }
 BUFPOOL_INLINE uint64_t bufpool_inserted(const struct bufpool *m) { return m->control[BUFPOOL_CONTROL_AT_INSERTED]; }
 BUFPOOL_INLINE uint64_t bufpool_flushed(const struct bufpool *m) { return m->control[BUFPOOL_CONTROL_AT_FLUSHED]; }
+BUFPOOL_INLINE uint64_t bufpool_cap(const struct bufpool *m) { return m->control[BUFPOOL_CONTROL_AT_CAP]; }
 
 /* Whether a buffer is free: then no pin evicts a page. */
 BUFPOOL_INLINE int bufpool_has_free(const struct bufpool *m)
@@ -203,11 +204,11 @@ static inline void bufpool_page_header(uint8_t *rest, uint64_t page_size, uint64
 
 /* ---- The calls ---- */
 
-/* Empties the pool. What was dirty in it is forgotten. */
-BUFPOOL_INLINE uint32_t bufpool_set_up_pool(struct bufpool *m, uint64_t page_size, uint64_t position)
+/* Empties the pool. What was dirty in it is forgotten. The cap is BUFPOOL_DEFAULT_CAP, or as docs/CAP.md says. */
+BUFPOOL_INLINE uint32_t bufpool_set_up_pool(struct bufpool *m, uint64_t page_size, uint64_t position, uint64_t cap)
 {
     uint64_t answer[BUFPOOL_ANSWER_WORDS];
-    return bufpool_set_up(BUFPOOL_LENT(m), page_size, position, answer, BUFPOOL_ANSWER_WORDS);
+    return bufpool_set_up(BUFPOOL_LENT(m), page_size, position, cap, answer, BUFPOOL_ANSWER_WORDS);
 }
 
 BUFPOOL_INLINE uint32_t bufpool_pin_page(struct bufpool *m, struct bufpool_name name, struct bufpool_pinned *pinned)

@@ -6,7 +6,7 @@
    Answer words that a call does not name are 0. An answer slice of another length than four gives 1 and stays untouched.
    A slice is a pointer and its number of elements. No pointer is null, also where there are no elements. Slices lent to one call do
    not overlap: the caller sees to that. const slices are read only.
-   control      five words: P, hand, top of the free list (-1 as 64 one bits), inserted and flushed log position
+   control      six words: P, hand, top of the free list (-1 as 64 one bits), inserted and flushed log position, cap
    states       N state words                       names   N names of five words
    pool         N pages of P bytes                  free    N free links
    heads        B heads of the bucket chains        chain   N chain links
@@ -36,14 +36,15 @@ extern "C" {
 
 /* The number of this interface. It changes with every change after which a program has to be compiled again; the library has one symbol
    that carries its number, and each helper refers to it, so that an object of another interface does not link. */
-#define BUFPOOL_INTERFACE 2
-#define BUFPOOL_INTERFACE_SYMBOL bufpool_interface_2
+#define BUFPOOL_INTERFACE 3
+#define BUFPOOL_INTERFACE_SYMBOL bufpool_interface_3
 
 /* What a call results in: 0, or the first of these whose condition holds, in this order. From 17 on numbers are out of order: a later
    refusal has the next number, and stands where it is checked. */
 #define BUFPOOL_DONE 0
 #define BUFPOOL_SIZES 1           /* all calls: a length, the block size or a file row breaks a rule */
-#define BUFPOOL_BOOKS 2           /* all but set up: words, links, names and positions do not fit together */
+#define BUFPOOL_BAD_CAP 18        /* set up: the cap is not from 1 to 15 */
+#define BUFPOOL_BOOKS 2           /* all but set up: cap, words, links, names and positions do not fit together */
 #define BUFPOOL_NO_FILE 3         /* pin, peek, extend, drop: no row has these four numbers */
 #define BUFPOOL_NO_BLOCK 4        /* pin, peek: the file has not so many blocks */
 #define BUFPOOL_CHECKSUM 17       /* pin, peek of a page that is not held: its block is not zeros, and has another checksum */
@@ -66,6 +67,7 @@ extern "C" {
 #define BUFPOOL_CONTROL_AT_FREE_TOP 2  /* the first buffer of the free list, BUFPOOL_BUFFER_NONE if it is empty */
 #define BUFPOOL_CONTROL_AT_INSERTED 3  /* the log's positions */
 #define BUFPOOL_CONTROL_AT_FLUSHED 4
+#define BUFPOOL_CONTROL_AT_CAP 5       /* the greatest usage count, as it was given at set up */
 
 /* Where a word of a file row stands, and of a name: a row's first four, then the block. */
 #define BUFPOOL_FILE_AT_TABLESPACE 0
@@ -77,7 +79,7 @@ extern "C" {
 #define BUFPOOL_NAME_AT_BLOCK 4   /* below its file's number of blocks */
 
 /* Lengths and limits. */
-#define BUFPOOL_CONTROL_WORDS 5
+#define BUFPOOL_CONTROL_WORDS 6
 #define BUFPOOL_ANSWER_WORDS 4
 #define BUFPOOL_FILE_WORDS 4
 #define BUFPOOL_NAME_WORDS 5
@@ -89,7 +91,9 @@ extern "C" {
 #define BUFPOOL_MAX_FILES 64     /* F is from 0 to this */
 #define BUFPOOL_MAX_BLOCKS 65536 /* the sum of all capacities is at most this */
 #define BUFPOOL_MAX_PINS 262143
-#define BUFPOOL_MAX_USAGE 5
+#define BUFPOOL_MIN_CAP 1        /* the cap is from this to the next */
+#define BUFPOOL_MAX_CAP 15
+#define BUFPOOL_DEFAULT_CAP 5    /* PostgreSQL's BM_MAX_USAGE_COUNT: for a till that has no reason for another */
 #define BUFPOOL_POSITION_BYTES 8 /* a page begins with its log position: high word, then low word; writes begin behind it */
 #define BUFPOOL_CHECKSUM_BYTES 2 /* behind it, in the store: the page's checksum, low byte first */
 
@@ -100,13 +104,14 @@ extern "C" {
 /* Answers BUFPOOL_INTERFACE. A library of another interface does not have it. */
 BUFPOOL_RESULT uint32_t BUFPOOL_INTERFACE_SYMBOL(void);
 
-/* Sets up an empty pool for blocks of page_size bytes: every buffer in the free list, rising, hand 0, both log positions as given.
-   control needs only its length. Refuses with 1. */
+/* Sets up an empty pool for blocks of page_size bytes: every buffer in the free list, rising, hand 0, both log positions and the cap as
+   given. A pin raises a page's usage count up to the cap, and a sweep probes each buffer at most cap + 1 times. Only set up changes it.
+   control needs only its length. Refuses with 1, 18. */
 BUFPOOL_RESULT BUFPOOL_LENGTH_ONLY(7) BUFPOOL_LENGTH_ONLY(17) uint32_t bufpool_set_up(
     uint64_t *control, uint64_t control_len, uint32_t *states, uint64_t states_len, uint32_t *names, uint64_t names_len,
     const uint8_t *pool, uint64_t pool_len, int32_t *free, uint64_t free_len, int32_t *heads, uint64_t heads_len,
     int32_t *chain, uint64_t chain_len, const uint32_t *rows, uint64_t rows_len, const uint8_t *store, uint64_t store_len,
-    uint64_t page_size, uint64_t position, uint64_t *answer, uint64_t answer_len);
+    uint64_t page_size, uint64_t position, uint64_t cap, uint64_t *answer, uint64_t answer_len);
 
 /* Pins a page. Answers its buffer, 1 for a hit or 0 for loaded, 1 if a victim was written back, the probes of the sweep.
    Refuses with 1, 2, 3, 4, 17, 5, 6. */

@@ -113,6 +113,13 @@ BUFPOOL_INLINE uint64_t bufpool_view_page_size(const struct bufpool_view *v)
     return bufpool_bytes(1, 1, page_size) != 0 ? page_size : 0;
 }
 
+/* The cap, or 0 where the control record has none that a pool can have. */
+BUFPOOL_INLINE uint64_t bufpool_view_cap(const struct bufpool_view *v)
+{
+    uint64_t cap = v->kept[BUFPOOL_KEPT_CONTROL] > BUFPOOL_CONTROL_AT_CAP ? v->lent.control[BUFPOOL_CONTROL_AT_CAP] : 0;
+    return cap <= BUFPOOL_MAX_CAP ? cap : 0;
+}
+
 BUFPOOL_INLINE struct bufpool_view bufpool_view_of(const struct bufpool *m)
 {
     struct bufpool_view v;

@@ -42,6 +42,7 @@ BUFPOOL_INLINE const struct bufpool_refusal *bufpool_refusal_of(uint32_t refusal
         {BUFPOOL_KIND_MISTAKE, "BUFPOOL_LOG_SHORTER", "the log is inserted further already"},
         {BUFPOOL_KIND_MISTAKE, "BUFPOOL_FLUSHED_BEYOND", "the log cannot be flushed further than it is inserted"},
         {BUFPOOL_KIND_DAMAGE, "BUFPOOL_CHECKSUM", "the block in the store does not have its checksum"},
+        {BUFPOOL_KIND_MISTAKE, "BUFPOOL_BAD_CAP", "the cap is not from 1 to 15"},
         {BUFPOOL_KIND_MISTAKE, "unknown", "not a result of these calls"},
     };
     const uint32_t known = sizeof all / sizeof *all - 1;

@@ -88,6 +88,8 @@ static inline void bufpool_print_summary(FILE *out, const struct bufpool_view *v
             (bufpool_shown)(buffers - empty), (bufpool_shown)pinned, (bufpool_shown)dirty, (bufpool_shown)empty);
     bufpool_print_control(out, v, " hand at", BUFPOOL_CONTROL_AT_HAND);
     if (hand >= buffers && v->kept[BUFPOOL_KEPT_CONTROL] > BUFPOOL_CONTROL_AT_HAND) fputs(" ?", out);
+    bufpool_print_control(out, v, "; cap", BUFPOOL_CONTROL_AT_CAP);
+    if (bufpool_view_cap(v) == 0 && v->kept[BUFPOOL_KEPT_CONTROL] > BUFPOOL_CONTROL_AT_CAP) fputs(" ?", out);
     bufpool_print_control(out, v, "; log inserted to", BUFPOOL_CONTROL_AT_INSERTED);
     bufpool_print_control(out, v, ", flushed to", BUFPOOL_CONTROL_AT_FLUSHED);
     fputc('\n', out);
@@ -95,12 +97,21 @@ static inline void bufpool_print_summary(FILE *out, const struct bufpool_view *v
 
 /* ---- Buffers ---- */
 
+/* A usage count, of the cap: "3 of 5". */
+BUFPOOL_INLINE const char *bufpool_usage_text(const struct bufpool_view *v, uint32_t state, char *text)
+{
+    uint64_t cap = bufpool_view_cap(v);
+    if (cap == 0) snprintf(text, BUFPOOL_PAGE_TEXT, "%u of ?", bufpool_state_usage(state));
+    else snprintf(text, BUFPOOL_PAGE_TEXT, "%u of %llu", bufpool_state_usage(state), (bufpool_shown)cap);
+    return text;
+}
+
 static inline void bufpool_print_buffer(FILE *out, const struct bufpool_view *v, uint64_t b)
 {
     uint32_t state = v->lent.states[b];
-    char text[BUFPOOL_PAGE_TEXT];
-    fprintf(out, "%c %6llu  %-24s  %4u  %5u  %-5s", bufpool_view_control(v, BUFPOOL_CONTROL_AT_HAND) == b ? '>' : ' ', (bufpool_shown)b,
-            bufpool_page_text(v, b, text), bufpool_state_pins(state), bufpool_state_usage(state),
+    char page[BUFPOOL_PAGE_TEXT], usage[BUFPOOL_PAGE_TEXT];
+    fprintf(out, "%c %6llu  %-24s  %4u  %8s  %-5s", bufpool_view_control(v, BUFPOOL_CONTROL_AT_HAND) == b ? '>' : ' ', (bufpool_shown)b,
+            bufpool_page_text(v, b, page), bufpool_state_pins(state), bufpool_usage_text(v, state, usage),
             bufpool_state_dirty(state) ? "dirty" : "clean");
     if (b < v->kept[BUFPOOL_KEPT_POSITIONS]) {
         fprintf(out, "  %12llu", (bufpool_shown)bufpool_view_position(v, b));
@@ -115,7 +126,7 @@ static inline void bufpool_print_buffers(FILE *out, const struct bufpool_view *v
 {
     uint64_t buffers = v->kept[BUFPOOL_KEPT_STATES], b;
     if (bufpool_view_empty(v) == buffers) return;
-    fprintf(out, "  buffer  %-24s  pins  usage  %-5s  log position\n", "page", "");
+    fprintf(out, "  buffer  %-24s  pins     usage  %-5s  log position\n", "page", "");
     for (b = 0; b < buffers; b++) {
         if (!bufpool_state_empty(v->lent.states[b])) bufpool_print_buffer(out, v, b);
     }

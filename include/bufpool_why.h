@@ -9,6 +9,7 @@
 
 #include <stdarg.h>
 #include <stdio.h>
+#include <string.h>
 
 #include "bufpool.h"
 
@@ -82,12 +83,7 @@ BUFPOOL_INLINE const uint32_t *bufpool_why_row_for(const struct bufpool *m, cons
     return bufpool_row_of(m, file);
 }
 
-BUFPOOL_INLINE int bufpool_why_same_name(const uint32_t *a, const uint32_t *b)
-{
-    size_t k = 0;
-    while (k < BUFPOOL_NAME_WORDS && a[k] == b[k]) k++;
-    return k == BUFPOOL_NAME_WORDS;
-}
+BUFPOOL_INLINE int bufpool_why_same_name(const uint32_t *a, const uint32_t *b) { return memcmp(a, b, BUFPOOL_NAME_WORDS * sizeof *a) == 0; }
 
 /* 32-bit FNV-1a over a name's 20 bytes, the low byte of a word first. */
 BUFPOOL_INLINE uint32_t bufpool_why_hash(const uint32_t *name)
@@ -117,7 +113,7 @@ BUFPOOL_INLINE uint32_t bufpool_why_p_and_n(const struct bufpool_why_look *l)
 {
     const bufpool_why_number control = l->m->control_len, p = l->p;
     if (control != BUFPOOL_CONTROL_WORDS)
-        return bufpool_why_say(l, BUFPOOL_SIZES, "rule 3.1: the control record has %llu words, not 5", control);
+        return bufpool_why_say(l, BUFPOOL_SIZES, "rule 3.1: the control record has %llu words, not 6", control);
     if (p != 1024 && p != 2048 && p != 4096 && p != 8192 && p != 16384 && p != 32768)
         return bufpool_why_say(l, BUFPOOL_SIZES, "rule 3.2: the block size is %llu, not 1024, 2048, 4096, 8192, 16384 or 32768%s", p,
                                p == 0 ? "; was it set up?" : "");
@@ -204,11 +200,13 @@ BUFPOOL_INLINE uint32_t bufpool_why_sizes(const struct bufpool_why_look *l)
 
 BUFPOOL_INLINE int bufpool_why_empty(const struct bufpool_why_look *l, bufpool_why_number i) { return l->m->states[i] == 0; }
 
-/* Rules 4.1 and 4.2. */
+/* Rules 4.14, on which 4.3 relies, 4.1 and 4.2. */
 BUFPOOL_INLINE uint32_t bufpool_why_control(const struct bufpool_why_look *l)
 {
-    const bufpool_why_number hand = l->m->control[BUFPOOL_CONTROL_AT_HAND];
+    const bufpool_why_number hand = l->m->control[BUFPOOL_CONTROL_AT_HAND], cap = bufpool_cap(l->m);
     const bufpool_why_number inserted = bufpool_inserted(l->m), flushed = bufpool_flushed(l->m);
+    if (cap < BUFPOOL_MIN_CAP || cap > BUFPOOL_MAX_CAP)
+        return bufpool_why_say(l, BUFPOOL_BOOKS, "rule 4.14: the cap is %llu, not 1 to 15", cap);
     if (hand >= l->n)
         return bufpool_why_say(l, BUFPOOL_BOOKS, "rule 4.1: the hand is at buffer %llu, and there are %llu buffers", hand, l->n);
     if (flushed > inserted)
@@ -216,14 +214,13 @@ BUFPOOL_INLINE uint32_t bufpool_why_control(const struct bufpool_why_look *l)
     return BUFPOOL_DONE;
 }
 
-/* What is wrong with a state word that is not 0; a null pointer if nothing is. */
-BUFPOOL_INLINE const char *bufpool_why_word(uint32_t state)
+/* What is wrong with the flags of a state word that is not 0; a null pointer if nothing is. */
+BUFPOOL_INLINE const char *bufpool_why_flags(uint32_t state)
 {
     const uint32_t others = 1u << 22 | 1u << 26 | 1u << 27 | 1u << 29 | 1u << 30;
     if ((state >> 24 & 1) == 0) return "it is not 0 and lacks flag 24, valid";
     if ((state >> 25 & 1) == 0) return "it is not 0 and lacks flag 25, tag valid";
     if ((state >> 31 & 1) == 0) return "it is not 0 and lacks flag 31, permanent";
-    if ((state >> 18 & 15) > BUFPOOL_MAX_USAGE) return "its usage count is above 5";
     if ((state >> 23 & 1) != (state >> 28 & 1)) return "of the flags 23, dirty, and 28, just dirtied, it has one alone";
     if ((state & others) != 0) return "it has one of the flags 22, 26, 27, 29 and 30";
     return NULL;
@@ -231,10 +228,12 @@ BUFPOOL_INLINE const char *bufpool_why_word(uint32_t state)
 
 BUFPOOL_INLINE uint32_t bufpool_why_4_3(const struct bufpool_why_look *l, bufpool_why_number i)
 {
-    const uint32_t state = l->m->states[i];
-    const char *wrong = state == 0 ? NULL : bufpool_why_word(state);
-    if (wrong == NULL) return BUFPOOL_DONE;
-    return bufpool_why_say(l, BUFPOOL_BOOKS, "rule 4.3: the state word of buffer %llu is 0x%08X: %s", i, state, wrong);
+    const uint32_t state = l->m->states[i], usage = bufpool_state_usage(state);
+    const bufpool_why_number cap = bufpool_cap(l->m);
+    const char *wrong = state == 0 ? NULL : bufpool_why_flags(state);
+    if (wrong != NULL) return bufpool_why_say(l, BUFPOOL_BOOKS, "rule 4.3: the state word of buffer %llu is 0x%08X: %s", i, state, wrong);
+    if (usage <= cap) return BUFPOOL_DONE;
+    return bufpool_why_say(l, BUFPOOL_BOOKS, "rule 4.3: the usage count of buffer %llu is %u, and the cap is %llu", i, usage, cap);
 }
 
 BUFPOOL_INLINE uint32_t bufpool_why_4_4(const struct bufpool_why_look *l, bufpool_why_number i)
@@ -382,12 +381,14 @@ BUFPOOL_INLINE uint32_t bufpool_why(const struct bufpool *m, char *words, size_t
     return refusal != BUFPOOL_DONE ? refusal : bufpool_why_say(&l, BUFPOOL_DONE, "sound");
 }
 
-/* The same for set up with this block size: 0 or 1. What stands in the control record is not looked at, nor are the books. */
-BUFPOOL_INLINE uint32_t bufpool_why_set_up(const struct bufpool *m, uint64_t page_size, char *words, size_t words_len)
+/* The same for set up with this block size and cap: 0, 1 or 18. What stands in the control record is not looked at, nor are the books. */
+BUFPOOL_INLINE uint32_t bufpool_why_set_up(const struct bufpool *m, uint64_t page_size, uint64_t cap, char *words, size_t words_len)
 {
     const struct bufpool_why_look l = {m, m->states_len, page_size, words, words_len};
     uint32_t refusal = bufpool_why_pointers(&l);
     if (refusal == BUFPOOL_DONE) refusal = bufpool_why_sizes(&l);
+    if (refusal == BUFPOOL_DONE && (cap < BUFPOOL_MIN_CAP || cap > BUFPOOL_MAX_CAP))
+        return bufpool_why_say(&l, BUFPOOL_BAD_CAP, "rule 6.18: the cap given is %llu, not 1 to 15", (bufpool_why_number)cap);
     return refusal != BUFPOOL_DONE ? refusal : bufpool_why_say(&l, BUFPOOL_DONE, "sound");
 }
 

@@ -141,8 +141,8 @@ static int whole(const struct snapshot *s)
 }
 
 /* Less is kept than the lengths say where a slice was null or is longer than in the greatest pool, and where no pool has such a block size
-   or the pool is short. Each of these is refused before any rule of section 4. So those rules are not asked then, and nothing is read that
-   is not here: of the slices section 3 reads only rows, and these behind rule 3.8, by which they are not too long. */
+   or the pool is short. Each of these is refused before any rule of section 4. So those rules are not asked then, nor is the cap, and
+   nothing is read that is not here: of the slices section 3 reads only rows, and these behind rule 3.8, by which they are not too long. */
 uint32_t snapshot_why(const struct snapshot *s, char words[BUFPOOL_WHY_BYTES])
 {
     struct bufpool m = s->view.lent;
@@ -152,7 +152,8 @@ uint32_t snapshot_why(const struct snapshot *s, char words[BUFPOOL_WHY_BYTES])
     if (whole(s)) {
         refusal = bufpool_why(&m, words, BUFPOOL_WHY_BYTES);
     } else {
-        refusal = bufpool_why_set_up(&m, bufpool_view_control(&s->view, BUFPOOL_CONTROL_AT_PAGE_SIZE), words, BUFPOOL_WHY_BYTES);
+        refusal = bufpool_why_set_up(&m, bufpool_view_control(&s->view, BUFPOOL_CONTROL_AT_PAGE_SIZE), BUFPOOL_DEFAULT_CAP, words,
+                                     BUFPOOL_WHY_BYTES);
     }
     free(pages);
     return refusal;

@@ -67,12 +67,12 @@ static const char *end_of_page(const struct snapshot *before, const struct snaps
 static void print_other_page(const struct snapshot *before, const struct snapshot *s, uint64_t b)
 {
     uint32_t was = before->states[b], is = s->states[b];
-    char text[BUFPOOL_PAGE_TEXT];
+    char text[BUFPOOL_PAGE_TEXT], usage[BUFPOOL_PAGE_TEXT];
     if (!bufpool_state_empty(was)) printf(" page %s %s", bufpool_page_text(&before->view, b, text), end_of_page(before, s, b));
     if (bufpool_state_empty(was) && bufpool_state_empty(is)) printf(" empty, and its name or position is another one");
     if (bufpool_state_empty(is)) return;
-    printf(" page %s loaded: pins %u, usage %u, %s, log position %llu", bufpool_page_text(&s->view, b, text), bufpool_state_pins(is),
-           bufpool_state_usage(is), bufpool_state_dirty(is) ? "dirty" : "clean", (bufpool_shown)position_of(s, b));
+    printf(" page %s loaded: pins %u, usage %s, %s, log position %llu", bufpool_page_text(&s->view, b, text), bufpool_state_pins(is),
+           bufpool_usage_text(&s->view, is, usage), bufpool_state_dirty(is) ? "dirty" : "clean", (bufpool_shown)position_of(s, b));
 }
 
 enum change { SAME, USAGE_ALONE, MORE };
@@ -116,12 +116,12 @@ static int print_buffer_changes(const struct snapshot *before, const struct snap
 
 /* ---- The control record and the files ---- */
 
-/* Where the hand stands, whether it moved or not, and how far the log moved. Answers 1 if something moved. */
+/* Where the hand stands, whether it moved or not, how far the log moved, and what a set up changed. Answers 1 if something did. */
 static int print_control_change(const struct snapshot *before, const struct snapshot *s)
 {
     static const struct { const char *what; uint64_t at; } words[] = {
         {"hand", BUFPOOL_CONTROL_AT_HAND}, {"log inserted", BUFPOOL_CONTROL_AT_INSERTED}, {"log flushed", BUFPOOL_CONTROL_AT_FLUSHED},
-        {"block size", BUFPOOL_CONTROL_AT_PAGE_SIZE}};
+        {"block size", BUFPOOL_CONTROL_AT_PAGE_SIZE}, {"cap", BUFPOOL_CONTROL_AT_CAP}};
     uint64_t was, is;
     size_t k;
     int changed = 0;

@@ -41,15 +41,16 @@ static int probe(struct sweep *sweep, const struct snapshot *before)
 }
 
 /* Whether a sweep from the snapshot before ends as this pin did: with that buffer, and a dirty page in it if one was written back. It does
-   not if the till wrote no snapshot right before the pin. */
+   not if the till wrote no snapshot right before the pin, nor after more probes than its cap allows, which is none where the cap is bad. */
 static int follows(const struct snapshot *before, const struct snapshot *s)
 {
-    uint64_t probes = probes_of(s), k, at = 0;
+    uint64_t probes = probes_of(s), cap, k, at = 0;
     struct sweep sweep;
     int taken = 0;
     if (before == NULL) return 0;
     begin(&sweep, before);
-    if (sweep.hand >= sweep.buffers || probes > (BUFPOOL_MAX_USAGE + 1) * sweep.buffers) return 0;
+    cap = bufpool_view_cap(&before->view);
+    if (sweep.hand >= sweep.buffers || cap == 0 || probes > (cap + 1) * sweep.buffers) return 0;
     for (k = 0; k < probes && !taken; k++) {
         at = sweep.hand;
         taken = probe(&sweep, before);
