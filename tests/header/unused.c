@@ -14,7 +14,7 @@ void unused_helpers(struct bufpool *m, struct bufpool_file f, struct bufpool_nam
     struct bufpool_part part;
     uint64_t written, answer[BUFPOOL_ANSWER_WORDS] = {0, 0, 0, 0};
     uint32_t block;
-    bufpool_set_up_pool(m, 1024, 100);           /* unused */
+    bufpool_set_up_pool(m, 1024, 100, 5);        /* unused */
     bufpool_pin_page(m, n, &p);                  /* unused */
     bufpool_unpin_buffer(m, b);                  /* unused */
     bufpool_read_buffer(m, b, 0, bytes, 1);      /* unused */
@@ -34,6 +34,7 @@ void unused_helpers(struct bufpool *m, struct bufpool_file f, struct bufpool_nam
     bufpool_page_size(m);                        /* unused */
     bufpool_inserted(m);                         /* unused */
     bufpool_flushed(m);                          /* unused */
+    bufpool_cap(m);                              /* unused */
     bufpool_has_free(m);                         /* unused */
     bufpool_state_pins(0);                       /* unused */
     bufpool_state_usage(0);                      /* unused */
@@ -51,7 +52,7 @@ void unused_looks(const struct bufpool *m, struct bufpool_name n, const struct b
 void unused_looks(const struct bufpool *m, struct bufpool_name n, const struct bufpool_pinned *p, char *words)
 {
     bufpool_why(m, words, 0);                    /* unused */
-    bufpool_why_set_up(m, 1024, words, 0);       /* unused */
+    bufpool_why_set_up(m, 1024, 5, words, 0);    /* unused */
     bufpool_dump(stdout, m, NULL);               /* unused */
     bufpool_event_of(BUFPOOL_EVENT_END, NULL);   /* unused */
     bufpool_event_of_call("unpins", 0);          /* unused */
@@ -63,7 +64,7 @@ void unused_calls(struct bufpool *m, struct bufpool_file f, uint8_t *bytes)
 {
     uint64_t answer[BUFPOOL_ANSWER_WORDS];
     uint32_t words[BUFTAG_NAME_WORDS];
-    bufpool_set_up(BUFPOOL_LENT(m), 1024, 100, ANSWER);                                            /* unused */
+    bufpool_set_up(BUFPOOL_LENT(m), 1024, 100, 5, ANSWER);                                         /* unused */
     bufpool_pin(BUFPOOL_LENT(m), f.tablespace, f.database, f.relation, f.fork, 0, ANSWER);         /* unused */
     bufpool_unpin(BUFPOOL_LENT(m), 0, ANSWER);                                                     /* unused */
     bufpool_read(BUFPOOL_LENT(m), 0, 0, bytes, 1, ANSWER);                                         /* unused */

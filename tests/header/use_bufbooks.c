@@ -7,7 +7,7 @@
 #define BUCKETS 1
 #define PAGE 1024
 
-static uint64_t control[CONTROL_WORDS] = {PAGE, 0, 0, 100, 100}, answer[ANSWER_WORDS];
+static uint64_t control[CONTROL_WORDS] = {PAGE, 0, 0, 100, 100, 5}, answer[ANSWER_WORDS];
 static uint32_t states[BUFFERS], names[NAME_WORDS * BUFFERS], rows[ROW_WORDS];
 static int32_t links[BUFFERS] = {-1}, heads[BUCKETS] = {-1}, chain[BUFFERS] = {-1};
 static uint8_t pool[PAGE], store[1];
@@ -21,8 +21,11 @@ static uint32_t check(uint64_t names_len)
 
 int main(void)
 {
-    uint32_t sound = check(NAME_WORDS), sizes = check(NAME_WORDS - 1), books;
+    uint32_t sound = check(NAME_WORDS), sizes = check(NAME_WORDS - 1), books, cap;
     control[CONTROL_TOP] = (uint64_t)1 << 32;
     books = check(NAME_WORDS);
-    return sound == BUFBOOKS_SOUND && sizes == BUFBOOKS_SIZES && books == BUFBOOKS_BOOKS ? 0 : 1;
+    control[CONTROL_TOP] = 0;
+    control[CONTROL_CAP] = 0;
+    cap = check(NAME_WORDS);
+    return sound == BUFBOOKS_SOUND && sizes == BUFBOOKS_SIZES && books == BUFBOOKS_BOOKS && cap == BUFBOOKS_BOOKS ? 0 : 1;
 }

@@ -46,14 +46,58 @@ static int helpers(void)
     return 0;
 }
 
+/* a cap that none is: 18 at set up, behind 1, and nothing has changed; 2 in the control record */
+static int bad_caps(struct bufpool *m)
+{
+    static const uint64_t bad[] = {BUFPOOL_MIN_CAP - 1, BUFPOOL_MAX_CAP + 1, (uint64_t)1 << 63, UINT64_MAX};
+    uint64_t before[BUFPOOL_CONTROL_WORDS];
+    size_t k;
+    SEE(bufpool_set_up_pool(m, PAGE, 100, 7) == BUFPOOL_DONE && bufpool_cap(m) == 7 && control[BUFPOOL_CONTROL_AT_CAP] == 7);
+    memcpy(before, control, sizeof before);
+    for (k = 0; k < sizeof bad / sizeof *bad; k++) {
+        SEE(bufpool_set_up_pool(m, PAGE, 200, bad[k]) == BUFPOOL_BAD_CAP && memcmp(before, control, sizeof before) == 0);
+        SEE(bufpool_set_up_pool(m, 1000, 200, bad[k]) == BUFPOOL_SIZES && memcmp(before, control, sizeof before) == 0);
+        control[BUFPOOL_CONTROL_AT_CAP] = bad[k];
+        SEE(bufpool_log_inserted_to(m, 200) == BUFPOOL_BOOKS && bufpool_inserted(m) == 100);
+        control[BUFPOOL_CONTROL_AT_CAP] = 7;
+    }
+    return 0;
+}
+
+/* buffers 0 and 1 are pinned, 2 was used more often than the cap counts: the next page takes it, after cap + 1 rounds */
+static int capped(struct bufpool *m, uint64_t cap)
+{
+    struct bufpool_pinned p;
+    uint32_t k;
+    SEE(bufpool_set_up_pool(m, PAGE, 100, cap) == BUFPOOL_DONE && bufpool_cap(m) == cap);
+    SEE(bufpool_pin_page(m, bufpool_name_of(table, 0), &p) == BUFPOOL_DONE);
+    SEE(bufpool_pin_page(m, bufpool_name_of(table, 1), &p) == BUFPOOL_DONE);
+    for (k = 1; k <= cap + 2; k++) {
+        SEE(bufpool_pin_page(m, bufpool_name_of(table, 2), &p) == BUFPOOL_DONE && p.buffer.number == 2);
+        SEE(bufpool_state_usage(states[2]) == (k < cap ? k : cap) && bufpool_unpin_buffer(m, p.buffer) == BUFPOOL_DONE);
+    }
+    SEE(bufpool_pin_page(m, bufpool_name_of(table, 3), &p) == BUFPOOL_DONE && p.buffer.number == 2 && p.probes == BUFFERS * (cap + 1));
+    SEE(bufpool_cap(m) == cap && bufpool_state_usage(states[2]) == 1);
+    states[2] += (uint32_t)cap << 18;
+    SEE(cap == BUFPOOL_MAX_CAP || bufpool_unpin_buffer(m, p.buffer) == BUFPOOL_BOOKS);
+    return 0;
+}
+
+static int caps(struct bufpool *m)
+{
+    uint64_t cap;
+    for (cap = BUFPOOL_MIN_CAP; cap <= BUFPOOL_MAX_CAP; cap++) SEE(capped(m, cap) == 0);
+    return bad_caps(m);
+}
+
 /* set up, pin and unpin, with the refusals of pages and buffers */
 static int pins(struct bufpool *m)
 {
     struct bufpool_pinned p;
     struct bufpool_buffer beyond = {BUFFERS};
     uint32_t k;
-    SEE(bufpool_set_up_pool(m, 1000, 100) == BUFPOOL_SIZES);
-    SEE(bufpool_set_up_pool(m, PAGE, 100) == BUFPOOL_DONE);
+    SEE(bufpool_set_up_pool(m, 1000, 100, BUFPOOL_DEFAULT_CAP) == BUFPOOL_SIZES);
+    SEE(bufpool_set_up_pool(m, PAGE, 100, BUFPOOL_DEFAULT_CAP) == BUFPOOL_DONE);
     SEE(bufpool_page_size(m) == PAGE && bufpool_has_free(m) && control[BUFPOOL_CONTROL_AT_HAND] == 0);
     SEE(control[BUFPOOL_CONTROL_AT_FREE_TOP] == 0);
     for (k = 0; k < BUFFERS; k++) {
@@ -195,5 +239,5 @@ static int refusals(struct bufpool *m)
 int main(void)
 {
     struct bufpool m = lend();
-    return helpers() || pins(&m) || bytes(&m) || checksums() || blocks(&m) || files(&m) || refusals(&m);
+    return helpers() || caps(&m) || pins(&m) || bytes(&m) || checksums() || blocks(&m) || files(&m) || refusals(&m);
 }

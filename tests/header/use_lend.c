@@ -10,11 +10,14 @@
 #define PAGE 2048
 #define FILES 2
 
-#if BUFPOOL_BYTES(BUFFERS, BUCKETS, PAGE) != 3 * 2048 + 40 + 4 * (3 + 15 + 3 + 5 + 3) || BUFPOOL_INTERFACE < 1
+#if BUFPOOL_BYTES(BUFFERS, BUCKETS, PAGE) != 3 * 2048 + 48 + 4 * (3 + 15 + 3 + 5 + 3) || BUFPOOL_INTERFACE < 1
 #error "constants cannot be tested"
 #endif
 #if BUFPOOL_BLOCK_NONE < BUFPOOL_MAX_BLOCKS || BUFPOOL_BUFFER_NONE < BUFPOOL_MAX_BUFFERS
 #error "a number that is none can be a pool's"
+#endif
+#if BUFPOOL_MIN_CAP != 1 || BUFPOOL_MAX_CAP != 15 || BUFPOOL_DEFAULT_CAP < BUFPOOL_MIN_CAP || BUFPOOL_DEFAULT_CAP > BUFPOOL_MAX_CAP
+#error "not a pool's caps"
 #endif
 #if BUFFERS > BUFPOOL_MAX_BUFFERS || BUCKETS > BUFPOOL_MAX_BUCKETS || PAGE < BUFPOOL_MIN_PAGE || PAGE > BUFPOOL_MAX_PAGE
 #error "not a pool's sizes"
@@ -26,7 +29,7 @@ static uint32_t rows[BUFPOOL_ROW_WORDS * FILES];
 static int sizes(void)
 {
     SEE(bufpool_bytes(BUFFERS, BUCKETS, PAGE) == BUFPOOL_BYTES(BUFFERS, BUCKETS, PAGE));
-    SEE(bufpool_bytes(128, 256, 8192) == 1053736 && bufpool_bytes(1, 1, 1024) == 1100);
+    SEE(bufpool_bytes(128, 256, 8192) == 1053744 && bufpool_bytes(1, 1, 1024) == 1108);
     SEE(bufpool_bytes(1024, 4096, 32768) == BUFPOOL_BYTES(1024, 4096, 32768));
     SEE(bufpool_bytes(0, 1, 1024) == 0 && bufpool_bytes(1025, 2000, 1024) == 0 && bufpool_bytes(1, 4097, 1024) == 0);
     SEE(bufpool_bytes(2, 1, 1024) == 0 && bufpool_bytes(1, 1, 512) == 0 && bufpool_bytes(1, 1, 65536) == 0);
@@ -38,7 +41,7 @@ static int sizes(void)
 static int slices(const struct bufpool *m, const uint8_t *memory, uint64_t bytes)
 {
     SEE(m->pool == memory && (const uint8_t *)m->control == m->pool + m->pool_len && m->pool_len == BUFFERS * PAGE);
-    SEE((uintptr_t)m->control % 8 == 0 && m->control_len == 5 && (const uint64_t *)(const void *)m->states == m->control + 5);
+    SEE((uintptr_t)m->control % 8 == 0 && m->control_len == 6 && (const uint64_t *)(const void *)m->states == m->control + 6);
     SEE(m->names == m->states + 3 && m->states_len == 3 && m->names_len == 15 && (const uint32_t *)m->free == m->names + 15);
     SEE(m->heads == m->free + 3 && m->free_len == 3 && m->chain == m->heads + 5 && m->heads_len == 5 && m->chain_len == 3);
     SEE((const uint8_t *)(m->chain + m->chain_len) == memory + bytes && (uintptr_t)m->states % 4 == 0);
@@ -71,7 +74,8 @@ static int nothing_left(struct bufpool *m)
     uint64_t written;
     uint32_t block;
     uint8_t out[1];
-    SEE(bufpool_set_up_pool(m, PAGE, 100) == BUFPOOL_DONE && bufpool_pin_page(m, bufpool_name_of(table, 0), &p) == BUFPOOL_DONE);
+    SEE(bufpool_set_up_pool(m, PAGE, 100, BUFPOOL_MIN_CAP) == BUFPOOL_DONE);
+    SEE(bufpool_pin_page(m, bufpool_name_of(table, 0), &p) == BUFPOOL_DONE);
     SEE(bufpool_pin_page(m, bufpool_name_of(table, 1), &p) == BUFPOOL_NO_BLOCK && p.buffer.number == BUFPOOL_BUFFER_NONE);
     SEE(bufpool_write_buffer(m, p.buffer, 8, byte, 1, 100) == BUFPOOL_NO_BUFFER);
     SEE(bufpool_read_buffer(m, p.buffer, 8, out, 1) == BUFPOOL_NO_BUFFER);
@@ -110,7 +114,7 @@ static int headers(void)
 
 static int refusals(void)
 {
-    static const char kinds[] = "033221122222221223"; /* of 0 to 17: 0 done, 1 ask again, 2 mistake, 3 damage */
+    static const char kinds[] = "0332211222222212232"; /* of 0 to 18: 0 done, 1 ask again, 2 mistake, 3 damage */
     uint32_t k, j;
     for (k = 0; kinds[k] != 0; k++) {
         SEE(bufpool_refusal_kind(k) == kinds[k] - '0' && strcmp(bufpool_refusal_name(k), "unknown") != 0);
@@ -120,7 +124,7 @@ static int refusals(void)
             SEE((strcmp(bufpool_refusal_advice(k), bufpool_refusal_advice(j)) == 0) == same);
         }
     }
-    SEE(k == BUFPOOL_CHECKSUM + 1 && strcmp(bufpool_refusal_name(k), "unknown") == 0);
+    SEE(k == BUFPOOL_BAD_CAP + 1 && strcmp(bufpool_refusal_name(k), "unknown") == 0);
     SEE(bufpool_refusal_kind(k) == BUFPOOL_KIND_MISTAKE && bufpool_refusal_kind(UINT32_MAX) == BUFPOOL_KIND_MISTAKE);
     return 0;
 }

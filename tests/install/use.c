@@ -30,7 +30,7 @@ int main(void)
     refusal = bufpool_lend(&m, memory, sizeof memory, BUFFERS, BUCKETS, PAGE, row, 1);
     if (refusal != BUFPOOL_DONE) return 1;
     m.store = store;
-    refusal = bufpool_set_up_pool(&m, PAGE, 0);
+    refusal = bufpool_set_up_pool(&m, PAGE, 0, BUFPOOL_DEFAULT_CAP);
     if (refusal == BUFPOOL_DONE) refusal = write_page(&m, bufpool_name_of(file, 1), "bread");
     printf("interface %d, result %u, block 1 has '%s'\n", BUFPOOL_INTERFACE, (unsigned)refusal, (const char *)store + PAGE + FROM);
     return refusal != BUFPOOL_DONE;

@@ -1,6 +1,7 @@
 /* cases <messages.txt: a small pool for each line of changes, as "states[1]=0x83180001 free[1]=-1", and below it what bufpool_why says of
    it, indented, with its result first. Indented lines of the input are passed over, so that the output is the input if every message is
-   as it stands there; all other lines are repeated. "set_up=2048" asks bufpool_why_set_up with that block size.
+   as it stands there; all other lines are repeated. "set_up=2048" asks bufpool_why_set_up with that block size and, unless "cap=16" says
+   another, cap 5.
    Status 1 if a result is not the library's, or if a message is longer than the header says or is not cut as it should be. */
 #include "bufbooks.h"
 #include "why.h"
@@ -15,6 +16,11 @@ static uint32_t states[8], names[40], rows[6 * 66];
 static int32_t free_links[8], heads[8], chain[8];
 static uint8_t pool[BUFFERS * PAGE], store[BLOCKS * PAGE];
 
+/* What set up is given; a page of 0 where it is not set up that is asked about. */
+struct given {
+    uint64_t page, cap;
+};
+
 /* Pages in the buffers 0, 1 and 2, of which 1 is dirty; 3 is empty. */
 static int make_pool(struct bufpool *m)
 {
@@ -26,8 +32,9 @@ static int make_pool(struct bufpool *m)
     bufpool_fill_row(rows, table, 4, 5);
     bufpool_fill_row(rows + BUFPOOL_ROW_WORDS, map, 1, 2);
     bufpool_fit(m, BUFFERS, BUCKETS, FILES, PAGE);
-    return bufpool_set_up_pool(m, PAGE, 100) == 0 && bufpool_pin_page(m, bufpool_name_of(table, 0), &pinned) == 0 &&
-           bufpool_pin_page(m, bufpool_name_of(table, 1), &pinned) == 0 && bufpool_pin_page(m, bufpool_name_of(map, 0), &pinned) == 0 &&
+    return bufpool_set_up_pool(m, PAGE, 100, BUFPOOL_DEFAULT_CAP) == 0 &&
+           bufpool_pin_page(m, bufpool_name_of(table, 0), &pinned) == 0 && bufpool_pin_page(m, bufpool_name_of(table, 1), &pinned) == 0 &&
+           bufpool_pin_page(m, bufpool_name_of(map, 0), &pinned) == 0 &&
            bufpool_write_buffer(m, second, 8, (const uint8_t *)"till", 4, 100) == 0;
 }
 
@@ -68,50 +75,51 @@ static void change(struct bufpool *m, const char *text)
 }
 
 /* What the library results in. It is not asked where a pointer is null. */
-static uint32_t library(struct bufpool *m, uint64_t page)
+static uint32_t library(struct bufpool *m, struct given given)
 {
     uint64_t answer[BUFPOOL_ANSWER_WORDS] = {0};
     if (m->control == NULL || m->states == NULL || m->names == NULL || m->pool == NULL || m->free == NULL || m->heads == NULL ||
         m->chain == NULL || m->rows == NULL || m->store == NULL) return 1;
-    if (page != 0) return bufpool_set_up(BUFPOOL_LENT(m), page, 100, answer, BUFPOOL_ANSWER_WORDS);
+    if (given.page != 0) return bufpool_set_up(BUFPOOL_LENT(m), given.page, 100, given.cap, answer, BUFPOOL_ANSWER_WORDS);
     return bufbooks_check(BUFPOOL_LENT(m), answer, BUFPOOL_ANSWER_WORDS);
 }
 
-static uint32_t ask(const struct bufpool *m, uint64_t page, char *words, size_t words_len)
+static uint32_t ask(const struct bufpool *m, struct given given, char *words, size_t words_len)
 {
-    return page != 0 ? why_set_up(m, page, words, words_len) : why(m, words, words_len);
+    return given.page != 0 ? why_set_up(m, given.page, given.cap, words, words_len) : why(m, words, words_len);
 }
 
 /* Whether the words in so many bytes are the beginning of the whole message, ended, with nothing written behind these bytes. */
-static int cut_well(const struct bufpool *m, uint64_t page, const char *whole, size_t words_len)
+static int cut_well(const struct bufpool *m, struct given given, const char *whole, size_t words_len)
 {
     char words[MOST_WORDS];
     size_t length = strlen(whole) < words_len ? strlen(whole) : words_len - (words_len > 0);
     memset(words, FENCE, sizeof words);
-    uint32_t result = ask(m, page, words, words_len);
+    uint32_t result = ask(m, given, words, words_len);
     for (size_t k = words_len; k < sizeof words; k++)
         if (words[k] != FENCE) return 0;
     if (words_len > 0 && (memcmp(words, whole, length) != 0 || words[length] != 0)) return 0;
-    return result == ask(m, page, NULL, 0);
+    return result == ask(m, given, NULL, 0);
 }
 
 /* Makes a line's changes, and says what bufpool_why does. */
 static int one_case(char *line)
 {
     struct bufpool m;
-    uint64_t page = 0;
+    struct given given = {0, BUFPOOL_DEFAULT_CAP};
     char whole[MOST_WORDS];
     if (!make_pool(&m)) return fprintf(stderr, "the pool is not made\n"), 0;
     for (char *text = strtok(line, " \n"); text != NULL; text = strtok(NULL, " \n")) {
-        if (strncmp(text, "set_up=", 7) == 0) page = strtoull(text + 7, NULL, 0);
+        if (strncmp(text, "set_up=", 7) == 0) given.page = strtoull(text + 7, NULL, 0);
+        else if (strncmp(text, "cap=", 4) == 0) given.cap = strtoull(text + 4, NULL, 0);
         else change(&m, text);
     }
-    uint32_t result = ask(&m, page, whole, sizeof whole);
+    uint32_t result = ask(&m, given, whole, sizeof whole);
     printf("    %u %s\n", result, whole);
     if (strlen(whole) >= why_bytes) return fprintf(stderr, "longer than there is room: %s\n", whole), 0;
     for (size_t words_len = 0; words_len <= why_bytes; words_len++)
-        if (!cut_well(&m, page, whole, words_len)) return fprintf(stderr, "cut at %zu bytes: %s\n", words_len, whole), 0;
-    uint32_t wanted = library(&m, page);
+        if (!cut_well(&m, given, whole, words_len)) return fprintf(stderr, "cut at %zu bytes: %s\n", words_len, whole), 0;
+    uint32_t wanted = library(&m, given);
     return result == wanted || (fprintf(stderr, "the library results in %u: %s\n", wanted, whole), 0);
 }
 

@@ -10,9 +10,9 @@
 #include <sys/mman.h>
 #include <unistd.h>
 
-enum { MOST_RULES = 20, MOST_WORDS = 400 };
+enum { SECTIONS = 7, MOST_RULES = 20, MOST_WORDS = 400 };
 
-static unsigned long checked[3], set_up[3], differ, set_up_differ, unfit, named[5][MOST_RULES];
+static unsigned long checked[BUFPOOL_BAD_CAP + 1], set_up[BUFPOOL_BAD_CAP + 1], differ, set_up_differ, unfit, named[SECTIONS][MOST_RULES];
 
 /* as many files, blocks and buckets as there may be, or one more; few buffers, so that it takes no time */
 static struct shape wide_shape(void)
@@ -35,7 +35,7 @@ static struct shape great_shape(void)
     return s;
 }
 
-/* Whether a message is of its result: "sound" for 0, a rule of section 3 for 1, of section 4 for 2, and not cut. */
+/* Whether a message is of its result: "sound" for 0, a rule of section 3 for 1, of section 4 for 2, rule 6.18 for 18, and not cut. */
 static int fits(const char *words, uint32_t result)
 {
     unsigned section = 0, rule = 0;
@@ -43,7 +43,8 @@ static int fits(const char *words, uint32_t result)
     if (strlen(words) >= why_bytes) return 0;
     if (result == 0) return strcmp(words, "sound") == 0;
     if (sscanf(words, "rule %u.%u: %n", &section, &rule, &end) != 2 || end == 0 || words[end] == 0) return 0;
-    if (section != result + 2 || rule >= MOST_RULES) return 0;
+    if (result == BUFPOOL_BAD_CAP ? section != 6 || rule != BUFPOOL_BAD_CAP : section != result + 2) return 0;
+    if (section >= SECTIONS || rule >= MOST_RULES) return 0;
     named[section][rule]++;
     return 1;
 }
@@ -66,7 +67,7 @@ static struct bufpool lend(const struct memory *m)
 
 static void count_result(unsigned long *counts, uint32_t result)
 {
-    if (result > 2) {
+    if (result > BUFPOOL_BAD_CAP) {
         fprintf(stderr, "the library results in %u\n", result);
         exit(2);
     }
@@ -89,7 +90,7 @@ static int compare_check(struct memory *m, uint8_t *nowhere)
 }
 
 /* Of all slices the rows alone can be read. The library's set up empties the pool, which is filled again for the next memory. */
-static int compare_set_up(const struct memory *m, uint64_t page, uint8_t *nowhere)
+static int compare_set_up(const struct memory *m, uint64_t page, uint64_t cap, uint8_t *nowhere)
 {
     struct bufpool lent = lend(m), hidden = lent;
     uint64_t answer[ANSWER_WORDS];
@@ -98,8 +99,8 @@ static int compare_set_up(const struct memory *m, uint64_t page, uint8_t *nowher
     hidden.control = (uint64_t *)(void *)nowhere;
     hidden.states = hidden.names = (uint32_t *)(void *)nowhere;
     hidden.free = hidden.heads = hidden.chain = (int32_t *)(void *)nowhere;
-    uint32_t got = why_set_up(&hidden, page, words, sizeof words);
-    uint32_t wanted = bufpool_set_up(BUFPOOL_LENT(&lent), page, 100, answer, ANSWER_WORDS);
+    uint32_t got = why_set_up(&hidden, page, cap, words, sizeof words);
+    uint32_t wanted = bufpool_set_up(BUFPOOL_LENT(&lent), page, 100, cap, answer, ANSWER_WORDS);
     count_result(set_up, wanted);
     unfit += !fits(words, got);
     return got != wanted;
@@ -123,16 +124,16 @@ static void one_memory(struct memory *m, unsigned long k, uint8_t *nowhere)
     if (k % 16 == 0) memory_guard(0);
     differ += (unsigned long)compare_check(m, nowhere);
     if (k % 16 == 0) memory_guard(1);
-    set_up_differ += (unsigned long)compare_set_up(m, some_page(&s), nowhere);
+    set_up_differ += (unsigned long)compare_set_up(m, some_page(&s), random_below(4) == 0 ? bad_cap() : some_cap(), nowhere);
 }
 
 static void print_counts(void)
 {
     printf("sound %lu\nsizes %lu\nbooks %lu\n", checked[0], checked[1], checked[2]);
-    printf("accepted %lu\nrefused %lu\n", set_up[0], set_up[1]);
+    printf("accepted %lu\nrefused %lu\nbad_cap %lu\n", set_up[0], set_up[1], set_up[BUFPOOL_BAD_CAP]);
     printf("differ %lu\nset_up_differ %lu\nunfit %lu\n", differ, set_up_differ, unfit);
-    for (unsigned k = 0; k < 2 * MOST_RULES; k++) {
-        unsigned section = 3 + k / MOST_RULES, rule = k % MOST_RULES;
+    for (unsigned k = 0; k < SECTIONS * MOST_RULES; k++) {
+        unsigned section = k / MOST_RULES, rule = k % MOST_RULES;
         if (named[section][rule] > 0) printf("%u.%u %lu\n", section, rule, named[section][rule]);
     }
 }

@@ -21,11 +21,13 @@ int main(void)
     char words[BUFPOOL_WHY_BYTES];
     if (bufpool_lend(&m, memory, sizeof memory, 1, 1, 1024, rows, 0) != BUFPOOL_DONE) return 4;
     m.store = store;
-    m.control[BUFPOOL_CONTROL_AT_PAGE_SIZE] = 1024; /* all else is 0: one empty buffer, which is the free list */
+    m.control[BUFPOOL_CONTROL_AT_PAGE_SIZE] = 1024;
+    m.control[BUFPOOL_CONTROL_AT_CAP] = BUFPOOL_DEFAULT_CAP; /* all else is 0: one empty buffer, which is the free list */
     m.free[0] = m.heads[0] = m.chain[0] = -1;
     if (bufpool_why(&m, words, sizeof words) != BUFPOOL_DONE || strcmp(words, "sound") != 0) return 1;
     m.control[BUFPOOL_CONTROL_AT_HAND] = 1;
-    if (bufpool_why_set_up(&m, 1024, words, sizeof words) != BUFPOOL_DONE || strcmp(words, "sound") != 0) return 2;
+    if (bufpool_why_set_up(&m, 1024, 1, words, sizeof words) != BUFPOOL_DONE || strcmp(words, "sound") != 0) return 2;
+    if (bufpool_why_set_up(&m, 1024, 0, words, sizeof words) != BUFPOOL_BAD_CAP) return 5;
     RESULT bufpool_why(&m, words, sizeof words);
 #ifndef UNUSED
     if (result != BUFPOOL_BOOKS) return 3;

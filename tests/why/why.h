@@ -5,7 +5,7 @@
 #include "bufpool.h"
 
 uint32_t why(const struct bufpool *m, char *words, size_t words_len);
-uint32_t why_set_up(const struct bufpool *m, uint64_t page_size, char *words, size_t words_len);
+uint32_t why_set_up(const struct bufpool *m, uint64_t page_size, uint64_t cap, char *words, size_t words_len);
 
 /* Room for every message. */
 extern const size_t why_bytes;
