@@ -22,7 +22,7 @@ static uint32_t random_below(uint32_t n)
 static struct bufpool some_pool(void)
 {
     static const uint8_t line[] = "2 loaves, 5.40";
-    struct bufpool m = lend(4, 6, 6);
+    struct bufpool m = lend(4, 6, 6, 5);
     struct bufpool_pinned p;
     see(bufpool_log_inserted_to(&m, 147) == BUFPOOL_DONE, "log inserted");
     see(bufpool_pin_page(&m, bufpool_name_of(table_file, 5), &p) == BUFPOOL_DONE, "pin");
@@ -44,6 +44,9 @@ static void link_early(struct bufpool *m) { m->free[2] = -1; }
 static void small_blocks(struct bufpool *m) { m->control[BUFPOOL_CONTROL_AT_PAGE_SIZE] = 3; }
 static void far_blocks(struct bufpool *m) { m->control[BUFPOOL_CONTROL_AT_PAGE_SIZE] = (uint64_t)1 << 63; }
 static void words(struct bufpool *m) { m->states[1] = 1, m->states[3] = UINT32_MAX; }
+static void no_cap(struct bufpool *m) { m->control[BUFPOOL_CONTROL_AT_CAP] = 0; }
+static void far_cap(struct bufpool *m) { m->control[BUFPOOL_CONTROL_AT_CAP] = UINT64_MAX; }
+static void used_more(struct bufpool *m) { m->states[1] = 0x83180001u; }
 static void flushed(struct bufpool *m) { m->control[BUFPOOL_CONTROL_AT_FLUSHED] = 148; }
 static void empty_name(struct bufpool *m) { m->names[BUFPOOL_NAME_WORDS * 2 + BUFPOOL_NAME_AT_BLOCK] = 7; }
 static void no_row(struct bufpool *m) { m->names[BUFPOOL_FILE_AT_FORK] = 2; }
@@ -126,8 +129,9 @@ static const struct { const char *text; void (*damage)(struct bufpool *m); } cas
     {"1025 state words", long_states}, {"null pointers", null_pointers}, {"no pages", null_pages}, {"all ones", all_ones},
     {"no store", null_store}, {"no rows, and no pointer", null_rows}, {"an empty buffer has a name", empty_name},
     {"a page has no row", no_row}, {"a bucket leads far", far_head}, {"a dirty page is beyond the log", far_page},
-    {"six words of the control record", long_control}, {"5121 words of names", long_names}, {"1025 free links", long_free},
-    {"4097 heads", long_heads}, {"1025 chain links", long_chain}};
+    {"seven words of the control record", long_control}, {"5121 words of names", long_names}, {"1025 free links", long_free},
+    {"4097 heads", long_heads}, {"1025 chain links", long_chain}, {"a cap of 0", no_cap}, {"the cap is far beyond", far_cap},
+    {"a usage count above the cap", used_more}};
 
 static void dump(FILE *out, const struct bufpool *m, const char *text, uint32_t pool)
 {

@@ -28,7 +28,7 @@ void *other_length(void *slice, size_t size, uint64_t from, uint64_t to)
     return memory;
 }
 
-struct bufpool lend(uint32_t buffers, uint32_t buckets, uint32_t blocks)
+struct bufpool lend(uint32_t buffers, uint32_t buckets, uint32_t blocks, uint64_t cap)
 {
     struct bufpool m;
     memset(&m, 0, sizeof m);
@@ -45,7 +45,7 @@ struct bufpool lend(uint32_t buffers, uint32_t buckets, uint32_t blocks)
     m.chain = fresh(m.chain_len, sizeof *m.chain);
     m.store = fresh(m.store_len, 1);
     memset(m.store, 0, m.store_len);
-    see(bufpool_set_up_pool(&m, PAGE, 100) == BUFPOOL_DONE, "set up");
+    see(bufpool_set_up_pool(&m, PAGE, 100, cap) == BUFPOOL_DONE, "set up");
     return m;
 }
 

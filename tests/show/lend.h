@@ -6,8 +6,8 @@
 
 extern const struct bufpool_file table_file, map_file;
 
-/* Set up with these sizes and both files, of so many blocks each. */
-struct bufpool lend(uint32_t buffers, uint32_t buckets, uint32_t blocks);
+/* Set up with these sizes, this cap and both files, of so many blocks each. */
+struct bufpool lend(uint32_t buffers, uint32_t buckets, uint32_t blocks, uint64_t cap);
 void give_back(struct bufpool *m);
 
 /* A slice with another length, and memory that ends there; what fits of it is kept. */

@@ -1,7 +1,7 @@
 /* pools wide       prints a pool of 128 buffers of which one is in use
    pools runs       prints one whose free list is long and has no rising runs, with a name for one file
    pools dump FILE  writes two pools' snapshots, step by step, to one file
-   pools told FILE  writes one pool's, of pages that go, of a block that is damaged, and of damage that comes and goes
+   pools told FILE  writes one pool's, of pages that go, of a block that is damaged, of a bad cap, and of damage that comes and goes
    pools full       status 0 if a dump on a full device results in -1 */
 #include <stdlib.h>
 
@@ -81,16 +81,16 @@ static void small_day(struct day *day)
     note(day, "a link is damaged");
 }
 
-/* 128 buffers, every page with the greatest usage: the next pin looks at each buffer six times. */
+/* 128 buffers with cap 7, every page with the greatest usage: the next pin looks at each buffer seven times, and at one again. */
 static void long_sweep(struct day *day)
 {
     uint32_t k;
     note(day, "set up");
-    for (k = 0; k < 5 * 128; k++) {
+    for (k = 0; k < 8 * 128; k++) {
         pin(day, NULL, table_file, k % 128, BUFPOOL_DONE);
         unpin(day, k % 128);
     }
-    note(day, "every page is used five times");
+    note(day, "every page is used eight times");
     pin(day, "till 1", table_file, 128, BUFPOOL_DONE);
     unpin(day, 0);
     pin(day, NULL, table_file, 0, BUFPOOL_DONE);
@@ -161,6 +161,23 @@ static void block_changes(struct day *day)
     pin(day, "its block has changed: till 2", table_file, 1, BUFPOOL_CHECKSUM);
 }
 
+/* No call accepts this pool: what the snapshots say of a pin is not followed by a cap that none is. */
+static void cap_is_bad(struct day *day)
+{
+    const struct bufpool_pinned pinned = {{0}, 0, 0, 1};
+    unpin(day, 0);
+    day->m.states[0] &= ~(15u << 18);
+    day->m.control[BUFPOOL_CONTROL_AT_CAP] = BUFPOOL_MAX_CAP + 1;
+    note(day, "the cap is beyond");
+    put(day, bufpool_event_of_pin("till 1", bufpool_name_of(table_file, 1), BUFPOOL_DONE, &pinned));
+    day->m.control[BUFPOOL_CONTROL_AT_CAP] = 2;
+    pin(day, "the cap is back: till 1", table_file, 0, BUFPOOL_DONE);
+    day->m.control_len--;
+    note(day, "five control words, as before the cap");
+    day->m.control_len++;
+    note(day, "six again");
+}
+
 static void damage_comes(struct day *day)
 {
     day->m.rows[BUFPOOL_ROW_AT_CAPACITY]++;
@@ -183,11 +200,12 @@ static void damage_comes(struct day *day)
 
 static void write_told(const char *path)
 {
-    struct day day = {lend(1, 1, 6), fopen(path, "wb"), 0};
+    struct day day = {lend(1, 1, 6, 2), fopen(path, "wb"), 0};
     see(day.dump != NULL, "a file for the dump");
     pages_go(&day);
     page_between(&day);
     block_changes(&day);
+    cap_is_bad(&day);
     damage_comes(&day);
     see(fclose(day.dump) == 0, "the dump is closed");
     give_back(&day.m);
@@ -196,7 +214,7 @@ static void write_told(const char *path)
 /* The steps of both pools stand one after the other, but for the last, which is the first pool's. */
 static void write_dump(const char *path)
 {
-    struct day small = {lend(3, 5, 6), fopen(path, "wb"), 0}, wide = {lend(128, 256, 129), small.dump, 1};
+    struct day small = {lend(3, 5, 6, 5), fopen(path, "wb"), 0}, wide = {lend(128, 256, 129, 7), small.dump, 1};
     see(small.dump != NULL, "a file for the dump");
     small_day(&small);
     long_sweep(&wide);
@@ -209,7 +227,7 @@ static void write_dump(const char *path)
 
 static void print_wide(void)
 {
-    struct day day = {lend(128, 256, 129), NULL, 0};
+    struct day day = {lend(128, 256, 129, 15), NULL, 0};
     pin(&day, NULL, table_file, 7, BUFPOOL_DONE);
     pin(&day, NULL, table_file, 7, BUFPOOL_DONE);
     unpin(&day, 0);
@@ -221,7 +239,7 @@ static void print_wide(void)
 static void print_runs(void)
 {
     static const struct bufpool_file_name names[] = {{{1663, 5, 16384, 0}, "receipts"}};
-    struct day day = {lend(40, 64, 40), NULL, 0};
+    struct day day = {lend(40, 64, 40, 1), NULL, 0};
     uint32_t k;
     for (k = 0; k < 40; k++) {
         pin(&day, NULL, k % 10 < 9 ? map_file : table_file, k, BUFPOOL_DONE);
@@ -235,7 +253,7 @@ static void print_runs(void)
 static int full_device(void)
 {
     FILE *full = fopen("/dev/full", "wb");
-    struct bufpool m = lend(3, 5, 6);
+    struct bufpool m = lend(3, 5, 6, 5);
     int result;
     see(full != NULL, "/dev/full");
     result = bufpool_dump(full, &m, NULL);
