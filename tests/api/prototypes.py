@@ -6,7 +6,7 @@ import sys
 DEFINED = re.compile(r'^(?:BUFPOOL_INLINE|static inline) ([^;{}()]*?\b(bufpool_\w+)\([^)]*\))\s*\{', re.M)
 # the beginnings of names that are the headers' own, and those that are not
 OWN = ('bufpool_meet_interface', 'bufpool_why_', 'bufpool_print_', 'bufpool_dump_', 'bufpool_view_', 'bufpool_free_', 'bufpool_keep',
-       'bufpool_most_kept', 'bufpool_file_text', 'bufpool_name_text', 'bufpool_page_text')
+       'bufpool_most_kept', 'bufpool_file_text', 'bufpool_name_text', 'bufpool_page_text', 'bufpool_usage_text')
 PUBLIC = ('bufpool_why_set_up', 'bufpool_print_named')
 
 

@@ -8,7 +8,7 @@ import sys
 RUN = re.compile(r'\bwith\s+(\d+(?:,\s+\d+)+)')
 RANGE = re.compile(r'\bwith\s+(?:\d+,\s+)*\d+ to \d+')
 # the calls that refuse with several numbers, in the order in which PAGE has its helpers
-HELPED = ['extend', 'drop', 'pin', 'unpin', 'read', 'write', 'flush', 'checkpoint', 'peek', 'log_inserted', 'log_flushed']
+HELPED = ['set_up', 'extend', 'drop', 'pin', 'unpin', 'read', 'write', 'flush', 'checkpoint', 'peek', 'log_inserted', 'log_flushed']
 
 
 def read(path):
@@ -51,7 +51,7 @@ def main(header, calls, page, texts):
                 wrong.append('%s: not in the order of the places: %s' % (text, ' '.join(run.split())))
         wrong += ['%s: not number by number: %s' % (text, ' '.join(one.split())) for one in RANGE.findall(read(text))]
     print('\n'.join(wrong))
-    return bool(wrong) or len(said) != 12 or len(order) < 17 or runs < 20
+    return bool(wrong) or len(said) != 12 or len(order) < 18 or runs < 20
 
 
 sys.exit(main(*sys.argv[1:4], sys.argv[4:]))
