@@ -51,12 +51,15 @@ static int bad_caps(struct bufpool *m)
 {
     static const uint64_t bad[] = {BUFPOOL_MIN_CAP - 1, BUFPOOL_MAX_CAP + 1, (uint64_t)1 << 63, UINT64_MAX};
     uint64_t before[BUFPOOL_CONTROL_WORDS];
+    struct bufpool_pinned p;
     size_t k;
     SEE(bufpool_set_up_pool(m, PAGE, 100, 7) == BUFPOOL_DONE && bufpool_cap(m) == 7 && control[BUFPOOL_CONTROL_AT_CAP] == 7);
+    SEE(bufpool_pin_page(m, bufpool_name_of(table, 1), &p) == BUFPOOL_DONE && p.buffer.number == 0);
     memcpy(before, control, sizeof before);
     for (k = 0; k < sizeof bad / sizeof *bad; k++) {
         SEE(bufpool_set_up_pool(m, PAGE, 200, bad[k]) == BUFPOOL_BAD_CAP && memcmp(before, control, sizeof before) == 0);
         SEE(bufpool_set_up_pool(m, 1000, 200, bad[k]) == BUFPOOL_SIZES && memcmp(before, control, sizeof before) == 0);
+        SEE(states[0] == 0x83040001u && names[BUFPOOL_NAME_AT_BLOCK] == 1 && free_links[0] == -2);
         control[BUFPOOL_CONTROL_AT_CAP] = bad[k];
         SEE(bufpool_log_inserted_to(m, 200) == BUFPOOL_BOOKS && bufpool_inserted(m) == 100);
         control[BUFPOOL_CONTROL_AT_CAP] = 7;
