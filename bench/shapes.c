@@ -5,8 +5,9 @@
 enum { FIRST_RELATION = 16384 };
 
 /* relation numbers of their own, a quarter of the pages dirty; capacities such that a store is 64 MiB at most */
-#define SHAPE(n, b, f, p, blocks, percent)                                                                                    \
-    .is = {.buffers = n, .buckets = b, .files = f, .page = p, .capacity = blocks, .used = percent, .dirty = 25, .relations = 1}
+#define SHAPE(n, b, f, p, blocks, percent)                                                                                      \
+    .is = {.buffers = n, .buckets = b, .files = f, .page = p, .capacity = blocks, .used = percent, .dirty = 25, .relations = 1, \
+           .cap = DEFAULT_CAP}
 
 const struct bench_shape other_shapes[] = {
     {SHAPE(16, 32, 1, 8192, 8192, 100), .words = "few buffers"},

@@ -14,11 +14,11 @@ enum { ROW_BLOCKS = FILE_WORDS, ROW_CAPACITY, ROW_WORDS };
 enum { WORD_BYTES = 4, NAME_BYTES = WORD_BYTES * NAME_WORDS, ROW_BYTES = WORD_BYTES * ROW_WORDS };
 
 /* The control record, and the slice in which a call answers: words of 64 bits. */
-enum { CONTROL_SIZE, CONTROL_HAND, CONTROL_TOP, CONTROL_INSERTED, CONTROL_FLUSHED, CONTROL_WORDS };
+enum { CONTROL_SIZE, CONTROL_HAND, CONTROL_TOP, CONTROL_INSERTED, CONTROL_FLUSHED, CONTROL_CAP, CONTROL_WORDS };
 enum { ANSWER_WORDS = 4 };
 
-/* The greatest usage count. */
-enum { MOST_USAGE = 5 };
+/* The cap, which is the greatest usage count: from the first to the second, on the bench the third. */
+enum { LEAST_CAP = 1, MOST_CAP = 15, DEFAULT_CAP = 5 };
 
 /* A file, and a page, as arguments of a call, from the words of a name or, for a file, of a row. */
 #define FILE_OF(words) (words)[FILE_TABLESPACE], (words)[FILE_DATABASE], (words)[FILE_RELATION], (words)[FILE_FORK]

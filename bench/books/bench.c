@@ -46,8 +46,10 @@ static int bench(const struct bench_shape *s, size_t rounds, size_t calls)
 int main(void)
 {
     static const char *words[] = {"full, from file to file", "70%, from file to file", "full, runs of blocks", "70%, runs of blocks"};
-    struct shape till = {.buffers = 128, .buckets = 256, .files = 4, .page = 8192, .capacity = 1024, .dirty = 25, .relations = 1};
-    struct shape great = {.buffers = 1024, .buckets = 4096, .files = 64, .page = 8192, .capacity = 1024, .dirty = 25, .relations = 1};
+    struct shape till = {.buffers = 128, .buckets = 256, .files = 4, .page = 8192, .capacity = 1024, .dirty = 25, .relations = 1,
+                         .cap = DEFAULT_CAP};
+    struct shape great = {.buffers = 1024, .buckets = 4096, .files = 64, .page = 8192, .capacity = 1024, .dirty = 25, .relations = 1,
+                          .cap = DEFAULT_CAP};
     int above = 0;
     for (size_t k = 0; k < 8; k++) {
         struct bench_shape s = {.is = k % 2 == 0 ? till : great, .words = words[k / 2]};

@@ -92,9 +92,9 @@ static bool empty_ok(const uint32_t *name, int32_t link)
 }
 
 /* usage and flags of a buffer in use; the log position of its page if it is dirty */
-static bool word_ok(uint32_t w, const uint8_t *page, uint64_t inserted)
+static bool word_ok(uint64_t cap, uint32_t w, const uint8_t *page, uint64_t inserted)
 {
-    if ((w >> 18 & 15) > MOST_USAGE || (w >> 22 != 524 && w >> 22 != 590)) return false;
+    if ((w >> 18 & 15) > cap || (w >> 22 != 524 && w >> 22 != 590)) return false;
     return (w >> 23 & 1) == 0 || ((uint64_t)word(page) << 32 | word(page + 4)) <= inserted;
 }
 
@@ -141,7 +141,8 @@ uint32_t plain_check(const uint64_t *control, size_t control_len, const uint32_t
     if (names_len != NAME_WORDS * n || pool_len != n * control[CONTROL_SIZE] || free_len != n || chain_len != n) return 1;
     if (rows_len % ROW_WORDS != 0 || !rows_ok(rows, files, &blocks) || store_len != blocks * control[CONTROL_SIZE]) return 1;
 
-    if (control[CONTROL_HAND] >= n || control[CONTROL_FLUSHED] > control[CONTROL_INSERTED]) return 2;
+    uint64_t cap = control[CONTROL_CAP];
+    if (cap < LEAST_CAP || cap > MOST_CAP || control[CONTROL_HAND] >= n || control[CONTROL_FLUSHED] > control[CONTROL_INSERTED]) return 2;
     hash_files(rows, files, hashes, guesses);
     for (size_t i = 0; i < n; i++) {
         const uint32_t *name = names + NAME_WORDS * i;
@@ -149,7 +150,7 @@ uint32_t plain_check(const uint64_t *control, size_t control_len, const uint32_t
             if (!empty_ok(name, chain[i])) return 2;
             continue;
         }
-        if (free[i] != -2 || !word_ok(states[i], pool + i * control[CONTROL_SIZE], control[CONTROL_INSERTED])) return 2;
+        if (free[i] != -2 || !word_ok(cap, states[i], pool + i * control[CONTROL_SIZE], control[CONTROL_INSERTED])) return 2;
         size_t r = find_row(rows, files, guesses[slot_of(name)], name);
         if (r == files || name[NAME_BLOCK] >= rows[ROW_WORDS * r + ROW_BLOCKS]) return 2;
         bucket[i] = (uint16_t)(mix(hashes[r], name[NAME_BLOCK]) % (uint32_t)buckets);

@@ -105,9 +105,9 @@ static int bench_all(const struct bench_shape *shape, enum set set)
 int main(void)
 {
     struct bench_shape till = {.is = {.buffers = 128, .buckets = 256, .files = 4, .page = 8192, .capacity = 512, .used = 100,
-                                      .runs = 1, .relations = 1}};
+                                      .runs = 1, .relations = 1, .cap = DEFAULT_CAP}};
     struct bench_shape great = {.is = {.buffers = 1024, .buckets = 4096, .files = 64, .page = 8192, .capacity = 128, .used = 100,
-                                       .runs = 1, .relations = 1}};
+                                       .runs = 1, .relations = 1, .cap = DEFAULT_CAP}};
     int above = bench_all(&till, USUAL) | bench_all(&great, USUAL);
     till.is.page = 1024;
     above |= bench_all(&till, SIZES);

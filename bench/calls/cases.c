@@ -127,7 +127,7 @@ static uint32_t log_flushed(const struct side *side, struct pool *pool, size_t k
 
 static uint32_t set_up(const struct side *side, struct pool *pool, size_t k)
 {
-    return side->set_up(BUFPOOL_LENT(&pool->lent), bufpool_page_size(&pool->kept), k, ANSWER(pool));
+    return side->set_up(BUFPOOL_LENT(&pool->lent), bufpool_page_size(&pool->kept), k, DEFAULT_CAP, ANSWER(pool));
 }
 
 /* The state of most cases: every page is pinned and was used, a quarter of them is dirty, and calls change nothing that matters. */
@@ -140,7 +140,7 @@ const struct bench_case bench_cases[] = {
     {.name = "pin, clean victim", .call = pin_other, .kind = SUMMED, .dirty = DIRTY_NEXT, .batch = QUARTER, .all_sizes = 1},
     {.name = "pin, block of zeros", .call = pin_other, .kind = SUMMED, .dirty = DIRTY_NEXT, .batch = QUARTER, .all_sizes = 1, .zeros = 1},
     {.name = "pin, dirty victim", .call = pin_other, .kind = SUMMED, .dirty = DIRTY_HAND, .batch = QUARTER, .all_sizes = 1},
-    {.name = "pin, longest sweep", .call = pin_other, .kind = SUMMED, .usage = MOST_USAGE, .dirty = DIRTY_NEXT, .batch = ONE},
+    {.name = "pin, longest sweep", .call = pin_other, .kind = SUMMED, .usage = DEFAULT_CAP, .dirty = DIRTY_NEXT, .batch = ONE},
     {.name = "unpin", .call = unpin, .kind = STILL, .pins = 100000, .usage = 3, .dirty = DIRTY_NEXT, .batch = ANY_NUMBER},
     {.name = "read 64 bytes", .call = read_some, .kind = STILL, .span = 64, IN_USE},
     {.name = "read 1 KiB", .call = read_some, .span = 1024, IN_USE},
@@ -293,7 +293,7 @@ void pool_set_back(struct pool *pool, const struct bench_case *c)
     set_words(pool, c);
     set_span(pool, c->span);
     if (c->empty)
-        plain_set_up(BUFPOOL_LENT(m), bufpool_page_size(kept), bufpool_inserted(kept), ANSWER(pool));
+        plain_set_up(BUFPOOL_LENT(m), bufpool_page_size(kept), bufpool_inserted(kept), DEFAULT_CAP, ANSWER(pool));
 }
 
 size_t batch_of(const struct pool *pool, const struct bench_case *c)

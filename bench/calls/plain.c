@@ -8,7 +8,7 @@
 
 check_fn plain_check;
 
-enum { PIN = 1, PINS = 0x3FFFF, USE = 1 << 18, MAX_USE = MOST_USAGE << 18, USES = 15 << 18 };
+enum { PIN = 1, PINS = 0x3FFFF, USE = 1 << 18, USES = 15 << 18 };
 static const uint32_t DIRTY = 1u << 23 | 1u << 28, CLEAN = 0x83000000u;
 
 /* Parameters and arguments of lent memory. A call says what it changes: control, states, the table (names and links), pool, rows, store. */
@@ -157,11 +157,12 @@ static bool in_page(uint64_t size, uint64_t from, uint64_t length)
     return from <= size && length <= size - from;
 }
 
-uint32_t plain_set_up(LENDS(MUT, MUT, MUT, const, const, const), uint64_t page_size, uint64_t position, ANSWERS)
+uint32_t plain_set_up(LENDS(MUT, MUT, MUT, const, const, const), uint64_t page_size, uint64_t position, uint64_t cap, ANSWERS)
 {
-    /* no hand is as great: the check ends behind the sizes, with 1 or 2 */
-    const uint64_t sizes_only[CONTROL_WORDS] = {page_size, UINT64_MAX, 0, 0, 0};
+    /* no cap is 0: the check ends behind the sizes, with 1 or 2 */
+    const uint64_t sizes_only[CONTROL_WORDS] = {[CONTROL_SIZE] = page_size};
     if (CHECK_WITH(sizes_only) == BUFPOOL_SIZES) return refuse(answer, answer_len, BUFPOOL_SIZES);
+    if (cap < BUFPOOL_MIN_CAP || cap > BUFPOOL_MAX_CAP) return refuse(answer, answer_len, BUFPOOL_BAD_CAP);
     memset(states, 0, n * sizeof *states);
     memset(names, 0, names_len * sizeof *names);
     memset(heads, 255, buckets * sizeof *heads);
@@ -171,6 +172,7 @@ uint32_t plain_set_up(LENDS(MUT, MUT, MUT, const, const, const), uint64_t page_s
     control[CONTROL_SIZE] = page_size;
     control[CONTROL_HAND] = control[CONTROL_TOP] = 0;
     control[CONTROL_INSERTED] = control[CONTROL_FLUSHED] = position;
+    control[CONTROL_CAP] = cap;
     return accept(answer, 0, 0, 0, 0);
 }
 
@@ -186,7 +188,7 @@ uint32_t plain_pin(LENDS(MUT, MUT, MUT, MUT, const, MUT), FILE_NUMBERS, uint32_t
     if (held >= 0) {
         uint32_t w = states[held];
         if ((w & PINS) == BUFPOOL_MAX_PINS) return refuse(answer, answer_len, BUFPOOL_PIN_COUNT);
-        states[held] = w + PIN + ((w & USES) < MAX_USE ? USE : 0);
+        states[held] = w + PIN + ((w & USES) < control[CONTROL_CAP] * USE ? USE : 0);
         return accept(answer, (uint64_t)held, 1, 0, 0);
     }
     size_t i = top = control[CONTROL_TOP], size = control[CONTROL_SIZE];

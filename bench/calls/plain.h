@@ -9,7 +9,7 @@ uint32_t plain_set_up(
     uint64_t *control, uint64_t control_len, uint32_t *states, uint64_t states_len, uint32_t *names, uint64_t names_len,
     const uint8_t *pool, uint64_t pool_len, int32_t *free, uint64_t free_len, int32_t *heads, uint64_t heads_len,
     int32_t *chain, uint64_t chain_len, const uint32_t *rows, uint64_t rows_len, const uint8_t *store, uint64_t store_len,
-    uint64_t page_size, uint64_t position, uint64_t *answer, uint64_t answer_len);
+    uint64_t page_size, uint64_t position, uint64_t cap, uint64_t *answer, uint64_t answer_len);
 __typeof__(bufpool_pin) plain_pin;
 __typeof__(bufpool_unpin) plain_unpin;
 __typeof__(bufpool_read) plain_read;

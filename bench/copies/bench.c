@@ -66,7 +66,7 @@ static void begin(struct row *r)
 {
     static const struct bench_case pinned = {.pins = 1, .usage = 3};
     struct bench_shape s = {.is = {.buffers = 16, .buckets = 16, .files = 1, .page = r->page, .capacity = 256, .used = 100,
-                                   .relations = 1}};
+                                   .relations = 1, .cap = DEFAULT_CAP}};
     pool_new(&r->pool, &s, 0);
     pool_set_back(&r->pool, &pinned);
 }

@@ -107,7 +107,7 @@ static double time_of(work_fn *work)
 int main(void)
 {
     static const struct bench_shape till = {.is = {.buffers = PAGES, .buckets = 256, .files = 4, .page = 8192, .capacity = 512,
-                                                   .used = 100, .runs = 1, .relations = 1}};
+                                                   .used = 100, .runs = 1, .relations = 1, .cap = DEFAULT_CAP}};
     static const struct bench_case unpinned = {.usage = 3};
     static double pooled[ROUNDS], blobs[ROUNDS], statements[ROUNDS];
     pool_new(&pool, &till, 0);

@@ -16,7 +16,12 @@ static struct shape great_shape(void)
     s.buckets = 4095 + random_below(2) + (random_below(8) == 0);
     s.files = 63 + random_below(2) + (random_below(8) == 0);
     s.capacity = random_below(2) ? 1024 : 1000;
+    if (random_below(4) == 0) { /* one file of all the blocks that there may be, of one less or of one more */
+        s.files = 1;
+        s.capacity = 65535 + random_below(3);
+    }
     s.relations = (int)random_below(2);
+    s.cap = some_cap();
     return s;
 }
 

@@ -41,13 +41,35 @@ static bool rows_hold(void)
 
 static bool sizes_hold(void)
 {
-    uint64_t p = m.control_len == CONTROL_WORDS || (m.control_len == CONTROL_WORDS + 1 && SLIP == 28) ? m.control[CONTROL_SIZE] : 0;
+    bool record = m.control_len == CONTROL_WORDS || (m.control_len == CONTROL_WORDS + 1 && SLIP == 28) ||
+                  (m.control_len == CONTROL_WORDS - 1 && SLIP == 46);
+    uint64_t p = record ? m.control[CONTROL_SIZE] : 0;
     bool permitted = p == 1024 || p == 2048 || p == 4096 || p == 8192 || p == 16384 || (p == 32768 && SLIP != 6) ||
                      (p == 512 && SLIP == 21) || (p == 65536 && SLIP == 22);
     bool buckets = (n <= m.heads_len || (m.heads_len > 0 && SLIP == 25)) && m.heads_len <= (SLIP == 26 ? 4097 : 4096);
     return (m.answer_len == ANSWER_WORDS || SLIP == 23) && permitted && (n >= 1 || SLIP == 24) && n <= 1024 && buckets &&
            m.names_len == NAME_WORDS * n && m.pool_len == n * p && m.free_len == n && m.chain_len == n && rows_hold() &&
            (m.store_len == capacities() * p || SLIP == 7);
+}
+
+/* with slip 46 a record without the word is taken for one of the bench's cap */
+static uint64_t cap(void)
+{
+    if (m.control_len < CONTROL_WORDS) return DEFAULT_CAP;
+    uint64_t word = m.control[SLIP == 43 ? CONTROL_FLUSHED : CONTROL_CAP];
+    return SLIP == 41 ? (uint32_t)word : SLIP == 42 ? (uint8_t)word : SLIP == 44 ? word & INT64_MAX : word;
+}
+
+static bool cap_holds(void)
+{
+    bool above = SLIP == 47 ? (int64_t)cap() > MOST_CAP : cap() > MOST_CAP + (SLIP == 40);
+    return ((cap() >= LEAST_CAP || SLIP == 39) && !above) || SLIP == 38;
+}
+
+static bool usage_holds(size_t i)
+{
+    uint64_t usage = m.states[i] >> 18 & 15, most = SLIP == 37 ? DEFAULT_CAP : cap();
+    return usage + (SLIP == 45) <= most + (SLIP == 9);
 }
 
 static bool empty(size_t i)
@@ -66,8 +88,7 @@ static bool word_holds(size_t i)
     if (empty(i)) return true;
     for (size_t k = 0; k < 5; k++)
         if (bit(i, others[k]) && SLIP != 8) return false;
-    return (m.states[i] >> 18 & 15) <= MOST_USAGE + (SLIP == 9) && (bit(i, 24) || SLIP == 29) && (bit(i, 25) || SLIP == 30) &&
-           (bit(i, 31) || SLIP == 31) &&
+    return usage_holds(i) && (bit(i, 24) || SLIP == 29) && (bit(i, 25) || SLIP == 30) && (bit(i, 31) || SLIP == 31) &&
            (bit(i, 23) == bit(i, 28) || SLIP == 10);
 }
 
@@ -130,7 +151,7 @@ static bool chain_holds(size_t b)
 static bool books_hold(void)
 {
     uint64_t hand = SLIP == 36 ? (uint32_t)m.control[CONTROL_HAND] : m.control[CONTROL_HAND];
-    if (hand >= n + (SLIP == 17) || m.control[CONTROL_FLUSHED] > m.control[CONTROL_INSERTED] + (SLIP == 18)) return false;
+    if (!cap_holds() || hand >= n + (SLIP == 17) || m.control[CONTROL_FLUSHED] > m.control[CONTROL_INSERTED] + (SLIP == 18)) return false;
     if (!free_holds()) return false;
     for (size_t i = 0; i < n; i++) bucket_of[i] = name_hash(m.names + NAME_WORDS * i) % m.heads_len;
     for (size_t i = 0; i < n; i++) {

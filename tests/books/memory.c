@@ -20,6 +20,20 @@ uint32_t random_below(uint32_t n)
     return (uint32_t)(state >> 32) % n;
 }
 
+uint32_t some_cap(void)
+{
+    static const uint32_t caps[] = {LEAST_CAP, 2, DEFAULT_CAP, 14, MOST_CAP};
+    return random_below(8) == 0 ? LEAST_CAP + random_below(MOST_CAP) : caps[random_below(5)];
+}
+
+uint64_t bad_cap(void)
+{
+    uint64_t cap = some_cap();
+    const uint64_t caps[] = {0, 0, MOST_CAP + 1, MOST_CAP + 1, MOST_CAP + 1 + cap, 256 + cap, (1ull << 32) + cap, 1ull << 63,
+                             (1ull << 63) + cap, UINT64_MAX, UINT64_MAX - cap};
+    return caps[random_below(sizeof caps / sizeof *caps)];
+}
+
 uint32_t name_hash(const uint32_t *name)
 {
     uint32_t h = 2166136261u;
@@ -135,7 +149,7 @@ static void fill_buffer(struct memory *m, const struct shape *s, size_t i, size_
     m->chain[i] = *head;
     *head = (int32_t)i;
     m->free[i] = -2;
-    m->states[i] = (is_dirty ? 590u : 524u) << 22 | random_below(MOST_USAGE + 1) << 18 | random_below(3);
+    m->states[i] = (is_dirty ? 590u : 524u) << 22 | random_below(s->cap + 1) << 18 | random_below(3);
     uint64_t inserted = m->control[CONTROL_INSERTED], below = random_below(1000);
     put_position(m->pool + i * s->page, is_dirty ? inserted - (below < inserted ? below : inserted) : inserted - 500 + below);
 }
@@ -148,7 +162,8 @@ void memory_fill(struct memory *m, const struct shape *s)
                          .pool_len = n * s->page, .store_len = pages * s->page};
     place_all(m);
     uint64_t inserted = s->log + 1 + random_below(1000), hand = n == 0 ? 0 : random_below((uint32_t)n);
-    uint64_t control[CONTROL_WORDS] = {s->page, hand, UINT64_MAX, inserted, inserted - random_below((uint32_t)(inserted - s->log) + 1)};
+    uint64_t flushed = inserted - random_below((uint32_t)(inserted - s->log) + 1);
+    uint64_t control[CONTROL_WORDS] = {s->page, hand, UINT64_MAX, inserted, flushed, s->cap};
     page_size = s->page;
     memcpy(m->control, control, sizeof control);
     memset(m->answer, 0, ANSWER_WORDS * sizeof *m->answer);
@@ -200,6 +215,8 @@ static void damage_control(struct memory *m, unsigned kind)
     case 3: c[CONTROL_TOP] = tops[random_below(sizeof tops / sizeof *tops)]; break;
     case 4: c[CONTROL_INSERTED] = c[CONTROL_FLUSHED] - random_below(2); break;
     case 5: c[CONTROL_FLUSHED] = c[CONTROL_INSERTED] + random_below(2); break;
+    case 6: c[CONTROL_CAP] = bad_cap(); break;
+    case 7: c[CONTROL_CAP] = some_cap(); break;
     default: c[CONTROL_INSERTED] = random_below(1000); break;
     }
 }
@@ -229,9 +246,10 @@ static void damage_buffer(struct memory *m, unsigned kind)
     size_t n = m->states_len;
     if (n == 0) return;
     size_t i = random_below((uint32_t)n), j = random_below((uint32_t)n);
+    uint32_t cap = (uint32_t)m->control[CONTROL_CAP];
     switch (kind) {
     case 0: m->states[i] ^= 1u << random_below(32); break;
-    case 1: m->states[i] = (m->states[i] & ~(15u << 18)) | (MOST_USAGE + random_below(3)) << 18; break;
+    case 1: m->states[i] = (m->states[i] & ~(15u << 18)) | (cap + random_below(3)) % 16 << 18; break;
     case 2: m->states[i] = 0; break;
     case 3: m->states[i] = 0x83040001u; break;
     case 4: m->states[i] ^= 1u << 23 | 1u << 28; break;
@@ -251,8 +269,8 @@ static void damage_buffer(struct memory *m, unsigned kind)
 void memory_damage(struct memory *m, unsigned kind)
 {
     if (kind < 15) damage_buffer(m, kind);
-    else if (kind < 22) damage_control(m, kind - 15);
-    else if (kind < 29) damage_rows(m, kind - 22);
+    else if (kind < 24) damage_control(m, kind - 15);
+    else if (kind < 31) damage_rows(m, kind - 24);
     else damage_length(m);
 }
 
@@ -266,6 +284,7 @@ struct shape memory_shape(void)
     if (random_below(64) == 0) s.buffers = 0;
     if (random_below(64) == 0) s.buckets = s.buffers - (s.buffers > 1);
     s.log = logs[random_below(5)];
+    s.cap = some_cap();
     s.used = random_below(5) * 25;
     s.dirty = random_below(3) * 50;
     s.runs = (int)random_below(2);

@@ -24,6 +24,7 @@ struct shape {
     int runs;                             /* neighbouring buffers hold neighbouring blocks of one file */
     int relations;                        /* each file has a relation number of its own, else six files share two */
     uint64_t log;                         /* where the log's positions begin */
+    uint32_t cap;                         /* the greatest usage count */
 };
 
 /* Every argument of a check, in the order in which memory is lent. */
@@ -38,6 +39,10 @@ typedef uint32_t check_fn(const uint64_t *, size_t, const uint32_t *, size_t, co
 
 void seed_random(uint64_t seed);
 uint32_t random_below(uint32_t n);
+
+/* A cap that is permitted, mostly one at the edges or the bench's; and one that is not: beyond an edge, or permitted in its low bits. */
+uint32_t some_cap(void);
+uint64_t bad_cap(void);
 
 /* The hash of a page name. */
 uint32_t name_hash(const uint32_t *name);
@@ -56,7 +61,7 @@ struct shape memory_shape(void);
 
 /* The number of kinds of damage, and one of them done: it may leave the memory sound. After the last kind, which changes a length, no
    other is done. */
-#define DAMAGES 30
+#define DAMAGES 32
 void memory_damage(struct memory *m, unsigned kind);
 
 /* Nothing done, one kind or, now and then, two. */
