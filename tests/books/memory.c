@@ -23,7 +23,7 @@ uint32_t random_below(uint32_t n)
 uint32_t some_cap(void)
 {
     static const uint32_t caps[] = {LEAST_CAP, 2, DEFAULT_CAP, 14, MOST_CAP};
-    return random_below(8) == 0 ? LEAST_CAP + random_below(MOST_CAP) : caps[random_below(5)];
+    return random_below(4) == 0 ? LEAST_CAP + random_below(MOST_CAP) : caps[random_below(5)];
 }
 
 uint64_t bad_cap(void)

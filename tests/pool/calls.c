@@ -7,7 +7,7 @@ uint32_t made_call(struct memory *m, const struct request *q)
     uint64_t *answer = m->answer;
     size_t words = m->answer_len;
     switch (q->call) {
-    case SET_UP: return DO(set_up)(BUFPOOL_LENT(m), q->page_size, q->position, answer, words);
+    case SET_UP: return DO(set_up)(BUFPOOL_LENT(m), q->page_size, q->position, q->cap, answer, words);
     case PIN: return DO(pin)(BUFPOOL_LENT(m), NAME_OF(q->name), answer, words);
     case UNPIN: return DO(unpin)(BUFPOOL_LENT(m), q->buffer, answer, words);
     case READ: return DO(read)(BUFPOOL_LENT(m), q->buffer, q->from, q->own, q->own_len, answer, words);

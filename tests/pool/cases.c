@@ -1,5 +1,5 @@
-/* Document 01's pages on the bench, through the library's calls: N = 3, B = 3, P = 1024, log 100; one file (1663, 5, 16384, 0) with
-   4 blocks of zeros, capacity 5. Every expected number is the document's. Prints a line for each case, then the counts. */
+/* Document 01's pages on the bench, through the library's calls: N = 3, B = 3, P = 1024, log 100, cap 5; one file (1663, 5, 16384, 0)
+   with 4 blocks of zeros, capacity 5. Every expected number is the document's. Prints a line for each case, then the counts. */
 #include "buftag.h"
 #include "expect.h"
 #include "named.h"
@@ -35,7 +35,7 @@ static void set_up(uint64_t log)
     memset(store, 0, sizeof store);
     memset(control, 0x5A, sizeof control);
     memset(answer, 0x5A, sizeof answer);
-    expect("set up", DO(set_up)(BUFPOOL_LENT(&m), 1024, log, answer, ANSWER_WORDS), 0);
+    expect("set up", DO(set_up)(BUFPOOL_LENT(&m), 1024, log, 5, answer, ANSWER_WORDS), 0);
     expect_answer(0, 0, 0, 0);
 }
 
@@ -87,9 +87,9 @@ static void unpin_three(void)
 
 static void case_set_up(void)
 {
-    begin("set up: free list 0, 1, 2, hand 0, both positions 100, chains and buffers empty");
+    begin("set up: free list 0, 1, 2, hand 0, both positions 100, cap 5, chains and buffers empty");
     set_up(100);
-    const uint64_t record[CONTROL_WORDS] = {1024, 0, 0, 100, 100};
+    const uint64_t record[CONTROL_WORDS] = {1024, 0, 0, 100, 100, 5};
     for (int k = 0; k < CONTROL_WORDS; k++) expect("control word", control[k], record[k]);
     for (int k = 0; k < 3; k++) {
         expect("state word", states[k], 0);

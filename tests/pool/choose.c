@@ -186,7 +186,10 @@ void request_of(struct request *q, enum call call)
         break;
     default: q->position = log_position(call); break;
     }
-    if (call == SET_UP) q->page_size = some_page_size();
+    if (call == SET_UP) {
+        q->page_size = some_page_size();
+        q->cap = random_below(6) == 0 ? bad_cap() : some_cap();
+    }
     random_fill(twin_own, q->own_len);
     if (random_below(8) == 0) memset(twin_own, random_below(4) == 0 ? 255 : 0, q->own_len);
 }

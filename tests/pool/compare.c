@@ -14,16 +14,22 @@
 #include <unistd.h>
 
 enum event {
-    HIT, FREE_LIST, SWEPT, ROUNDS, WROTE, FLUSHED, SEVERAL, PEEKED_POOL, PEEKED_STORE, EXTENDED, DROPPED, BAD_PINNED, BAD_PEEKED, SUMMED,
-    EVENTS
+    HIT, AT_CAP, ABOVE_FIVE, FREE_LIST, SWEPT, ROUNDS, SEVENTH, LONGEST, WROTE, FLUSHED, SEVERAL, PEEKED_POOL, PEEKED_STORE, EXTENDED,
+    DROPPED, BAD_PINNED, BAD_PEEKED, SUMMED, SIZES_FIRST, CAP_UNSOUND, EVENTS
 };
 static const char *const event_names[EVENTS] = {
-    "pin, hit", "pin, from the free list", "pin, two probes or more", "pin, more probes than buffers", "pin, wrote", "flush, wrote",
+    "pin, hit", "pin, hit with usage = cap", "pin, usage raised above 5", "pin, from the free list", "pin, two probes or more",
+    "pin, more probes than buffers", "pin, more than six probes per buffer", "pin, cap + 1 probes per buffer", "pin, wrote", "flush, wrote",
     "checkpoint, wrote two or more", "peek, pool", "peek, store", "extend, accepted", "drop, buffers emptied",
-    "pin, 17 with every buffer pinned", "peek, 17", "checksum, accepted"};
+    "pin, 17 with every buffer pinned", "peek, 17", "checksum, accepted", "set up, 1 with a cap that is not permitted",
+    "2 with a cap that is not permitted"};
 
-enum { MOST_REFUSAL = 17 };
-static unsigned long refusals[MOST_REFUSAL + 1], events[EVENTS], calls;
+enum { MOST_REFUSAL = 18 };
+static unsigned long refusals[MOST_REFUSAL + 1], events[EVENTS], pins_at[MOST_CAP + 1], calls;
+
+/* before the call: top of the free list, state words */
+static uint64_t top_before;
+static uint32_t words_before[1032];
 
 /* where we are, for what is said of a difference */
 static const char *work;
@@ -54,13 +60,24 @@ static void on_fault(int signal_number)
     end_different();
 }
 
-static void count_pin(const uint64_t *answer, uint64_t top_before)
+static bool is_cap(uint64_t cap)
 {
+    return cap >= LEAST_CAP && cap <= MOST_CAP;
+}
+
+static void count_pin(const uint64_t *answer)
+{
+    uint64_t n = twin.states_len, cap = twin.control[CONTROL_CAP], usage = words_before[answer[0]] >> 18 & 15;
     events[HIT] += answer[1] == 1;
+    events[AT_CAP] += answer[1] == 1 && usage == cap;
+    events[ABOVE_FIVE] += answer[1] == 1 && usage >= 5 && usage < cap;
     events[FREE_LIST] += answer[1] == 0 && top_before != UINT64_MAX;
     events[SWEPT] += answer[3] >= 2;
-    events[ROUNDS] += answer[3] > twin.states_len;
+    events[ROUNDS] += answer[3] > n;
+    events[SEVENTH] += answer[3] > 6 * n;
+    events[LONGEST] += answer[3] == (cap + 1) * n;
     events[WROTE] += answer[2] == 1;
+    if (is_cap(cap)) pins_at[cap]++;
 }
 
 static bool every_buffer_pinned(void)
@@ -70,14 +87,23 @@ static bool every_buffer_pinned(void)
     return true;
 }
 
-static void count(enum call call, uint32_t result, const uint64_t *answer, uint64_t top_before)
+static void count_refused(const struct request *q, uint32_t result)
+{
+    if (result == 17) events[q->call == PEEK ? BAD_PEEKED : BAD_PINNED] += q->call == PEEK || every_buffer_pinned();
+    events[SIZES_FIRST] += result == 1 && q->call == SET_UP && !is_cap(q->cap);
+    events[CAP_UNSOUND] += result == 2 && !is_cap(twin.control[CONTROL_CAP]);
+}
+
+static void count(const struct request *q, uint32_t result, const uint64_t *answer)
 {
     calls++;
     if (result <= MOST_REFUSAL) refusals[result]++;
-    if (result == 17) events[call == PEEK ? BAD_PEEKED : BAD_PINNED] += call == PEEK || every_buffer_pinned();
-    if (result != 0) return;
-    switch (call) {
-    case PIN: count_pin(answer, top_before); break;
+    if (result != 0) {
+        count_refused(q, result);
+        return;
+    }
+    switch (q->call) {
+    case PIN: count_pin(answer); break;
     case FLUSH: events[FLUSHED] += answer[0] == 1; break;
     case CHECKPOINT: events[SEVERAL] += answer[0] > 1; break;
     case PEEK: events[answer[0] == 1 ? PEEKED_POOL : PEEKED_STORE]++; break;
@@ -114,9 +140,10 @@ static void compare_model(const struct request *q, uint32_t result)
 
 static uint32_t make(const struct request *q)
 {
-    uint64_t top = twin.control[CONTROL_TOP];
     current = q;
     step++;
+    top_before = twin.control[CONTROL_TOP];
+    memcpy(words_before, twin.states, twin.states_len * sizeof *twin.states);
     keep_before();
     random_fill(twin.answer, twin.answer_len * sizeof *twin.answer);
     lent_copy_part(ANSWER, twin.answer_len, random_below(4) != 0);
@@ -126,7 +153,7 @@ static uint32_t make(const struct request *q)
     in_library = 0;
     if (shelf_alone) twin_copy();
     else compare_model(q, result);
-    count(q->call, result, twin.answer, top);
+    count(q, result, twin.answer);
     return result;
 }
 
@@ -143,12 +170,12 @@ static void follow(const struct request *q, uint32_t result)
 /* A set up of these sizes on memory with any contents; whether it was accepted. */
 static int set_up(const struct sizes *s)
 {
-    struct request q = {.call = SET_UP, .page_size = s->page_size, .position = some_log(), .own = twin_own};
+    struct request q = {.call = SET_UP, .page_size = s->page_size, .position = some_log(), .cap = s->cap, .own = twin_own};
     fill_unset(s, q.position);
     lent_copy();
     if (make(&q) != 0) return 0;
     struct memory after = library_memory();
-    if (twin.store_len <= MOST_SHELF) shelf_begin(&after, s->page_size, q.position);
+    if (twin.store_len <= MOST_SHELF) shelf_begin(&after, s->page_size, q.position, q.cap);
     return 1;
 }
 
@@ -214,7 +241,8 @@ static void run_great(int built, unsigned kind)
 /* One page pinned as often as can be, and once more. */
 static void run_pins(void)
 {
-    struct sizes s = {.n = 1, .buckets = 1, .page_size = 1024, .files = 1, .blocks = {1}, .capacity = {1}, .all_pass = true};
+    struct sizes s = {.n = 1, .buckets = 1, .page_size = 1024, .files = 1, .blocks = {1}, .capacity = {1}, .cap = MOST_CAP,
+                      .all_pass = true};
     struct request q = {.call = PIN, .own = twin_own};
     work = "pins up to the greatest count";
     set_up_must(&s);
@@ -247,6 +275,7 @@ int main(int argc, char **argv)
     run_pins();
     for (int k = 0; k <= MOST_REFUSAL; k++) printf("%lu refusal %d\n", refusals[k], k);
     for (int k = 0; k < EVENTS; k++) printf("%lu %s\n", events[k], event_names[k]);
+    for (int k = LEAST_CAP; k <= MOST_CAP; k++) printf("%lu pins with cap %d\n", pins_at[k], k);
     printf("%lu calls\n", calls);
     return 0;
 }

@@ -19,10 +19,10 @@ static uint32_t any(size_t many)
 /* flags, counts and emptiness of a buffer */
 static void damage_word(void)
 {
-    uint32_t *word = &twin.states[any(twin.states_len)];
+    uint32_t *word = &twin.states[any(twin.states_len)], cap = twin.control[CONTROL_CAP] % 16;
     switch (random_below(7)) {
     case 0: *word ^= 1u << random_below(32); break;
-    case 1: *word = (*word & ~(15u << 18)) | (MOST_USAGE + random_below(16 - MOST_USAGE)) << 18; break;
+    case 1: *word = (*word & ~(15u << 18)) | (cap + random_below(16 - cap)) << 18; break;
     case 2: *word = 0; break;
     case 3: *word = 0x83040001u; break;
     case 4: *word ^= 1u << 23 | 1u << 28; break;
@@ -73,12 +73,14 @@ static void damage_control(void)
     const uint64_t tops[] = {UINT64_MAX, n, n - 1, 0, 1ull << 32, (1ull << 32) + 3, (1ull << 32) + c[CONTROL_TOP], 1ull << 31, 1ull << 63,
                              UINT64_MAX - 1, UINT32_MAX, c[CONTROL_TOP] + 1, (1ull << 32) - 2};
     const uint64_t hands[] = {n, n + 1, n - 1, 0, 1ull << 32, (1ull << 32) + c[CONTROL_HAND], UINT64_MAX};
-    switch (random_below(6)) {
+    switch (random_below(8)) {
     case 0: c[CONTROL_HAND] = hands[random_below(sizeof hands / sizeof *hands)]; break;
     case 1:
     case 2: c[CONTROL_TOP] = tops[random_below(sizeof tops / sizeof *tops)]; break;
     case 3: c[CONTROL_INSERTED] = below(c[CONTROL_FLUSHED], random_below(2)); break;
     case 4: c[CONTROL_FLUSHED] = above(c[CONTROL_INSERTED], random_below(2)); break;
+    case 5: c[CONTROL_CAP] = bad_cap(); break;
+    case 6: c[CONTROL_CAP] = some_cap(); break;
     default: c[CONTROL_INSERTED] = random64(); break;
     }
 }

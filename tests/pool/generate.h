@@ -10,7 +10,7 @@
 
 struct sizes {
     size_t n, buckets, page_size, files;
-    uint32_t blocks[MOST_ROWS], capacity[MOST_ROWS];
+    uint32_t blocks[MOST_ROWS], capacity[MOST_ROWS], cap;
     bool all_pass; /* no block below its file's count is bad */
 };
 

@@ -53,6 +53,7 @@ void unpack(const struct memory *m, struct pool *p)
     p->hand = m->control[CONTROL_HAND];
     p->inserted = m->control[CONTROL_INSERTED];
     p->flushed = m->control[CONTROL_FLUSHED];
+    p->cap = m->control[CONTROL_CAP];
     p->rows = m->rows;
     p->store = m->store;
     p->free.many = p->table.many = 0;
@@ -92,6 +93,7 @@ void pack(const struct pool *p, struct memory *m)
     m->control[CONTROL_TOP] = p->free.many > 0 ? p->free.at[0] : UINT64_MAX;
     m->control[CONTROL_INSERTED] = p->inserted;
     m->control[CONTROL_FLUSHED] = p->flushed;
+    m->control[CONTROL_CAP] = p->cap;
     for (size_t i = 0; i < p->n; i++) {
         m->states[i] = pack_word(&p->buffers[i]);
         memcpy(m->names + NAME_WORDS * i, p->buffers[i].name, sizeof p->buffers[i].name);

@@ -26,7 +26,7 @@ struct list {
 
 struct pool {
     size_t n, buckets, page_size, files;
-    uint64_t hand, inserted, flushed;
+    uint64_t hand, inserted, flushed, cap;
     struct buffer buffers[MOST_BUFFERS];
     struct list free;  /* from the top on */
     struct list table; /* the used buffers: those whose names fall in one bucket are its chain, in this order */

@@ -96,7 +96,7 @@ static uint64_t write_back(struct pool *p, struct buffer *b)
 static size_t sweep(struct pool *p, uint64_t *probes)
 {
     size_t in_a_row = 0, enough = SLIP == 6 && p->n > 1 ? p->n - 1 : p->n;
-    while (in_a_row < enough) {
+    while (in_a_row < enough && (SLIP != 61 || *probes < (DEFAULT_CAP + 1) * p->n)) {
         size_t i = p->hand;
         struct buffer *b = &p->buffers[i];
         p->hand = i + 1 < p->n ? i + 1 : SLIP == 12 ? i : 0;
@@ -159,6 +159,14 @@ static uint32_t name_places(struct pool *p, const uint32_t *name)
     return name[NAME_BLOCK] >= row[ROW_BLOCKS] ? 4 : 0;
 }
 
+/* Whether a pin raises a usage count. */
+static bool is_raised(struct pool *p, uint64_t usage)
+{
+    uint64_t cap = SLIP == 52 ? DEFAULT_CAP : SLIP == 58 ? p->flushed : p->cap;
+    if (SLIP == 62 && usage == cap) p->cap++;
+    return usage < cap || (SLIP == 51 && usage == cap) || SLIP == 3;
+}
+
 static uint32_t pin(struct pool *p, const struct request *q, uint64_t *answer)
 {
     uint32_t refusal = name_places(p, q->name);
@@ -169,7 +177,7 @@ static uint32_t pin(struct pool *p, const struct request *q, uint64_t *answer)
     struct buffer *b = &p->buffers[i];
     if (b->pins >= MOST_PINS - (SLIP == 31)) return 5;
     b->pins++;
-    if (b->usage < MOST_USAGE || SLIP == 3) b->usage++;
+    if (is_raised(p, b->usage)) b->usage++;
     answer[0] = i;
     answer[1] = 1;
     return 0;
@@ -313,6 +321,12 @@ static uint32_t log_flushed(struct pool *p, const struct request *q)
     return 0;
 }
 
+/* The cap that a set up is given; slips lose its high bits. */
+static uint64_t cap_of(const struct request *q)
+{
+    return SLIP == 56 ? (uint32_t)q->cap : SLIP == 57 ? (uint8_t)q->cap : q->cap;
+}
+
 static void set_up(struct memory *m, const struct request *q)
 {
     static struct pool p;
@@ -321,6 +335,7 @@ static void set_up(struct memory *m, const struct request *q)
     p.buckets = m->heads_len;
     p.page_size = q->page_size;
     p.inserted = p.flushed = q->position;
+    p.cap = SLIP == 59 ? m->control[CONTROL_CAP] : SLIP == 60 ? DEFAULT_CAP : cap_of(q);
     for (size_t i = 0; i < p.n; i++) list_add(&p.free, SLIP == 26 ? p.n - 1 - i : i);
     if (SLIP == 27) memset(m->pool, 0, m->pool_len);
     pack(&p, m);
@@ -353,11 +368,21 @@ static uint32_t checksum(struct memory *m, const struct request *q)
     return good ? 0 : 1;
 }
 
-/* Places 1 and 2. */
+/* Places 1 and 18. */
+static uint32_t set_up_places(struct memory *m, const struct request *q)
+{
+    uint64_t cap = cap_of(q);
+    bool permitted = (cap != 0 || SLIP == 53) && cap <= MOST_CAP + (SLIP == 54);
+    if (SLIP == 55 && !permitted) return 18;
+    if (!sizes_hold_for(m, q->page_size)) return 1;
+    if (SLIP == 63) m->control[CONTROL_CAP] = cap;
+    return permitted ? 0 : 18;
+}
+
+/* Places 1, and 18 or 2. */
 static uint32_t memory_places(struct memory *m, const struct request *q)
 {
-    if (q->call == SET_UP) return sizes_hold_for(m, q->page_size) ? 0 : 1;
-    return judge(LENT(m));
+    return q->call == SET_UP ? set_up_places(m, q) : judge(LENT(m));
 }
 
 uint32_t model_call(struct memory *m, const struct request *q)

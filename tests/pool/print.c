@@ -44,7 +44,7 @@ void print_request(const struct request *q)
 {
     printf("%s ", call_names[q->call]);
     switch (q->call) {
-    case SET_UP: printf("page_size %" PRIu64 " position %" PRIu64, q->page_size, q->position); break;
+    case SET_UP: printf("page_size %" PRIu64 " position %" PRIu64 " cap %" PRIu64, q->page_size, q->position, q->cap); break;
     case PIN:
     case PEEK: print_numbers(q->name, NAME_WORDS); break;
     case EXTEND:
@@ -86,8 +86,9 @@ void print_before(void)
     const uint64_t *c = before.control;
     printf("before the call; lengths:");
     for (int k = 0; k < OWN; k++) printf(" %s %zu", part_names[k], before.lengths[k]);
-    printf("\n  control: P %" PRIu64 ", hand %" PRIu64 ", top %" PRId64 ", inserted %" PRIu64 ", flushed %" PRIu64 "\n  heads:",
-           c[CONTROL_SIZE], c[CONTROL_HAND], (int64_t)c[CONTROL_TOP], c[CONTROL_INSERTED], c[CONTROL_FLUSHED]);
+    printf("\n  control: P %" PRIu64 ", hand %" PRIu64 ", top %" PRId64 ", inserted %" PRIu64 ", flushed %" PRIu64
+           ", cap %" PRIu64 "\n  heads:",
+           c[CONTROL_SIZE], c[CONTROL_HAND], (int64_t)c[CONTROL_TOP], c[CONTROL_INSERTED], c[CONTROL_FLUSHED], c[CONTROL_CAP]);
     for (size_t k = 0; k < 2 * SHOWN && k < before.lengths[HEADS]; k++) printf(" %" PRId32, before.heads[k]);
     printf("\n");
     for (size_t i = 0; i < SHOWN && i < before.lengths[STATES]; i++) print_buffer(i);

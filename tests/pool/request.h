@@ -11,7 +11,7 @@ enum call { SET_UP, PIN, UNPIN, READ, WRITE, FLUSH, CHECKPOINT, PEEK, EXTEND, DR
 struct request {
     enum call call;
     uint32_t name[NAME_WORDS]; /* pin, peek; of an extend and a drop the file's words, of a checksum the block */
-    uint64_t page_size;        /* set up */
+    uint64_t page_size, cap;   /* set up */
     uint64_t buffer;           /* unpin, read, write, flush */
     uint64_t from;             /* read, write */
     uint64_t position;         /* set up, write, log inserted, log flushed */

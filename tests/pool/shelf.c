@@ -21,11 +21,11 @@ static uint32_t counts[MOST_PLACES];
 static size_t holding[MOST_NUMBERS];
 static bool bad[MOST_PLACES]; /* the block came in bad, and its file was not dropped since */
 
-/* beside it: the dirty pages, the pages put into the store, the page that a pin last got at each number, flushed, and the store after
-   the call before */
+/* beside it: the dirty pages, the pages put into the store, the page that a pin last got at each number, flushed, set up's cap, and the
+   store after the call before */
 static bool dirty[MOST_PLACES], was_put[MOST_PLACES];
 static size_t last[MOST_NUMBERS];
-static uint64_t flushed;
+static uint64_t flushed, cap;
 static uint8_t store[MOST_SHELF];
 
 static size_t place_of(size_t row, uint32_t block)
@@ -54,13 +54,14 @@ static void note_bad(void)
     }
 }
 
-void shelf_begin(const struct memory *m, uint64_t page_size, uint64_t position)
+void shelf_begin(const struct memory *m, uint64_t page_size, uint64_t position, uint64_t given_cap)
 {
     n = m->states_len;
     files = m->rows_len / ROW_WORDS;
     block_size = page_size;
     places = m->store_len / page_size;
     inserted = flushed = position;
+    cap = SHELF_SLIP == 10 ? DEFAULT_CAP : given_cap;
     if (m->rows_len > 0) memcpy(rows, m->rows, m->rows_len * sizeof *rows);
     memcpy(blocks, m->store, m->store_len);
     memcpy(store, m->store, m->store_len);
@@ -207,7 +208,7 @@ static const char *pinned(const struct request *q, const uint64_t *answer, const
     if (i >= n) return "a pin's buffer number is below N";
     if (counts[place] > 0 && holding[i] != place) return "a pin of a page with pins answers the number already holding it";
     if (counts[place] == 0 && holding[i] != NONE) return "a pin of a page without pins answers a number that holds none";
-    if (answer[3] > (MOST_USAGE + 1) * n) return "at most six probes per buffer";
+    if (answer[3] > ((SHELF_SLIP == 8 ? DEFAULT_CAP : cap) + (SHELF_SLIP != 9)) * n) return "at most cap + 1 probes per buffer";
     if (answer[1] == 1 && (answer[2] != 0 || answer[3] != 0)) return "a hit makes no probes and writes nothing";
     if (answer[2] == 1 && (last[i] == NONE || !dirty[last[i]])) return "a pin that answers wrote had a dirty page at the number";
     if (answer[2] == 1 && !written_back(last[i], now)) return "the page written back at a pin is the shelf's";
@@ -324,6 +325,7 @@ const char *shelf_follow(const struct request *q, const uint8_t *own, uint32_t r
     if (inserted != after->control[CONTROL_INSERTED]) return "inserted is the shelf's";
     if (flushed != after->control[CONTROL_FLUSHED])
         return "flushed is the largest position of set up, log flushed and the pages written back";
+    if (cap != after->control[CONTROL_CAP]) return "the cap is set up's";
     if (memcmp(store, after->store, places * block_size) != 0) return "no other block of the store has changed";
     if (!in_log_order(after->control[CONTROL_FLUSHED])) return "every block put into the store is at or below flushed";
     return NULL;

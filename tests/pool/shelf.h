@@ -6,9 +6,10 @@
 #include "memory.h"
 #include "request.h"
 
-/* Begins with the memory after an accepted set up at a log position. Stores larger than this many bytes are not followed. */
+/* Begins with the memory after an accepted set up with this block size, log position and cap. Stores larger than this many bytes are not
+   followed. */
 #define MOST_SHELF ((size_t)8 << 20)
-void shelf_begin(const struct memory *m, uint64_t page_size, uint64_t position);
+void shelf_begin(const struct memory *m, uint64_t page_size, uint64_t position, uint64_t cap);
 
 /* The call made, with its result, and the memory and the call's own bytes afterwards. Gives a null pointer, or the sentence that does
    not hold. */

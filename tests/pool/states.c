@@ -39,7 +39,8 @@ uint64_t some_log(void)
 struct sizes some_sizes(void)
 {
     bool middling = random_below(64) == 0;
-    struct sizes s = {.n = 1 + random_below(random_below(3) == 0 ? 3 : 8), .page_size = 1024, .files = 1 + random_below(4)};
+    struct sizes s = {.n = 1 + random_below(random_below(3) == 0 ? 3 : 8), .page_size = 1024, .files = 1 + random_below(4),
+                      .cap = some_cap()};
     if (middling) s.n = 60 + random_below(5);
     if (random_below(8) == 0) s.page_size = random_below(4) == 0 ? 1024u << random_below(6) : 2048;
     if (random_below(20) == 0) s.files = 0;
@@ -55,6 +56,7 @@ struct sizes great_sizes(unsigned kind)
 {
     struct sizes s = {.n = 1024, .buckets = 4096, .page_size = 1024, .files = 64};
     if (kind == 1) s = (struct sizes){.n = 1023, .buckets = 4095, .page_size = 1024, .files = 63};
+    s.cap = some_cap();
     if (kind == 2) s.n = 1025;
     if (kind == 3) s.buckets = 4097;
     if (kind == 4) s.files = 65;
@@ -185,7 +187,7 @@ static void fill_buffer(const struct sizes *s, size_t i, uint32_t page, unsigned
     twin.chain[i] = *head;
     *head = (int32_t)i;
     twin.free[i] = -2;
-    twin.states[i] = flags | dirty << 28 | dirty << 23 | random_below(MOST_USAGE + 1) << 18 | some_pins(style);
+    twin.states[i] = flags | dirty << 28 | dirty << 23 | random_below(s->cap + 1) << 18 | some_pins(style);
     if (dirty || random_below(8) != 0) put_position(twin.pool + i * s->page_size, below(inserted, random_below(60)));
     if (random_below(8) == 0) clear_page(twin.pool + i * s->page_size, s->page_size);
 }
@@ -214,7 +216,7 @@ void fill_sound(const struct sizes *s)
     uint64_t inserted = above(some_log(), random_below(100)), flushed = below(inserted, random_below(60));
     fill_unset(s, inserted);
     uint64_t control[CONTROL_WORDS] = {s->page_size, random_below((uint32_t)s->n), UINT64_MAX, inserted,
-                                       random_below(8) == 0 ? inserted : flushed};
+                                       random_below(8) == 0 ? inserted : flushed, s->cap};
     memcpy(twin.control, control, sizeof control);
     memset(twin.heads, 255, s->buckets * sizeof *twin.heads);
     memset(twin.chain, 255, s->n * sizeof *twin.chain);

@@ -1,27 +1,10 @@
-/* Page checksums case by case, through the calls: N = 2, B = 2, P = 1024, log 100; two files with 3 blocks each, capacity 4, so that in the
-   second a block's number is not its place in the store. Every block below a count has bytes of its own and its checksum. After each
+/* Page checksums case by case, through the calls: N = 2, B = 2, P = 1024, log 100, cap 5; two files with 3 blocks each, capacity 4, so that
+   in the second a block's number is not its place in the store. Every block below a count has bytes of its own and its checksum. After each
    refusal all that was lent is compared byte by byte. Prints a line for each case, then the counts. */
-#include "calls.h"
-#include "expect.h"
-#include "sum.h"
-#include <string.h>
-
 enum { N = 2, P = 1024, FILES = 2, BLOCKS = 3, CAPACITY = 4, PLACES = FILES * CAPACITY, MOST_PINS = 262143 };
 
-/* all the lent memory in one piece */
-struct lot {
-    uint64_t control[CONTROL_WORDS], answer[ANSWER_WORDS];
-    uint32_t states[N], names[N * NAME_WORDS], rows[FILES * ROW_WORDS];
-    int32_t free[N], heads[N], chain[N];
-    uint8_t pool[N * P], store[PLACES * P];
-};
-
-static struct lot lot, before;
-static struct memory m = {.control = lot.control, .control_len = CONTROL_WORDS, .answer = lot.answer, .answer_len = ANSWER_WORDS,
-                          .states = lot.states, .states_len = N, .names = lot.names, .names_len = N * NAME_WORDS,
-                          .rows = lot.rows, .rows_len = FILES * ROW_WORDS, .free = lot.free, .free_len = N,
-                          .heads = lot.heads, .heads_len = N, .chain = lot.chain, .chain_len = N,
-                          .pool = lot.pool, .pool_len = sizeof lot.pool, .store = lot.store, .store_len = sizeof lot.store};
+#include "lot.h"
+#include "sum.h"
 
 static uint8_t *block_at(uint32_t file, uint32_t block)
 {
@@ -31,34 +14,6 @@ static uint8_t *block_at(uint32_t file, uint32_t block)
 static uint8_t *page_at(uint64_t buffer)
 {
     return lot.pool + buffer * P;
-}
-
-/* Makes a call. A refusal has zeros for an answer of four words; nothing else has changed. */
-static uint32_t ask(struct request q)
-{
-    memset(lot.answer, 0x5A, sizeof lot.answer);
-    memcpy(&before, &lot, sizeof lot);
-    uint32_t result = made_call(&m, &q);
-    if (m.answer_len == ANSWER_WORDS) memset(before.answer, 0, sizeof before.answer);
-    if (result != 0) expect("change by a refusal", memcmp(&before, &lot, sizeof lot) != 0, 0);
-    return result;
-}
-
-static uint32_t ask_name(enum call call, uint32_t file, uint32_t block)
-{
-    return ask((struct request){.call = call, .name = {1663, 5, 16384 + file, 0, block}});
-}
-
-/* The buffer that a page is pinned in. */
-static uint64_t pin(uint32_t file, uint32_t block)
-{
-    expect("pin", ask_name(PIN, file, block), 0);
-    return lot.answer[0];
-}
-
-static void unpin(uint64_t buffer)
-{
-    expect("unpin", ask((struct request){.call = UNPIN, .buffer = buffer}), 0);
 }
 
 static void write_two(uint64_t buffer, uint64_t from, unsigned first, unsigned second, uint64_t position)
@@ -120,7 +75,7 @@ static void set_up(uint64_t log)
             put_sum(page, page_sum(page, P, b));
         }
     }
-    expect("set up", ask((struct request){.call = SET_UP, .page_size = P, .position = log}), 0);
+    expect("set up", ask((struct request){.call = SET_UP, .page_size = P, .position = log, .cap = DEFAULT_CAP}), 0);
 }
 
 static void expect_sum(const uint8_t *page, size_t size, uint32_t block, uint64_t sum)

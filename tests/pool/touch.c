@@ -35,7 +35,7 @@ static uint32_t fill(void)
     m = (struct bufpool){.control = control, .states = states, .names = names, .pool = pool, .free = free_links,
                          .heads = heads, .chain = chain, .rows = rows, .store = store};
     bufpool_fit(&m, BUFFERS, BUFFERS, 1, PAGE);
-    wrong += bufpool_set_up_pool(&m, PAGE, 100);
+    wrong += bufpool_set_up_pool(&m, PAGE, 100, BUFPOOL_DEFAULT_CAP);
     for (uint32_t k = 0; k < BUFFERS; k++) {
         struct bufpool_pinned pinned;
         wrong += bufpool_pin_page(&m, block(k), &pinned);
