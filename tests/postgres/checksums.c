@@ -175,7 +175,7 @@ static uint64_t see_verified(struct bufpool *m, size_t size, size_t f, uint32_t 
     struct bufpool_name name = bufpool_name_of(small_file[f], block);
     struct bufpool_part part;
     struct bufpool_pinned p;
-    need(bufpool_set_up_pool(m, size, LOG) == BUFPOOL_DONE, "set up is refused, at block size", size);
+    need(bufpool_set_up_pool(m, size, LOG, BUFPOOL_DEFAULT_CAP) == BUFPOOL_DONE, "set up is refused, at block size", size);
     need(bufpool_peek_page(m, name, &part) == expected, "peek does not give what PostgreSQL's checksum says, at block", block);
     need(bufpool_pin_page(m, name, &p) == expected, "pin does not give what PostgreSQL's checksum says, at block", block);
     return expected != BUFPOOL_DONE;

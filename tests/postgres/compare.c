@@ -43,18 +43,20 @@ static void forks(void)
     for (int fork = 0; fork < 3; fork++) need(published_fork(fork) == (uint32_t)fork, "another number has fork", (uint64_t)fork);
 }
 
-/* Document 01's numbers: flags, greatest usage count and greatest pin count. */
+/* Document 01's numbers: flags and greatest pin count; the caps that the header names: PostgreSQL's greatest usage count, and what its bits
+   hold. */
 static void constants(void)
 {
     static const int bits[FLAGS] = {23, 24, 25, 28, 31};
     for (int f = 0; f < FLAGS; f++) need(published_flag((enum flag)f) == (uint32_t)1 << bits[f], "another flag is bit", (uint64_t)bits[f]);
-    need(published_most_usage() == MOST_USAGE, "the greatest usage count", published_most_usage());
+    need(published_most_usage() == BUFPOOL_DEFAULT_CAP, "the greatest usage count", published_most_usage());
+    need(published_usage(UINT32_MAX) == BUFPOOL_MAX_CAP, "the greatest number that a usage count's bits hold", published_usage(UINT32_MAX));
     need(published_most_pins() == BUFPOOL_MAX_PINS, "the greatest pin count", published_most_pins());
 }
 
-/* What a buffer's word has to say, kept beside the pool. */
+/* What a buffer's word has to say, kept beside the pool; its usage count is at most the cap. */
 struct expected {
-    uint32_t pins, usage;
+    uint32_t pins, usage, cap;
     int dirty, used;
 };
 
@@ -83,7 +85,7 @@ static void see_pin(struct bufpool *m, uint32_t block, struct expected *e)
     struct bufpool_pinned p;
     need(bufpool_pin_page(m, small_name(block), &p) == BUFPOOL_DONE, "pin is refused, of block", block);
     need(p.buffer.number == block && p.hit == e->used, "pin answers another buffer for block", block);
-    if (!e->used || e->usage < published_most_usage()) e->usage++;
+    if (!e->used || e->usage < e->cap) e->usage++;
     e->used = 1;
     e->pins++;
 }
@@ -111,11 +113,13 @@ static void see_call(struct bufpool *m, uint32_t block, struct expected *e)
 }
 
 /* Random pins, writes, flushes and unpins: block k is in buffer k, taken from the free list. */
-static void words(void)
+static void see_words(struct bufpool *m, uint32_t cap)
 {
-    struct bufpool *m = small_pool(BUFFERS, BUFFERS, 100);
-    struct expected e[BUFFERS] = {{0, 0, 0, 0}};
-    for (uint32_t k = 0; k < BUFFERS; k++) see_pin(m, k, &e[k]);
+    struct expected e[BUFFERS];
+    for (uint32_t k = 0; k < BUFFERS; k++) {
+        e[k] = (struct expected){.cap = cap};
+        see_pin(m, k, &e[k]);
+    }
     for (uint32_t k = 0; k < CALLS; k++) {
         uint32_t block = random_below(BUFFERS);
         if (e[block].pins == 0 || random_below(5) < 2) see_pin(m, block, &e[block]);
@@ -124,11 +128,20 @@ static void words(void)
     }
 }
 
+/* With the default cap, which is PostgreSQL's greatest usage count, and with the greatest. */
+static void words(void)
+{
+    struct bufpool *m = small_pool(BUFFERS, BUFFERS, 100);
+    see_words(m, published_most_usage());
+    need(bufpool_set_up_pool(m, PAGE, 100, BUFPOOL_MAX_CAP) == BUFPOOL_DONE, "set up is refused with cap", BUFPOOL_MAX_CAP);
+    see_words(m, BUFPOOL_MAX_CAP);
+}
+
 /* The greatest pin count, and the pin that is one too many. */
 static void pins(void)
 {
     struct bufpool *m = small_pool(1, 1, 100);
-    struct expected e = {0, 0, 0, 0};
+    struct expected e = {.cap = published_most_usage()};
     struct bufpool_pinned p;
     for (uint32_t k = 0; k < published_most_pins(); k++) see_pin(m, 0, &e);
     see_word(m, 0, &e);

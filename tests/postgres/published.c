@@ -49,7 +49,7 @@ uint32_t published_most_pins(void) { return BUF_REFCOUNT_MASK / BUF_REFCOUNT_ONE
 
 uint32_t published_word(uint32_t pins, uint32_t usage, int dirty)
 {
-    uint32_t word = pins * BUF_REFCOUNT_ONE + usage * BUF_USAGECOUNT_ONE * (SLIP == 13 ? 2 : 1);
+    uint32_t word = pins * BUF_REFCOUNT_ONE + (SLIP == 24 ? usage % 8 : usage) * BUF_USAGECOUNT_ONE * (SLIP == 13 ? 2 : 1);
     word |= BM_VALID | BM_TAG_VALID | BM_PERMANENT;
     if (dirty) word |= BM_DIRTY | (SLIP == 14 ? 0 : BM_JUST_DIRTIED);
     return word;

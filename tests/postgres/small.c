@@ -24,7 +24,7 @@ static struct bufpool *set_up(size_t page, size_t buffers, size_t files, uint64_
 {
     bufpool_fit(&m, buffers, buffers, files, page);
     need(buffers <= MOST_BUFFERS && m.store_len <= sizeof small_store, "more bytes than there is room for", m.store_len);
-    need(bufpool_set_up_pool(&m, page, position) == BUFPOOL_DONE, "set up is refused at log position", position);
+    need(bufpool_set_up_pool(&m, page, position, BUFPOOL_DEFAULT_CAP) == BUFPOOL_DONE, "set up is refused at log position", position);
     return &m;
 }
 

@@ -1,4 +1,5 @@
-/* A small pool with pages of PostgreSQL's size, over one file, or with pages of any size, over two; and random numbers. */
+/* A small pool with pages of PostgreSQL's size, over one file, or with pages of any size, over two, set up with the default cap; and random
+   numbers. */
 #ifndef SMALL_H
 #define SMALL_H
 
