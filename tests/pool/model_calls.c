@@ -321,12 +321,6 @@ static uint32_t log_flushed(struct pool *p, const struct request *q)
     return 0;
 }
 
-/* The cap that a set up is given; slips lose its high bits. */
-static uint64_t cap_of(const struct request *q)
-{
-    return SLIP == 56 ? (uint32_t)q->cap : SLIP == 57 ? (uint8_t)q->cap : q->cap;
-}
-
 static void set_up(struct memory *m, const struct request *q)
 {
     static struct pool p;
@@ -335,7 +329,7 @@ static void set_up(struct memory *m, const struct request *q)
     p.buckets = m->heads_len;
     p.page_size = q->page_size;
     p.inserted = p.flushed = q->position;
-    p.cap = SLIP == 59 ? m->control[CONTROL_CAP] : SLIP == 60 ? DEFAULT_CAP : cap_of(q);
+    p.cap = SLIP == 59 ? m->control[CONTROL_CAP] : SLIP == 60 ? DEFAULT_CAP : q->cap;
     for (size_t i = 0; i < p.n; i++) list_add(&p.free, SLIP == 26 ? p.n - 1 - i : i);
     if (SLIP == 27) memset(m->pool, 0, m->pool_len);
     pack(&p, m);
@@ -371,7 +365,7 @@ static uint32_t checksum(struct memory *m, const struct request *q)
 /* Places 1 and 18. */
 static uint32_t set_up_places(struct memory *m, const struct request *q)
 {
-    uint64_t cap = cap_of(q);
+    uint64_t cap = SLIP == 56 ? (uint32_t)q->cap : SLIP == 57 ? (uint8_t)q->cap : q->cap;
     bool permitted = (cap != 0 || SLIP == 53) && cap <= MOST_CAP + (SLIP == 54);
     if (SLIP == 55 && !permitted) return 18;
     if (!sizes_hold_for(m, q->page_size)) return 1;
