@@ -11,15 +11,16 @@ use lib.Signed.{ltZ}
 use borrow.Author.Tests.{ltb-true}
 use Rattle.bufmodel.specs.Lent.{controlWords, oneBits, topWord}
 
-pub five : (xs : List ℕ) (a b c d f : ℕ) → length xs ≡ controlWords
-    → set (set (set (set (set xs 0 a) 1 b) 2 c) 3 d) 4 f ≡ a ∷ b ∷ c ∷ d ∷ f ∷ []
-five [] a b c d f e = absurd (omega arith)
-five (x ∷ []) a b c d f e = absurd (omega arith)
-five (x ∷ y ∷ []) a b c d f e = absurd (omega arith)
-five (x ∷ y ∷ z ∷ []) a b c d f e = absurd (omega arith)
-five (x ∷ y ∷ z ∷ w ∷ []) a b c d f e = absurd (omega arith)
-five (x ∷ y ∷ z ∷ w ∷ v ∷ []) a b c d f e = refl
-five (x ∷ y ∷ z ∷ w ∷ v ∷ u ∷ us) a b c d f e = absurd (omega arith)
+pub six : (xs : List ℕ) (a b c d f g : ℕ) → length xs ≡ controlWords
+    → set (set (set (set (set (set xs 0 a) 1 b) 2 c) 3 d) 4 f) 5 g ≡ a ∷ b ∷ c ∷ d ∷ f ∷ g ∷ []
+six [] a b c d f g e = absurd (omega arith)
+six (x ∷ []) a b c d f g e = absurd (omega arith)
+six (x ∷ y ∷ []) a b c d f g e = absurd (omega arith)
+six (x ∷ y ∷ z ∷ []) a b c d f g e = absurd (omega arith)
+six (x ∷ y ∷ z ∷ w ∷ []) a b c d f g e = absurd (omega arith)
+six (x ∷ y ∷ z ∷ w ∷ v ∷ []) a b c d f g e = absurd (omega arith)
+six (x ∷ y ∷ z ∷ w ∷ v ∷ u ∷ []) a b c d f g e = refl
+six (x ∷ y ∷ z ∷ w ∷ v ∷ u ∷ t ∷ ts) a b c d f g e = absurd (omega arith)
 
 -- the word of a top that is negative, and of one that is not
 pub top-negative : (z : ℤ) → ltZ z (pos 0) ≡ true → oneBits ≡ topWord z

@@ -15,4 +15,11 @@ topRead w = cond (eqb w oneBits) none (cond (ltb w (2 ^ 31)) (pos w) (negsuc 2))
 
 unfoldable pub controlRead : List ℕ → Control
 controlRead ws =
-    record { size = getD ws 0 0; hand = getD ws 1 0; top = topRead (getD ws 2 0); inserted = getD ws 3 0; flushed = getD ws 4 0 }
+    record {
+      size = getD ws 0 0;
+      hand = getD ws 1 0;
+      top = topRead (getD ws 2 0);
+      inserted = getD ws 3 0;
+      flushed = getD ws 4 0;
+      cap = getD ws 5 0;
+    }

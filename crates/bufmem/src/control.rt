@@ -1,4 +1,4 @@
-// The control record as it is lent: five words, read and stored.
+// The control record as it is lent: six words, read and stored.
 
 ghost use mathlib.Core.Path.{_≡_};
 ghost use lib.ListN.{length};
@@ -7,7 +7,7 @@ ghost use Rattle.bufmem.specs.Control.{topRead, controlRead};
 use bufmodel::control::Control;
 use buftag::link::NONE;
 
-pub const CONTROL_WORDS: usize = 5;
+pub const CONTROL_WORDS: usize = 6;
 
 // Of a call's answer.
 pub const ANSWER_WORDS: usize = 4;
@@ -28,7 +28,7 @@ fn read_top(w: u64) -> i32
     w as i32
 }
 
-// The control record of its five words.
+// The control record of its six words.
 pub fn read_control(words: &[u64]) -> Control
     requires { ⌜ length (now words) ≡ controlWords ⌝ }
     ensures { λ r. ⌜ r ≡ controlRead (now (words .entry)) ⌝ }
@@ -39,6 +39,7 @@ pub fn read_control(words: &[u64]) -> Control
         top: read_top(words[2]),
         inserted: words[3],
         flushed: words[4],
+        cap: words[5] as usize,
     }
 }
 
@@ -61,4 +62,5 @@ pub fn write_control(words: &mut [u64], control: Control)
     words[2] = top_word(control.top);
     words[3] = control.inserted;
     words[4] = control.flushed;
+    words[5] = control.cap as u64;
 }

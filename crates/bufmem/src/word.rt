@@ -1,4 +1,4 @@
-// State words: their fields, whether one is sound, and the changes of the word of a buffer in use.
+// State words: their fields, the cap on a usage count, whether a word is sound, and the changes of the word of a buffer in use.
 
 ghost use mathlib.Core.Path.{_≡_};
 ghost use mathlib.Core.Bool.{true, false, not, _&&_};
@@ -11,6 +11,7 @@ ghost use Rattle.bufmodel.specs.Word.{
   dirty,
   empty,
   pinned,
+  soundCap,
   soundWord,
   maxPins,
   pinMore,
@@ -21,8 +22,8 @@ ghost use Rattle.bufmodel.specs.Word.{
   loaded,
 };
 
-// The greatest usage count.
-pub const MAX_USAGE: u32 = 5;
+// The greatest cap.
+const MAX_CAP: usize = 15;
 
 // The greatest pin count.
 pub const MAX_PINS: u32 = 262143;
@@ -86,23 +87,30 @@ pub fn is_empty(w: u32) -> bool
     w == 0
 }
 
-// Whether a word is sound and that of a buffer in use. Without a branch, so that a loop over words becomes one over vectors.
-pub fn is_full(w: u32) -> bool
-    ensures { λ r. ⌜ r ≡ (soundWord w && not (empty w)) ⌝ }
+// Whether the greatest usage count may be so. A usage count is compared with a cap that passed this test: 32 bits hold it.
+pub fn cap_ok(cap: usize) -> bool
+    ensures { λ r. ⌜ r ≡ soundCap cap ⌝ }
 {
-    let flags = w / FLAG;
-    ((flags == CLEAN) | (flags == DIRTY)) & (w / USE % 16 <= MAX_USAGE)
+    (1 <= cap) & (cap <= MAX_CAP)
 }
 
-// One pin more, and one use more unless it is the greatest.
-pub fn pin_more(w: u32) -> u32
-    requires { ⌜ (soundWord w ≡ true) × (empty w ≡ false) × (pins w < maxPins) ⌝ }
-    ensures { λ r. ⌜ r ≡ pinMore w ⌝ }
+// Whether a word is sound and that of a buffer in use. Without a branch, so that a loop over words becomes one over vectors.
+pub fn is_full(cap: u32, w: u32) -> bool
+    ensures { λ r. ⌜ r ≡ (soundWord cap w && not (empty w)) ⌝ }
 {
-    if w / USE % 16 == MAX_USAGE {
-        return w + PIN;
+    let flags = w / FLAG;
+    ((flags == CLEAN) | (flags == DIRTY)) & (w / USE % 16 <= cap)
+}
+
+// One pin more, and one use more where they are below the cap.
+pub fn pin_more(cap: u32, w: u32) -> u32
+    requires { ⌜ (soundWord cap w ≡ true) × (empty w ≡ false) × (pins w < maxPins) ⌝ }
+    ensures { λ r. ⌜ r ≡ pinMore cap w ⌝ }
+{
+    if w / USE % 16 < cap {
+        return w + PIN + USE;
     }
-    w + PIN + USE
+    w + PIN
 }
 
 pub fn pin_less(w: u32) -> u32

@@ -22,10 +22,13 @@ shared-slice-read-t12 c = search needs
 shared-slice-read-t14 : tie.Need-shared-slice-read-t14
 shared-slice-read-t14 c = search needs
 
+shared-slice-read-t16 : tie.Need-shared-slice-read-t16
+shared-slice-read-t16 c = search needs
+
 returns : tie.Need-returns
 unfolding controlRead
 returns c =
-    let top = c .before .before .read-top in
+    let top = c .before .before .before .read-top in
     rw (bits-back (top .result) (record { sfits = top .ok }), top .ensures)
 
 pub read-control-spec : {M : Type 1} → statement M
@@ -38,4 +41,5 @@ read-control-spec =
     read-top-requires
     shared-slice-read-t12
     shared-slice-read-t14
+    shared-slice-read-t16
     returns)

@@ -6,7 +6,7 @@ use Rattle.buftag.proofs.SignedLaws.{bits-back}
 use mathlib.Core.Path.{_∙_, ap}
 use mathlib.Core.List.{[], _∷_}
 use Rattle.bufmodel.specs.Lent.{topWord, wordsOf}
-use Rattle.bufmem.proofs.ControlLaws.{five}
+use Rattle.bufmem.proofs.ControlLaws.{six}
 use Rattle.bufmem.proofs.control.write_control.Statement.{statement}
 use Rattle.bufmem.proofs.control.write_control.Tie as tie
 
@@ -28,6 +28,9 @@ slice-write-words-4 c = search needs
 slice-write-words-5 : tie.Need-slice-write-words-5
 slice-write-words-5 c = simp length-set (omega (arith, c .before .before .before .pre))
 
+slice-write-words-6 : tie.Need-slice-write-words-6
+slice-write-words-6 c = simp length-set (omega (arith, c .before .before .before .pre))
+
 same-length : tie.Need-same-length
 same-length c = search needs
 
@@ -36,9 +39,10 @@ unfolding wordsOf
 returns c =
     let s = c .before .before .before in
     let a = s .args in
-    five (now (a .words)) (a .control .size) (a .control .hand) (c .top-word .result) (a .control .inserted) (a .control .flushed) (s .pre)
-    ∙ ap (λ t. a .control .size ∷ a .control .hand ∷ t ∷ a .control .inserted ∷ a .control .flushed ∷ [])
-    (c .top-word .ensures ∙ ap topWord (bits-back (a .control .top) (record { sfits = c .before .struct-told .given .1 .1 .0 .1 })))
+    let d = a .control in
+    six (now (a .words)) (d .size) (d .hand) (c .top-word .result) (d .inserted) (d .flushed) (d .cap) (s .pre)
+    ∙ ap (λ t. d .size ∷ d .hand ∷ t ∷ d .inserted ∷ d .flushed ∷ d .cap ∷ [])
+    (c .top-word .ensures ∙ ap topWord (bits-back (d .top) (record { sfits = c .before .struct-told .given .1 .1 .0 .1 })))
 
 pub write-control-spec : {M : Type 1} → statement M
 write-control-spec =
@@ -50,5 +54,6 @@ write-control-spec =
     slice-write-words-3
     slice-write-words-4
     slice-write-words-5
+    slice-write-words-6
     same-length
     returns)
