@@ -5,9 +5,9 @@ use mathlib.Core.Logic.{⊎-elim}
 use mathlib.Core.List.{[]}
 use Prim.Native.Nat.{ℕ, _+_, _≤_, _<_}
 use native.Mathlib.Omega.{arith}
-use lib.Dec.{eqb}
+use lib.Dec.{eqb, leb}
 use lib.ListN.{length}
-use borrow.Author.Tests.{eqb-true, eq-eqb, le-leb, le-ltb, lt-leb, lt-ltb}
+use borrow.Author.Tests.{eqb-true, eq-eqb, leb-true, le-leb, le-ltb, lt-leb, lt-ltb}
 use Rattle.laws.specs.Every.{all}
 use Rattle.laws.specs.First.{found}
 use Rattle.laws.specs.Says.{Says}
@@ -27,10 +27,10 @@ use Rattle.buftag.specs.Budget.{spend, spent}
 use Rattle.buftag.proofs.LinkLaws.{isEnd-true, holds-says}
 use Rattle.buftag.proofs.NameLaws.{says-same-name}
 use Rattle.buftag.proofs.TestLaws.{chains-say}
-use Rattle.bufmodel.specs.Word.{empty, dirty, bit, soundWord}
+use Rattle.bufmodel.specs.Word.{empty, dirty, bit, maxCap, soundCap, soundWord}
 use Rattle.bufmodel.specs.Position.{position}
 use Rattle.bufmodel.specs.Rows.{placeOf}
-use Rattle.bufmodel.specs.Memory.{Memory, buffers, wordOf, nameOf, pageOf, withFree}
+use Rattle.bufmodel.specs.Memory.{Memory, buffers, capOf, wordOf, nameOf, pageOf, withFree}
 use Rattle.bufmodel.specs.Books.{emptyAt, sound, BooksSound}
 use Rattle.bufmodel.proofs.BooksLaws.{says-off, says-found, books-say}
 use Rattle.bufbooks.specs.Words.{fine, fineAt, countsOf}
@@ -48,9 +48,9 @@ empty-clean : (w : ℕ) → empty w ≡ true → dirty w ≡ false
 unfolding empty
 empty-clean w e = ap dirty (eqb-true w 0 e) ∙ zero-clean
 
-empty-sound : (w : ℕ) → empty w ≡ true → soundWord w ≡ true
+empty-sound : (cap w : ℕ) → empty w ≡ true → soundWord cap w ≡ true
 unfolding soundWord
-empty-sound w e = rw e
+empty-sound cap w e = rw e
 
 -- ---- the test of a buffer, and the same as a statement
 -- one statement where a test holds, another where it does not
@@ -66,9 +66,9 @@ module _ (m : Memory) where
   abbrev Fine : ℕ → Type 0
   Fine i =
       (emptyAt m i ≡ true → linkAt (m .chain) i ≡ End)
-      × (emptyAt m i ≡ false → (soundWord (wordOf m i) ≡ true) × (linkAt (m .free) i ≡ Off))
+      × (emptyAt m i ≡ false → (soundWord (capOf m) (wordOf m i) ≡ true) × (linkAt (m .free) i ≡ Off))
 
-  fine-says : (i : ℕ) → Says (fineAt (m .states) (m .free) (m .chain) i) (Fine i)
+  fine-says : (i : ℕ) → Says (fineAt (capOf m) (m .states) (m .free) (m .chain) i) (Fine i)
   unfolding fineAt fine emptyAt
   fine-says i = says-either (emptyAt m i) (says-end (linkAt (m .chain) i)) (says-and (says-it _) (says-off (linkAt (m .free) i)))
 
@@ -100,9 +100,9 @@ module _ (m : Memory) where
   used-false i e = used-not i ∙ ap not e
 
   -- what is known of an empty word
-  empty-word : (i : ℕ) → emptyAt m i ≡ true → soundWord (wordOf m i) ≡ true
+  empty-word : (i : ℕ) → emptyAt m i ≡ true → soundWord (capOf m) (wordOf m i) ≡ true
   unfolding emptyAt
-  empty-word i e = empty-sound (wordOf m i) e
+  empty-word i e = empty-sound (capOf m) (wordOf m i) e
 
   full-at : (i : ℕ) → dirty (wordOf m i) ≡ true → emptyAt m i ≡ false
   unfolding emptyAt
@@ -126,23 +126,23 @@ module _ (m : Memory) where
   -- the lists as they are counted, with the words
   counted : Bool
   counted =
-      eqb (count (buffers m) (fineAt (m .states) (m .free) (m .chain))) (buffers m)
+      eqb (count (buffers m) (fineAt (capOf m) (m .states) (m .free) (m .chain))) (buffers m)
       && eqb (leading (m .heads) + leading (m .chain) + count (buffers m) (emptyAt m))
-      (count (buffers m) (fineAt (m .states) (m .free) (m .chain)))
+      (count (buffers m) (fineAt (capOf m) (m .states) (m .free) (m .chain)))
       && freed
 
-  counted-is : listsTest (m .control .top) (m .states) (m .free) (m .heads) (m .chain) ≡ counted
+  counted-is : listsTest (capOf m) (m .control .top) (m .states) (m .free) (m .heads) (m .chain) ≡ counted
   unfolding listsTest countsOf emptyAt counted
   counted-is = refl
 
-  fine-all : Says (all (buffers m) (fineAt (m .states) (m .free) (m .chain))) ((i : ℕ) → i < buffers m → Fine i)
-  fine-all = says-all (buffers m) (fineAt (m .states) (m .free) (m .chain)) Fine (λ i l. fine-says i)
+  fine-all : Says (all (buffers m) (fineAt (capOf m) (m .states) (m .free) (m .chain))) ((i : ℕ) → i < buffers m → Fine i)
+  fine-all = says-all (buffers m) (fineAt (capOf m) (m .states) (m .free) (m .chain)) Fine (λ i l. fine-says i)
 
   listed-says : Says counted Listed
   unfolding counted Listed
   listed-says =
       let n = buffers m in
-      let p = fineAt (m .states) (m .free) (m .chain) in
+      let p = fineAt (capOf m) (m .states) (m .free) (m .chain) in
       let a = eqb (count n p) n in
       let b = eqb (leading (m .heads) + leading (m .chain) + count n (emptyAt m)) (count n p) in
       record {
@@ -196,15 +196,16 @@ module _ (m : Memory) where
     -- ---- the two say the same of the books
     Tested : Type 0
     Tested =
-        (((m .control .hand < buffers m) × (m .control .flushed ≤ m .control .inserted)) × Listed)
+        (((((1 ≤ capOf m) × (capOf m ≤ maxCap)) × (m .control .hand < buffers m)) × (m .control .flushed ≤ m .control .inserted))
+        × Listed)
         × ((i : ℕ) → i < buffers m → Kept i)
 
     tested-says : Says (booksTest m) Tested
-    unfolding booksTest Tested
+    unfolding booksTest soundCap Tested
     tested-says =
         rw counted-is
         (says-and
-        (says-and (says-and (says-lt _ _) (says-le _ _)) listed-says)
+        (says-and (says-and (says-and (says-and (says-le _ _) (says-le _ _)) (says-lt _ _)) (says-le _ _)) listed-says)
         (says-all (buffers m) (bufferTest m) Kept (λ i l. buffer-says i)))
 
     tested-sound : Tested → BooksSound m
@@ -218,7 +219,8 @@ module _ (m : Memory) where
         let k : i < buffers m = omega (arith, fit .chain) in stands-at i (fine i k) (kept i k)) in
         let chained = chains-are .holds (and-true stand (lists .0 .1)) in
         record {
-          hand = t .0 .0 .0;
+          cap = t .0 .0 .0 .0;
+          hand = t .0 .0 .0 .1;
           log = t .0 .0 .1;
           words = λ i l. ⊎-elim (empty-word i) (λ e. fine i l .1 e .0) (true-or-false (emptyAt m i));
           blank = λ i l e. kept i l .0 e;
@@ -243,7 +245,7 @@ module _ (m : Memory) where
           λ e. k .blank i l e,
           λ e. (k .low i l, (k .page i l e, stands-finds i e (at i (omega (arith, fit .chain))))),
         ) in
-        (((k .hand, k .log), ((fine, and-right stand linked chained), free-is (k .off) .shown (k .free))), kept)
+        ((((k .cap, k .hand), k .log), ((fine, and-right stand linked chained), free-is (k .off) .shown (k .free))), kept)
 
     pub books-is : booksTest m ≡ sound m
     books-is =
@@ -256,35 +258,47 @@ buffer-free : (m : Memory) (i : ℕ) → bufferTest (withFree [] m) i ≡ buffer
 unfolding bufferTest emptyAt
 buffer-free m i = refl
 
+-- a sound cap is few uses
+pub cap-few : (cap : ℕ) → soundCap cap ≡ true → cap ≤ maxCap
+unfolding soundCap
+cap-few cap h = leb-true cap maxCap (and-right (leb 1 cap) (leb cap maxCap) h)
+
 -- ---- the tests, in the order in which the code makes them
 module _ (m : Memory) (fit : Fitting m) where
-  pub books-hand : buffers m ≤ m .control .hand → false ≡ sound m
+  pub books-cap : soundCap (capOf m) ≡ false → false ≡ sound m
   unfolding booksTest
-  books-hand h = rw (← books-is m fit, le-ltb (m .control .hand) (buffers m) h)
+  books-cap h = rw (← books-is m fit, h)
 
-  module _ (hand : m .control .hand < buffers m) where
-    pub books-log : m .control .inserted < m .control .flushed → false ≡ sound m
+  module _ (cap : soundCap (capOf m) ≡ true) where
+    pub books-hand : buffers m ≤ m .control .hand → false ≡ sound m
     unfolding booksTest
-    books-log h =
-        rw (← books-is m fit, lt-ltb (m .control .hand) (buffers m) hand, lt-leb (m .control .flushed) (m .control .inserted) h)
+    books-hand h = rw (← books-is m fit, cap, le-ltb (m .control .hand) (buffers m) h)
 
-    module _ (log : m .control .flushed ≤ m .control .inserted) where
-      abbrev lists : Bool
-      lists = listsTest (m .control .top) (m .states) (m .free) (m .heads) (m .chain)
-
-      books-rest : (lists && all (buffers m) (bufferTest m)) ≡ sound m
+    module _ (hand : m .control .hand < buffers m) where
+      pub books-log : m .control .inserted < m .control .flushed → false ≡ sound m
       unfolding booksTest
-      books-rest =
-          rw (← books-is m fit, lt-ltb (m .control .hand) (buffers m) hand, le-leb (m .control .flushed) (m .control .inserted) log)
+      books-log h =
+          rw
+          (← books-is m fit, cap, lt-ltb (m .control .hand) (buffers m) hand, lt-leb (m .control .flushed) (m .control .inserted) h)
 
-      pub books-lists : lists ≡ false → false ≡ sound m
-      books-lists h = rw (← books-rest, h)
+      module _ (log : m .control .flushed ≤ m .control .inserted) where
+        abbrev lists : Bool
+        lists = listsTest (capOf m) (m .control .top) (m .states) (m .free) (m .heads) (m .chain)
 
-      buffers-free : all (buffers m) (bufferTest (withFree [] m)) ≡ all (buffers m) (bufferTest m)
-      buffers-free =
-          same-tests _ _
-          (λ h. all-of (bufferTest m) (buffers m) (λ i l. sym (buffer-free m i) ∙ all-at (bufferTest (withFree [] m)) (buffers m) h i l))
-          (λ h. all-of (bufferTest (withFree [] m)) (buffers m) (λ i l. buffer-free m i ∙ all-at (bufferTest m) (buffers m) h i l))
+        books-rest : (lists && all (buffers m) (bufferTest m)) ≡ sound m
+        unfolding booksTest
+        books-rest =
+            rw
+            (← books-is m fit, cap, lt-ltb (m .control .hand) (buffers m) hand, le-leb (m .control .flushed) (m .control .inserted) log)
 
-      pub books-buffers : lists ≡ true → all (buffers m) (bufferTest (withFree [] m)) ≡ sound m
-      books-buffers h = rw (← books-rest, h) buffers-free
+        pub books-lists : lists ≡ false → false ≡ sound m
+        books-lists h = rw (← books-rest, h)
+
+        buffers-free : all (buffers m) (bufferTest (withFree [] m)) ≡ all (buffers m) (bufferTest m)
+        buffers-free =
+            same-tests _ _
+            (λ h. all-of (bufferTest m) (buffers m) (λ i l. sym (buffer-free m i) ∙ all-at (bufferTest (withFree [] m)) (buffers m) h i l))
+            (λ h. all-of (bufferTest (withFree [] m)) (buffers m) (λ i l. buffer-free m i ∙ all-at (bufferTest m) (buffers m) h i l))
+
+        pub books-buffers : lists ≡ true → all (buffers m) (bufferTest (withFree [] m)) ≡ sound m
+        books-buffers h = rw (← books-rest, h) buffers-free

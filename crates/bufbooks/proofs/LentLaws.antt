@@ -173,6 +173,7 @@ read-good m g =
       top = t;
       inserted = getD (m .control) 3 0;
       flushed = getD (m .control) 4 0;
+      cap = getD (m .control) 5 0;
     })
     (top-read (opened m) (getD (m .control) 2 0) (good-sized (opened m) g) (good-sound (opened m) g))
 

@@ -21,30 +21,30 @@ pub leading-le : (ls : List ℤ) → leading ls ≤ length ls
 unfolding leading
 leading-le ls = count-le _ (length ls)
 
-pub empty-le : (states : List ℕ) (free chain : List ℤ) → countsOf states free chain .empty ≤ length states
+pub empty-le : (cap : ℕ) (states : List ℕ) (free chain : List ℤ) → countsOf cap states free chain .empty ≤ length states
 unfolding countsOf
-empty-le states free chain = count-le _ (length states)
+empty-le cap states free chain = count-le _ (length states)
 
-module _ (top : ℤ) (states : List ℕ) (free heads chain : List ℤ) {w : Counts} (e : w ≡ countsOf states free chain) where
+module _ (cap : ℕ) (top : ℤ) (states : List ℕ) (free heads chain : List ℤ) {w : Counts} (e : w ≡ countsOf cap states free chain) where
   -- the test over what was counted
   abbrev by : Counts → Bool
   by v =
       eqb (v .fine) (length states) && eqb (leading heads + leading chain + v .empty) (v .fine)
       && spent (spend free (v .empty) (linkOf top))
 
-  by-is : by w ≡ listsTest top states free heads chain
+  by-is : by w ≡ listsTest cap top states free heads chain
   unfolding listsTest
   by-is = ap by e
 
-  pub lists-unfit : w .fine ≢ length states → false ≡ listsTest top states free heads chain
+  pub lists-unfit : w .fine ≢ length states → false ≡ listsTest cap top states free heads chain
   lists-unfit h = sym (rw (ne-eqb (w .fine) (length states) h)) ∙ by-is
 
   module _ (f : w .fine ≡ length states) where
-    pub lists-other : leading heads + leading chain + w .empty ≢ w .fine → false ≡ listsTest top states free heads chain
+    pub lists-other : leading heads + leading chain + w .empty ≢ w .fine → false ≡ listsTest cap top states free heads chain
     lists-other h =
         sym (rw (eq-eqb (w .fine) (length states) f, ne-eqb (leading heads + leading chain + w .empty) (w .fine) h)) ∙ by-is
 
     pub lists-walked : leading heads + leading chain + w .empty ≡ w .fine → {r : Bool}
-        → r ≡ spent (spend free (w .empty) (linkOf top)) → r ≡ listsTest top states free heads chain
+        → r ≡ spent (spend free (w .empty) (linkOf top)) → r ≡ listsTest cap top states free heads chain
     lists-walked h q =
         q ∙ sym (rw (eq-eqb (w .fine) (length states) f, eq-eqb (leading heads + leading chain + w .empty) (w .fine) h)) ∙ by-is

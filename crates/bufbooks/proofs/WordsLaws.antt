@@ -40,11 +40,11 @@ by-cases true false false o = refl
 by-cases false n true o = refl
 by-cases false n false o = refl
 
-pub fine-test : (w : ℕ) (free chain : ℤ) → SFits w32 free → SFits w32 chain → {full : Bool} → full ≡ (soundWord w && not (empty w))
-    → (eqb w 0 && eqb (ofZ w32 chain) 4294967295 || full && eqb (ofZ w32 free) 4294967294) ≡ fine w free chain
+pub fine-test : (cap w : ℕ) (free chain : ℤ) → SFits w32 free → SFits w32 chain → {full : Bool} → full ≡ (soundWord cap w && not (empty w))
+    → (eqb w 0 && eqb (ofZ w32 chain) 4294967295 || full && eqb (ofZ w32 free) 4294967294) ≡ fine cap w free chain
 unfolding fine empty
-fine-test w free chain f g e =
-    rw (e, end-test chain g, off-test free f) (by-cases (empty w) (isEnd (linkOf chain)) (soundWord w) (isOff (linkOf free)))
+fine-test cap w free chain f g e =
+    rw (e, end-test chain g, off-test free f) (by-cases (empty w) (isEnd (linkOf chain)) (soundWord cap w) (isOff (linkOf free)))
 
 -- ---- the loop over the buffers
 -- buffer i is empty
@@ -62,17 +62,17 @@ idle-other states i n = ne-eqb (getD states i 0) 0 n
 abbrev words : ℕ → ℕ → Counts
 words f e = record { fine = f; empty = e }
 
-module _ (states : List ℕ) (free chain : List ℤ) where
+module _ (cap : ℕ) (states : List ℕ) (free chain : List ℤ) where
   -- the links as they are read: 32 bits, signed again
   pub fine-read : (i : ℕ) → mag (numberAt free i) < 2 ^ 31 → mag (numberAt chain i) < 2 ^ 31
-      → fine (getD states i 0) (toZ w32 (ofZ w32 (numberAt free i))) (toZ w32 (ofZ w32 (numberAt chain i))) ≡ fineAt states free chain i
+      → fine cap (getD states i 0) (toZ w32 (ofZ w32 (numberAt free i))) (toZ w32 (ofZ w32 (numberAt chain i))) ≡ fineAt cap states free chain i
   unfolding fineAt
   fine-read i f g = rw (element-back free i f, element-back chain i g)
 
-  pub words-done : (i x y : ℕ) → i ≤ length states → length states ≤ i → x ≡ count i (fineAt states free chain)
-      → y ≡ count i (idle states) → words x y ≡ countsOf states free chain
+  pub words-done : (i x y : ℕ) → i ≤ length states → length states ≤ i → x ≡ count i (fineAt cap states free chain)
+      → y ≡ count i (idle states) → words x y ≡ countsOf cap states free chain
   unfolding countsOf
   words-done i x y l m f e =
-      let p = count-done (fineAt states free chain) (length states) i x l m f in
+      let p = count-done (fineAt cap states free chain) (length states) i x l m f in
       let q = count-done (idle states) (length states) i y l m e in
-      ap (λ (k : ℕ). words k y) p ∙ ap (words (count (length states) (fineAt states free chain))) q
+      ap (λ (k : ℕ). words k y) p ∙ ap (words (count (length states) (fineAt cap states free chain))) q

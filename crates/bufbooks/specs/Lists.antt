@@ -12,7 +12,7 @@ use Rattle.bufbooks.specs.Words.{countsOf}
 
 -- each word fits its links; as many links of the chains lead on as there are buffers in use; the free list has as many places as there are
 -- empty buffers
-unfoldable pub listsTest : ℤ → List ℕ → List ℤ → List ℤ → List ℤ → Bool
-listsTest top states free heads chain =
-    let w = countsOf states free chain in
+unfoldable pub listsTest : ℕ → ℤ → List ℕ → List ℤ → List ℤ → List ℤ → Bool
+listsTest cap top states free heads chain =
+    let w = countsOf cap states free chain in
     eqb (w .fine) (length states) && eqb (leading heads + leading chain + w .empty) (w .fine) && spent (spend free (w .empty) (linkOf top))

@@ -11,16 +11,16 @@ use Rattle.bufmodel.specs.Books.{isOff}
 use Rattle.bufbooks.specs.declared.words.Counts.{Counts}
 
 -- a buffer's word with its links: of an empty buffer, chain link −1; of one in use, a sound word and free link −2
-unfoldable pub fine : ℕ → ℤ → ℤ → Bool
-fine w free chain = cond (empty w) (isEnd (linkOf chain)) (soundWord w && isOff (linkOf free))
+unfoldable pub fine : ℕ → ℕ → ℤ → ℤ → Bool
+fine cap w free chain = cond (empty w) (isEnd (linkOf chain)) (soundWord cap w && isOff (linkOf free))
 
-unfoldable pub fineAt : List ℕ → List ℤ → List ℤ → ℕ → Bool
-fineAt states free chain i = fine (getD states i 0) (numberAt free i) (numberAt chain i)
+unfoldable pub fineAt : ℕ → List ℕ → List ℤ → List ℤ → ℕ → Bool
+fineAt cap states free chain i = fine cap (getD states i 0) (numberAt free i) (numberAt chain i)
 
 -- how many buffers' words fit their links, and how many are empty
-unfoldable pub countsOf : List ℕ → List ℤ → List ℤ → Counts
-countsOf states free chain =
+unfoldable pub countsOf : ℕ → List ℕ → List ℤ → List ℤ → Counts
+countsOf cap states free chain =
     record {
-      fine = count (length states) (fineAt states free chain);
+      fine = count (length states) (fineAt cap states free chain);
       empty = count (length states) (λ i. empty (getD states i 0));
     }

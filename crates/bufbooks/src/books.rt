@@ -9,6 +9,7 @@ use crate::buffers::buffers_ok;
 use crate::guesses::guess_rows;
 use crate::hashes::hash_rows;
 use crate::lists::lists_ok;
+use bufmem::word::cap_ok;
 use bufmodel::control::Control;
 
 // Whether the books are sound.
@@ -29,6 +30,9 @@ pub fn books_ok(
         (memory control (now (states .entry)) (now (names .entry)) (now (pool .entry)) (now (free .entry)) (now (heads .entry))
         (now (chain .entry)) (now (rows .entry)) []) ⌝ }
 {
+    if !cap_ok(control.cap) {
+        return false;
+    }
     if control.hand >= states.len() {
         return false;
     }

@@ -3,6 +3,7 @@
 ghost use mathlib.Core.Path.{_≡_};
 ghost use Prim.Native.Nat.{_≤_};
 ghost use lib.ListN.{length};
+ghost use Rattle.bufmodel.specs.Word.{maxCap};
 ghost use Rattle.bufmodel.specs.Sizes.{maxBuffers, maxBuckets};
 ghost use Rattle.bufbooks.specs.Lists.{listsTest};
 use crate::words::count_words;
@@ -22,11 +23,14 @@ pub fn lists_ok(
     chain: &[i32],
 ) -> bool
     requires { ⌜ (length (now states) ≤ maxBuffers) × (length (now heads) ≤ maxBuckets) × (length (now free) ≡ length (now states))
-        × (length (now chain) ≡ length (now states)) ⌝ }
+        × (length (now chain) ≡ length (now states))
+        × (control .cap ≤ maxCap) ⌝ }
     ensures { λ r.
-        ⌜ r ≡ listsTest (control .top) (now (states .entry)) (now (free .entry)) (now (heads .entry)) (now (chain .entry)) ⌝ }
+        ⌜ r
+        ≡ listsTest (control .cap) (control .top) (now (states .entry)) (now (free .entry)) (now (heads .entry))
+        (now (chain .entry)) ⌝ }
 {
-    let words = count_words(states, free, chain);
+    let words = count_words(control.cap as u32, states, free, chain);
     if words.fine as usize != states.len() {
         return false;
     }

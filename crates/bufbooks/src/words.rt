@@ -15,23 +15,23 @@ pub struct Counts {
 }
 
 // Whether a buffer's word fits its links.
-fn is_fine(w: u32, free: i32, chain: i32) -> bool
-    ensures { λ r. ⌜ r ≡ fine w free chain ⌝ }
+fn is_fine(cap: u32, w: u32, free: i32, chain: i32) -> bool
+    ensures { λ r. ⌜ r ≡ fine cap w free chain ⌝ }
 {
-    ((w == 0) & (chain == NONE)) | (is_full(w) & (free == OFF))
+    ((w == 0) & (chain == NONE)) | (is_full(cap, w) & (free == OFF))
 }
 
-pub fn count_words(states: &[u32], free: &[i32], chain: &[i32]) -> Counts
+pub fn count_words(cap: u32, states: &[u32], free: &[i32], chain: &[i32]) -> Counts
     requires { ⌜ (length (now free) ≡ length (now states)) × (length (now chain) ≡ length (now states))
         × (length (now states) < 2 ^ 32) ⌝ }
-    ensures { λ r. ⌜ r ≡ countsOf (now (states .entry)) (now (free .entry)) (now (chain .entry)) ⌝ }
+    ensures { λ r. ⌜ r ≡ countsOf cap (now (states .entry)) (now (free .entry)) (now (chain .entry)) ⌝ }
 {
     let mut fine = 0u32;
     let mut empty = 0u32;
     let mut i = 0;
     while i < states.len() {
         let w = states[i];
-        if is_fine(w, free[i], chain[i]) {
+        if is_fine(cap, w, free[i], chain[i]) {
             fine += 1;
         }
         if w == 0 {

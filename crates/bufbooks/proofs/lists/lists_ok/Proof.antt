@@ -14,6 +14,9 @@ use Rattle.bufbooks.proofs.ListsLaws.{leading-le, empty-le, lists-unfit
 use Rattle.bufbooks.proofs.lists.lists_ok.Statement.{statement}
 use Rattle.bufbooks.proofs.lists.lists_ok.Tie as tie
 
+cast-count-words : tie.Need-cast-count-words
+cast-count-words c = search needs
+
 count-words-requires : tie.Need-count-words-requires
 count-words-requires c κs = search needs
 
@@ -22,8 +25,8 @@ cast-if1 c = search needs
 
 returns : tie.Need-returns
 returns c =
-    let a = c .before .before .before .before .args in
-    lists-unfit (a .control .top) _ _ (now (a .heads)) _ (c .before .before .count-words .ensures) (c .if1 .taken)
+    let a = c .before .before .before .before .before .args in
+    lists-unfit (a .control .cap) (a .control .top) _ _ (now (a .heads)) _ (c .before .before .count-words .ensures) (c .if1 .taken)
 
 leading-requires : tie.Need-leading-requires
 leading-requires c κs = search needs
@@ -33,7 +36,7 @@ leading-requires-2 c κs = search needs
 
 -- the links that lead on, together
 abbrev entry : tie.After-leading2 → tie.Start
-entry c = c .before .before .before .before .before .before
+entry c = c .before .before .before .before .before .before .before
 
 counted : (c : tie.After-leading2)
     → let a = entry c .args in
@@ -55,7 +58,7 @@ add-if2-2 c =
     let a = entry l .args in
     let e = ap (λ (w : Counts). w .empty) (l .before .before .before .before .count-words .ensures) in
     record {
-      fits = omega (arith, few l, entry l .pre .0, e, empty-le (now (a .states)) (now (a .free)) (now (a .chain)));
+      fits = omega (arith, few l, entry l .pre .0, e, empty-le (a .control .cap) (now (a .states)) (now (a .free)) (now (a .chain)));
     }
 
 returns-2 : tie.Need-returns-2
@@ -63,7 +66,7 @@ returns-2 c =
     let l = c .before .before .before in
     let a = entry l .args in
     let e = l .before .before in
-    lists-other (a .control .top) _ _ (now (a .heads)) (now (a .chain)) (e .before .before .count-words .ensures) (e .if1 .left)
+    lists-other (a .control .cap) (a .control .top) _ _ (now (a .heads)) (now (a .chain)) (e .before .before .count-words .ensures) (e .if1 .left)
     (λ q. c .if2 .taken (omega (arith, counted l, q)))
 
 read-link-requires : tie.Need-read-link-requires
@@ -88,13 +91,14 @@ returns-3 c =
     let back = bits-back (a .control .top) (record { sfits = r .before .struct-told .given .1 .1 .0 .1 }) in
     let top = r .read-link .ensures ∙ ap linkOf back in
     let walk = c .before .list-walk .ensures ∙ ap (spend (now (a .free)) (e .before .before .count-words .result .empty)) top in
-    lists-walked (a .control .top) _ _ (now (a .heads)) (now (a .chain)) (e .before .before .count-words .ensures) (e .if1 .left)
+    lists-walked (a .control .cap) (a .control .top) _ _ (now (a .heads)) (now (a .chain)) (e .before .before .count-words .ensures) (e .if1 .left)
     (omega (arith, counted l, i .if2 .left)) (c .is-spent .ensures ∙ ap spent walk)
 
 pub lists-ok-spec : {M : Type 1} → statement M
 lists-ok-spec =
     tie.close
     (tie.spec
+    cast-count-words
     count-words-requires
     cast-if1
     returns

@@ -14,11 +14,11 @@ use Rattle.bufbooks.proofs.words.count_words.Statement.{statement}
 use Rattle.bufbooks.proofs.words.count_words.Tie as tie
 
 abbrev Inv-loop : tie.InvT-loop
-Inv-loop states free chain fine₀ empty₀ i₀ fine empty i =
-    (i ≤ length states) × (fine ≡ count i (fineAt states free chain)) × (empty ≡ count i (idle states))
+Inv-loop cap states free chain fine₀ empty₀ i₀ fine empty i =
+    (i ≤ length states) × (fine ≡ count i (fineAt cap states free chain)) × (empty ≡ count i (idle states))
 
 abbrev μ-loop : tie.MeasureT-loop
-μ-loop states free chain fine₀ empty₀ i₀ fine empty i = length states - i
+μ-loop cap states free chain fine₀ empty₀ i₀ fine empty i = length states - i
 
 loop-holds : tie.Need-loop-holds Inv-loop μ-loop
 loop-holds c = (search needs, sym (count-none _), sym (count-none _))
@@ -46,7 +46,7 @@ is-fine-requires c κs = search needs
 
 -- the two tests of a buffer
 abbrev fits : tie.Start Inv-loop μ-loop → ℕ → Bool
-fits s = let a = s .args in fineAt (now (a .states)) (now (a .free)) (now (a .chain))
+fits s = let a = s .args in fineAt (a .cap) (now (a .states)) (now (a .free)) (now (a .chain))
 
 abbrev idles : tie.Start Inv-loop μ-loop → ℕ → Bool
 idles s = idle (now (s .args .states))
@@ -73,7 +73,7 @@ loop-again c =
     let l = read .before .before .before .before .before in
     let s = l .before .before in
     let i = l .loop .i in
-    let links = fine-read (now (s .args .states)) (now (s .args .free)) (now (s .args .chain)) i
+    let links = fine-read (s .args .cap) (now (s .args .states)) (now (s .args .free)) (now (s .args .chain)) i
     (read .before .before .is-fine-arg .given) (read .before .is-fine-arg2 .given) in
     let h = read .is-fine .ensures ∙ links in (
       search needs,
@@ -88,7 +88,7 @@ loop-again c =
 returns : tie.Need-returns Inv-loop μ-loop
 returns c =
     let l = c .before .loop in
-    words-done _ _ _ (l .i) (l .fine) (l .empty) (l .inv .0) (c .loop-test .left) (l .inv .1) (l .inv .2)
+    words-done _ _ _ _ (l .i) (l .fine) (l .empty) (l .inv .0) (c .loop-test .left) (l .inv .1) (l .inv .2)
 
 pub count-words-spec : {M : Type 1} → statement M
 count-words-spec =

@@ -10,7 +10,7 @@ returns : tie.Need-returns
 returns c =
     let s = c .before in
     let a = s .args in
-    fine-test (a .w) (a .free) (a .chain) (s .fits .free) (s .fits .chain) (c .is-full .ensures)
+    fine-test (a .cap) (a .w) (a .free) (a .chain) (s .fits .free) (s .fits .chain) (c .is-full .ensures)
 
 pub is-fine-spec : {M : Type 1} → statement M
 is-fine-spec = tie.close (tie.spec is-full-requires returns)
