@@ -27,7 +27,7 @@ module _ (c : Control) (states names pool rows store : List ℕ) (i : ℕ) where
   -- a dirty one: flushed, the page at its place, the bits
   pub back-dirty : {w : ℕ} → w ≡ getD states i 0 → dirty w ≡ true → {c′ : Control} {p s : ℕ} {to on : List ℕ}
       → p ≡ position (block (c .size) i pool)
-      → c′ ≡ record { size = c .size; hand = c .hand; top = c .top; inserted = c .inserted; flushed = max (c .flushed) p }
+      → c′ ≡ record { size = c .size; hand = c .hand; top = c .top; inserted = c .inserted; flushed = max (c .flushed) p; cap = c .cap }
       → to ≡ putAt (c .size) (sealed (nameAt names i .block .0) (block (c .size) i pool)) store (placeOf rows (nameAt names i))
       → s ≡ makeClean w
       → on ≡ set states i s

@@ -1,5 +1,6 @@
 -- Turns of the sweep's loop, as the code counts them.
-use Prim.Native.Nat.{ℕ, zero, suc, _+_, _-_, _<_}
+use Prim.Native.Nat.{ℕ, zero, suc, _+_, _-_, _*_, _≤_, _<_}
+use native.Mathlib.Nat.{mul-le-mul-right}
 use native.Mathlib.Numerals.{add-one, sub-one}
 use native.Mathlib.Omega.{arith}
 use mathlib.Core.Path.{_≡_, refl, sym}
@@ -7,9 +8,16 @@ use mathlib.Core.Bool.{true, false}
 use mathlib.Core.List.{List}
 use lib.ListN.{getD, set}
 use Rattle.laws.specs.First.{found, missing}
-use Rattle.bufmodel.specs.Word.{pinned, usage, useLess}
+use Rattle.bufmodel.specs.Word.{maxCap, pinned, usage, useLess}
+use Rattle.bufmodel.specs.Sizes.{maxBuffers}
 use Rattle.bufmodel.specs.Sweep.{swept, next, sweep}
 use Rattle.bufmodel.proofs.SweepLaws.{step-passes, step-stops, step-lowers, step-takes}
+
+-- a cap and buffers so few that the probes of a sweep are few
+pub probes-few : (cap n : ℕ) → cap ≤ maxCap → n ≤ maxBuffers → (cap + 1) * n ≤ (maxCap + 1) * maxBuffers
+probes-few cap n c h =
+    let l : cap + 1 ≤ maxCap + 1 = omega arith in
+    omega (arith, mul-le-mul-right n l)
 
 module _ (n run probes hand : ℕ) (words : List ℕ) where
   -- no probe is left

@@ -42,6 +42,7 @@ pub fn flushed_to(control: Control, position: u64) -> Control
           top = control .top;
           inserted = control .inserted;
           flushed = max (control .flushed) position;
+          cap = control .cap;
         } ⌝ }
 {
     let mut after = control;

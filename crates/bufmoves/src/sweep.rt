@@ -3,10 +3,10 @@
 ghost use mathlib.Core.Path.{_≡_};
 ghost use Prim.Native.Nat.{_≤_, _<_};
 ghost use lib.ListN.{length};
+ghost use Rattle.bufmodel.specs.Word.{maxCap};
 ghost use Rattle.bufmodel.specs.Sizes.{maxBuffers};
 ghost use Rattle.bufmodel.specs.Sweep.{next, sweepAll};
 ghost use Rattle.bufmoves.specs.Sweep.{victimOf};
-use bufmem::word::MAX_USAGE;
 use bufmem::word::is_pinned;
 use bufmem::word::usage_of;
 use bufmem::word::use_less;
@@ -34,13 +34,13 @@ fn next_of(n: usize, at: usize) -> usize
 }
 
 // Probes the buffer at the hand and moves the hand on, until a buffer is taken or all were found pinned in a row.
-pub fn sweep(states: &mut [u32], hand: usize) -> Victim
-    requires { ⌜ (hand < length (now states)) × (length (now states) ≤ maxBuffers) ⌝ }
-    ensures { λ r. ⌜ r ≡ victimOf (sweepAll (now (states .entry)) hand) ⌝ }
-    ensures { λ _. ⌜ now (states .exit) ≡ sweepAll (now (states .entry)) hand .words ⌝ }
+pub fn sweep(cap: usize, states: &mut [u32], hand: usize) -> Victim
+    requires { ⌜ (hand < length (now states)) × (length (now states) ≤ maxBuffers) × (cap ≤ maxCap) ⌝ }
+    ensures { λ r. ⌜ r ≡ victimOf (sweepAll cap (now (states .entry)) hand) ⌝ }
+    ensures { λ _. ⌜ now (states .exit) ≡ sweepAll cap (now (states .entry)) hand .words ⌝ }
 {
     let n = states.len();
-    let most = (MAX_USAGE as usize + 1) * n;
+    let most = (cap + 1) * n;
     let mut at = hand;
     let mut run = 0;
     let mut probes = 0;

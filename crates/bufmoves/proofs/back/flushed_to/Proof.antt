@@ -10,7 +10,7 @@ larger-requires c κs = search needs
 returns : tie.Need-returns
 returns c =
     let a = c .before .args .control in
-    ap {B = Control} (λ f. record { size = a .size; hand = a .hand; top = a .top; inserted = a .inserted; flushed = f })
+    ap {B = Control} (λ f. record { size = a .size; hand = a .hand; top = a .top; inserted = a .inserted; flushed = f; cap = a .cap })
     (c .larger .ensures)
 
 pub flushed-to-spec : {M : Type 1} → statement M

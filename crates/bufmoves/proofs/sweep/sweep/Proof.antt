@@ -3,11 +3,13 @@ use denote.Ref.{now}
 use lib.ListN.{length, length-set}
 use native.Mathlib.Omega.{arith}
 use mathlib.Core.Path.{_≡_, refl, sym, _∙_, ap}
-use Prim.Native.Nat.{_≤_, _<_, _-_}
+use Prim.Native.Nat.{_+_, _*_, _≤_, _<_, _-_}
+use Rattle.bufmodel.specs.Word.{maxCap}
+use Rattle.bufmodel.specs.Sizes.{maxBuffers}
 use Rattle.bufmodel.specs.Sweep.{Swept, sweep, sweepAll}
 use Rattle.bufmodel.proofs.SweepLaws.{next-lt}
 use Rattle.bufmoves.specs.Sweep.{victimOf}
-use Rattle.bufmoves.proofs.SweepLaws.{sweep-end, sweep-stop, sweep-pass, sweep-take, sweep-lower}
+use Rattle.bufmoves.proofs.SweepLaws.{probes-few, sweep-end, sweep-stop, sweep-pass, sweep-take, sweep-lower}
 use Rattle.bufmoves.proofs.sweep.sweep.Statement.{statement}
 use Rattle.bufmoves.proofs.sweep.sweep.Tie as tie
 
@@ -16,21 +18,22 @@ ends : (s t : Swept) → s ≡ t → (victimOf t ≡ victimOf s) × (t .words �
 ends s t e = (ap victimOf (sym e), ap (λ x. x .words) (sym e))
 
 abbrev Inv-loop : tie.InvT-loop
-Inv-loop states₀ hand n most at₀ run₀ probes₀ states at run probes =
+Inv-loop cap states₀ hand n most at₀ run₀ probes₀ states at run probes =
     ((at < n) × (run < n) × (probes ≤ most)) × (length states ≡ length states₀)
-    × (sweep (most - probes) n run probes at states ≡ sweepAll states₀ hand)
+    × (sweep (most - probes) n run probes at states ≡ sweepAll cap states₀ hand)
 
 abbrev μ-loop : tie.MeasureT-loop
-μ-loop states₀ hand n most at₀ run₀ probes₀ states at run probes = most - probes
+μ-loop cap states₀ hand n most at₀ run₀ probes₀ states at run probes = most - probes
 
-cast-most : tie.Need-cast-most Inv-loop μ-loop
-cast-most c = search needs
+-- how many probes there are at most
+few : (s : tie.Start Inv-loop μ-loop) → (s .args .cap + 1) * length (now (s .args .states)) ≤ (maxCap + 1) * maxBuffers
+few s = probes-few (s .args .cap) (length (now (s .args .states))) (s .pre .2) (s .pre .1)
 
 add-most : tie.Need-add-most Inv-loop μ-loop
 add-most c = search needs
 
 mul-most : tie.Need-mul-most Inv-loop μ-loop
-mul-most c = search needs
+mul-most c = record { fits = omega (arith, few (c .before)) }
 
 loop-holds : tie.Need-loop-holds Inv-loop μ-loop
 unfolding sweepAll
@@ -49,7 +52,9 @@ next-of-requires : tie.Need-next-of-requires Inv-loop μ-loop
 next-of-requires c κs = search needs
 
 add-probes : tie.Need-add-probes Inv-loop μ-loop
-add-probes c = search needs
+add-probes c =
+    let l = c .before .before in
+    record { fits = omega (arith, few (l .before .before .before), l .loop-test .taken) }
 
 is-pinned-requires : tie.Need-is-pinned-requires Inv-loop μ-loop
 is-pinned-requires c κs = search needs
@@ -141,7 +146,6 @@ sweep-spec =
     (tie.spec
     Inv-loop
     μ-loop
-    cast-most
     add-most
     mul-most
     loop-holds
