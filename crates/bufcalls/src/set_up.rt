@@ -1,4 +1,4 @@
-// Set up: all buffers and chains empty, every buffer in the free list, hand 0, both positions as given.
+// Set up: all buffers and chains empty, every buffer in the free list, hand 0, both positions and the cap as given.
 
 ghost use mathlib.Core.Path.{_≡_};
 ghost use Prim.Native.Nat.{_<_, _^_};
@@ -10,8 +10,10 @@ ghost use Rattle.bufmodel.specs.Calls.{freeLinks, setUp};
 use crate::ends::AcceptedEnd;
 use crate::ends::refused;
 use bufbooks::sizes::sizes_ok;
+use bufmem::word::cap_ok;
 use bufmodel::answer::Accepted;
 use bufmodel::control::Control;
+use bufmodel::refusal::CAP;
 use bufmodel::refusal::SIZES;
 use buftag::link::NONE;
 
@@ -62,29 +64,30 @@ pub fn set_up_pool(
     store: &[u8],
     size: usize,
     position: u64,
+    cap: usize,
 ) -> AcceptedEnd
     ensures { λ r.
         ⌜ r .answer
         ≡ acceptedOf
         (setUp
         (memory control (now (states .entry)) (now (names .entry)) (now (pool .entry)) (now (free .entry)) (now (heads .entry))
-        (now (chain .entry)) (now (rows .entry)) (now (store .entry))) size position) ⌝ }
+        (now (chain .entry)) (now (rows .entry)) (now (store .entry))) size position cap) ⌝ }
     ensures { λ r.
         ⌜ acceptedNumber (r .answer)
         ≡ setUp
         (memory control (now (states .entry)) (now (names .entry)) (now (pool .entry)) (now (free .entry)) (now (heads .entry))
-        (now (chain .entry)) (now (rows .entry)) (now (store .entry))) size position .refusal ⌝ }
+        (now (chain .entry)) (now (rows .entry)) (now (store .entry))) size position cap .refusal ⌝ }
     ensures { λ r.
         ⌜ acceptedWords (r .answer)
         ≡ setUp
         (memory control (now (states .entry)) (now (names .entry)) (now (pool .entry)) (now (free .entry)) (now (heads .entry))
-        (now (chain .entry)) (now (rows .entry)) (now (store .entry))) size position .answer ⌝ }
+        (now (chain .entry)) (now (rows .entry)) (now (store .entry))) size position cap .answer ⌝ }
     ensures { λ r.
         ⌜ memory (r .control) (now (states .exit)) (now (names .exit)) (now (pool .entry)) (now (free .exit))
         (now (heads .exit)) (now (chain .exit)) (now (rows .entry)) (now (store .entry))
         ≡ setUp
         (memory control (now (states .entry)) (now (names .entry)) (now (pool .entry)) (now (free .entry)) (now (heads .entry))
-        (now (chain .entry)) (now (rows .entry)) (now (store .entry))) size position .after ⌝ }
+        (now (chain .entry)) (now (rows .entry)) (now (store .entry))) size position cap .after ⌝ }
 {
     let fresh = Control {
         size: size,
@@ -92,9 +95,13 @@ pub fn set_up_pool(
         top: 0,
         inserted: position,
         flushed: position,
+        cap: cap,
     };
     if !sizes_ok(fresh, states, names, pool, free, heads, chain, rows, store) {
         return refused(control, SIZES);
+    }
+    if !cap_ok(cap) {
+        return refused(control, CAP);
     }
     clear_words(states);
     clear_words(names);
