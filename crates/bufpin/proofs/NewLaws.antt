@@ -14,7 +14,7 @@ use Rattle.buftag.specs.declared.name.PageName.{PageName}
 use Rattle.buftag.specs.Link.{linkOf}
 use Rattle.buftag.proofs.TagLaws.{no-tag}
 use Rattle.bufmodel.specs.Rows.{placeOf}
-use Rattle.bufmodel.specs.Memory.{Memory}
+use Rattle.bufmodel.specs.Memory.{Memory, capOf}
 use Rattle.bufmodel.specs.Sweep.{sweepAll}
 use Rattle.bufmodel.specs.Moves.{loadAt}
 use Rattle.bufmodel.specs.Answer.{pinnedAt, pinnedOf}
@@ -35,7 +35,7 @@ top-ends m k l e tag =
 
 module _ (m : Memory) (n : PageName) where
   pub new-swept : linkOf (m .control .top) ≡ End
-      → pinNew m n (linkOf (m .control .top)) ≡ pinSwept m n (sweepAll (m .states) (m .control .hand))
+      → pinNew m n (linkOf (m .control .top)) ≡ pinSwept m n (sweepAll (capOf m) (m .states) (m .control .hand))
   unfolding pinNew
   new-swept e = rw e
 

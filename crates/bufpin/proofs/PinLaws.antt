@@ -19,7 +19,7 @@ use Rattle.buftag.specs.Link.{linkOf}
 use Rattle.bufmodel.specs.declared.answer.Pinned as answer
 use Rattle.bufmodel.specs.Word.{pins, maxPins, pinned, pinMore}
 use Rattle.bufmodel.specs.Checksum.{passes}
-use Rattle.bufmodel.specs.Memory.{Memory, buffers, size, wordOf, withStates}
+use Rattle.bufmodel.specs.Memory.{Memory, buffers, size, capOf, wordOf, withStates}
 use Rattle.bufmodel.specs.Outcome.{Outcome, Place, place, refusalOf, checked, outcome}
 use Rattle.bufmodel.specs.Answer.{pinnedAt, pinnedOf}
 use Rattle.bufmodel.specs.Pin.{countFull, noVictim, heldIn, pagePlaces, pinPlaces, pinHeld, pinVictim, pinSwept, pinNew}
@@ -42,10 +42,10 @@ more-answer : (i w : ℕ) → eqb (pins w) maxPins ≡ false → heldAt i w ≡ 
 unfolding heldAt
 more-answer i w f = rw f
 
-more-words : (words : List ℕ) (i : ℕ) → eqb (pins (getD words i 0)) maxPins ≡ false
-    → heldWords words i ≡ set words i (pinMore (getD words i 0))
+more-words : (cap : ℕ) (words : List ℕ) (i : ℕ) → eqb (pins (getD words i 0)) maxPins ≡ false
+    → heldWords cap words i ≡ set words i (pinMore cap (getD words i 0))
 unfolding heldWords
-more-words words i f = rw f
+more-words cap words i f = rw f
 
 -- the last two places
 abbrev lastPlaces : Memory → Held → List Place
@@ -101,7 +101,7 @@ module _ (m : Memory) (n : PageName) where
 
       -- a page that is held
       pub pin-held : (b : BufferNumber) → heldIn m n ≡ At b
-          → Says (heldAt (b .0) (wordOf m (b .0))) (withStates (heldWords (m .states) (b .0)) m)
+          → Says (heldAt (b .0) (wordOf m (b .0))) (withStates (heldWords (capOf m) (m .states) (b .0)) m)
       unfolding heldAt heldWords countFull noVictim pinTo pinHeld pinnedAt
       pin-held b e =
           ⊎-elim
@@ -109,7 +109,7 @@ module _ (m : Memory) (n : PageName) where
           (λ f.
           let a = accepted (At b) e (last-held b e) f refl in (
             more-answer (b .0) (wordOf m (b .0)) f ∙ sym (ap pinnedOf a),
-            ap (λ (x : List ℕ). withStates x m) (more-words (m .states) (b .0) f) ∙ sym (ap (λ (o : Outcome). o .after) a),
+            ap (λ (x : List ℕ). withStates x m) (more-words (capOf m) (m .states) (b .0) f) ∙ sym (ap (λ (o : Outcome). o .after) a),
           ))
           (true-or-false (eqb (pins (wordOf m (b .0))) maxPins))
 

@@ -11,9 +11,9 @@ use borrow.Author.Tests.{eqb-true, ne-eqb, le-leb}
 use Rattle.laws.specs.First.{missing}
 use Rattle.laws.proofs.Tests.{and-left, and-right, true-or-false, never}
 use Rattle.laws.proofs.First.{found-missing}
-use Rattle.bufmodel.specs.Word.{pins, usage, flags, maxUsage, empty, dirty, pinned, soundFlags, soundWord}
+use Rattle.bufmodel.specs.Word.{pins, usage, flags, empty, dirty, pinned, soundFlags, soundWord}
 use Rattle.bufmodel.specs.Word.{bit, valid, tagValid, justDirtied, permanent, noOther}
-use Rattle.bufmodel.specs.Memory.{Memory, buffers, wordOf, withStates, withHand}
+use Rattle.bufmodel.specs.Memory.{Memory, buffers, capOf, wordOf, withStates, withHand}
 use Rattle.bufmodel.specs.Books.{emptyAt}
 use Rattle.bufmodel.specs.Sweep.{Swept, Sweeps, sweepAll}
 use Rattle.bufmodel.proofs.WordLaws.{empty-zero}
@@ -46,41 +46,42 @@ unfolding valid bit flags empty
 valid-full v w e h = let b = eqb-true (w / 2 ^ 24 % 2) 1 h in ne-eqb v 0 (λ z. omega arith)
 
 -- a word that lost usage is as sound, and as empty, as it was
-pub less-kept : {w v : ℕ} → LessUsed w v → soundWord w ≡ true → (soundWord v ≡ true) × (empty v ≡ empty w)
+pub less-kept : (cap : ℕ) {w v : ℕ} → LessUsed w v → soundWord cap w ≡ true → (soundWord cap v ≡ true) × (empty v ≡ empty w)
 unfolding soundWord
-less-kept {w} {v} less s =
+less-kept cap {w} {v} less s =
     ⊎-elim
-    (λ e. (less-sound less (λ f. never e f), less-empty less (λ f. never e f)))
+    (λ e. (less-sound less (λ f. never e f), less-empty less {cap = cap} (λ f. never e f)))
     (λ e.
-    let p = sound-parts w s e in
-    let flagged = and-right (leb (usage w) maxUsage) (soundFlags w) p in
+    let p = sound-parts cap w s e in
+    let flagged = and-right (leb (usage w) cap) (soundFlags w) p in
     let full = valid-full v w (less .same-flags) (flags-valid w flagged) in
     let right-too : soundFlags v ≡ true = sym (right-flags v) ∙ ap right (less .same-flags) ∙ right-flags w ∙ flagged in
-    let few : usage v ≤ maxUsage = omega (arith, sound-few w s e, less .less) in
-    (rw (full, le-leb (usage v) maxUsage few, right-too), full ∙ sym e))
+    let few : usage v ≤ cap = omega (arith, sound-few cap w s e, less .less) in
+    (rw (full, le-leb (usage v) cap few, right-too), full ∙ sym e))
     (true-or-false (empty w))
 
 -- ---- the sweep
 module _ (m : Memory) (k : Good m) where
   abbrev end : Swept
-  end = sweepAll (m .states) (m .control .hand)
+  end = sweepAll (capOf m) (m .states) (m .control .hand)
 
-  few : (i : ℕ) → i < buffers m → usage (wordOf m i) ≤ maxUsage
+  few : (i : ℕ) → i < buffers m → usage (wordOf m i) ≤ capOf m
   unfolding usage
   few i l =
       ⊎-elim
       (λ e. omega (arith, empty-zero (wordOf m i) e))
-      (λ f. sound-few (wordOf m i) (k .books .words i l) f)
+      (λ f. sound-few (capOf m) (wordOf m i) (k .books .words i l) f)
       (true-or-false (empty (wordOf m i)))
 
   sweeps : Sweeps (buffers m) 0 (m .control .hand) (m .states) end
-  sweeps = sweepAll-relates (m .states) (m .control .hand) (k .books .hand) few .0
+  sweeps = sweepAll-relates (capOf m) (m .states) (m .control .hand) (k .books .hand) few .0
 
   pub swept-from : SweptFrom (m .states) end
   swept-from = sweeps-from (k .books .hand) refl sweeps
 
-  kept : (i : ℕ) → i < buffers m → (soundWord (getD (end .words) i 0) ≡ true) × (empty (getD (end .words) i 0) ≡ empty (wordOf m i))
-  kept i l = less-kept (swept-from .each i) (k .books .words i l)
+  kept : (i : ℕ) → i < buffers m
+      → (soundWord (capOf m) (getD (end .words) i 0) ≡ true) × (empty (getD (end .words) i 0) ≡ empty (wordOf m i))
+  kept i l = less-kept (capOf m) (swept-from .each i) (k .books .words i l)
 
   -- the memory with the words and the hand that it leaves
   pub swept-good : Good (withHand (end .hand) (withStates (end .words) m))
@@ -102,7 +103,7 @@ module _ (m : Memory) (k : Good m) where
       ⊎-elim
       (λ p. p)
       (λ f.
-      let w = sweep-finds (m .states) (m .control .hand) (k .books .hand) i l f few in
+      let w = sweep-finds (capOf m) (m .states) (m .control .hand) (k .books .hand) i l f few in
       found-missing (sym (w .1) ∙ e))
       (true-or-false (pinned (wordOf m i)))
 

@@ -13,11 +13,11 @@ use Rattle.laws.specs.First.{found}
 use Rattle.laws.specs.Block.{putBlock}
 use Rattle.laws.proofs.Tests.{and-left, eq-or-ne, true-or-false, never}
 use Rattle.laws.proofs.Block.{length-block, length-putBlock}
-use Rattle.bufmodel.specs.Word.{pins, usage, pack, maxUsage, empty, dirty, cleanFlags, soundFlags, soundWord, makeClean}
+use Rattle.bufmodel.specs.Word.{pins, usage, pack, empty, dirty, cleanFlags, soundFlags, soundWord, makeClean}
 use Rattle.bufmodel.specs.Position.{position}
 use Rattle.bufmodel.specs.Checksum.{sealed}
 use Rattle.bufmodel.specs.Rows.{placeOf, storeBlocks}
-use Rattle.bufmodel.specs.Memory.{Memory, buffers, size, wordOf, nameOf, pageOf, withStates}
+use Rattle.bufmodel.specs.Memory.{Memory, buffers, size, capOf, wordOf, nameOf, pageOf, withStates}
 use Rattle.bufmodel.specs.Books.{emptyAt}
 use Rattle.bufmodel.specs.Moves.{putAt, writeBack}
 use Rattle.bufmodel.proofs.WordLaws.{flags-pack, usage-pack, pins-lt, usage-lt, Held, held-by, held-sound, held-lt, dirty-is}
@@ -29,20 +29,20 @@ use Rattle.bufmodel.proofs.LikeLaws.{like, like-good}
 
 -- ---- the word
 -- a sound word of a buffer in use: its counts and flags
-pub sound-parts : (w : ℕ) → soundWord w ≡ true → empty w ≡ false → (leb (usage w) maxUsage && soundFlags w) ≡ true
+pub sound-parts : (cap w : ℕ) → soundWord cap w ≡ true → empty w ≡ false → (leb (usage w) cap && soundFlags w) ≡ true
 unfolding soundWord
-sound-parts w s e = rw e at s
+sound-parts cap w s e = rw e at s
 
-pub sound-few : (w : ℕ) → soundWord w ≡ true → empty w ≡ false → usage w ≤ maxUsage
-sound-few w s e = leb-true (usage w) maxUsage (and-left (leb (usage w) maxUsage) (soundFlags w) (sound-parts w s e))
+pub sound-few : (cap w : ℕ) → soundWord cap w ≡ true → empty w ≡ false → usage w ≤ cap
+sound-few cap w s e = leb-true (usage w) cap (and-left (leb (usage w) cap) (soundFlags w) (sound-parts cap w s e))
 
 -- made clean, it is the word of a buffer in use, and not dirty
-clean-held : (w : ℕ) → usage w ≤ maxUsage → Held (makeClean w) × (dirty (makeClean w) ≡ false)
+clean-held : (cap w : ℕ) → usage w ≤ cap → Held cap (makeClean w) × (dirty (makeClean w) ≡ false)
 unfolding makeClean
-clean-held w few =
+clean-held cap w few =
     let f = flags-pack (pins w) (usage w) cleanFlags (pins-lt w) (usage-lt w) in
     let u = usage-pack (pins w) (usage w) cleanFlags (pins-lt w) (usage-lt w) in
-    let k : Held (pack (pins w) (usage w) cleanFlags) = held-by _ (rw u few) (inl f) in
+    let k : Held cap (pack (pins w) (usage w) cleanFlags) = held-by cap _ (rw u few) (inl f) in
     (k, dirty-is k ∙ rw f refl)
 
 -- ---- what it does
@@ -67,9 +67,9 @@ module _ (m : Memory) (k : Good m) (i : ℕ) (l : i < buffers m) (full : emptyAt
   w = wordOf m i
 
   -- the word, before and after
-  few : usage w ≤ maxUsage
+  few : usage w ≤ capOf m
   unfolding emptyAt
-  few = sound-few w (k .books .words i l) full
+  few = sound-few (capOf m) w (k .books .words i l) full
 
   own : getD (set (m .states) i (makeClean w)) i 0 ≡ makeClean w
   own = getD-set-same (m .states) i (makeClean w) 0 l
@@ -87,7 +87,7 @@ module _ (m : Memory) (k : Good m) (i : ℕ) (l : i < buffers m) (full : emptyAt
     unfolding emptyAt
     kept-good =
         let b = k .books in
-        let h = clean-held w few in
+        let h = clean-held (capOf m) w few in
         like-good m k (m .control .hand) (m .control .inserted) _ (set (m .states) i (makeClean w)) (m .pool) _ (b .hand)
         (omega (arith, b .log, b .low i l marked)) (length-set (m .states) i (makeClean w)) refl long
         (λ j n.
@@ -97,8 +97,8 @@ module _ (m : Memory) (k : Good m) (i : ℕ) (l : i < buffers m) (full : emptyAt
         (eq-or-ne j i))
         (λ j n.
         ⊎-elim
-        (λ e. rw e (ap soundWord own ∙ held-sound (held-lt (h .0)) (h .0) .0))
-        (λ ne. ap soundWord (getD-set-other (m .states) i j (makeClean w) 0 ne) ∙ b .words j n)
+        (λ e. rw e (ap (soundWord (capOf m)) own ∙ held-sound (held-lt (h .0)) (h .0) .0))
+        (λ ne. ap (soundWord (capOf m)) (getD-set-other (m .states) i j (makeClean w) 0 ne) ∙ b .words j n)
         (eq-or-ne j i))
         (λ j n d.
         ⊎-elim
@@ -120,7 +120,7 @@ module _ (m : Memory) (k : Good m) (i : ℕ) (l : i < buffers m) (full : emptyAt
   unfolding emptyAt writeBack
   back-full =
       ⊎-elim
-      (λ d. rw d (ap empty own ∙ clean-held w few .0 .full))
+      (λ d. rw d (ap empty own ∙ clean-held (capOf m) w few .0 .full))
       (λ d. rw d (ap empty (getD-set-same (m .states) i w 0 l) ∙ full))
       (true-or-false (dirty w))
 

@@ -14,7 +14,7 @@ use Rattle.buftag.specs.declared.number.BufferNumber.{BufferNumber}
 use Rattle.buftag.specs.Link.{linkOf}
 use Rattle.bufmodel.specs.declared.answer.Pinned as answer
 use Rattle.bufmodel.specs.Word.{empty, dirty}
-use Rattle.bufmodel.specs.Memory.{Memory, wordOf, withStates, withHand}
+use Rattle.bufmodel.specs.Memory.{Memory, capOf, wordOf, withStates, withHand}
 use Rattle.bufmodel.specs.Sizes.{sized}
 use Rattle.bufmodel.specs.Books.{sound}
 use Rattle.bufmodel.specs.Sweep.{Swept, sweepAll}
@@ -58,7 +58,7 @@ wrote-ind false = refl
 
 module _ (m : Memory) (k : Good m) (n : PageName) where
   abbrev end : Swept
-  end = sweepAll (m .states) (m .control .hand)
+  end = sweepAll (capOf m) (m .states) (m .control .hand)
 
   -- none is found
   pub swept-refused : end .victim ≡ missing

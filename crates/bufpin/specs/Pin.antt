@@ -12,5 +12,5 @@ use Rattle.bufmodel.specs.Word.{pins, maxPins, pinMore}
 unfoldable pub heldAt : ℕ → ℕ → Pinned
 heldAt i w = cond (eqb (pins w) maxPins) (Refused 5) (At (record { 0 = i }) true false 0)
 
-unfoldable pub heldWords : List ℕ → ℕ → List ℕ
-heldWords words i = cond (eqb (pins (getD words i 0)) maxPins) words (set words i (pinMore (getD words i 0)))
+unfoldable pub heldWords : ℕ → List ℕ → ℕ → List ℕ
+heldWords cap words i = cond (eqb (pins (getD words i 0)) maxPins) words (set words i (pinMore cap (getD words i 0)))

@@ -2,11 +2,11 @@
 
 ghost use mathlib.Core.Path.{_≡_};
 ghost use mathlib.Core.Bool.{true, false};
-ghost use Prim.Native.Nat.{_<_};
+ghost use Prim.Native.Nat.{_≤_, _<_};
 ghost use lib.ListN.{length, getD};
 ghost use Rattle.laws.specs.First.{found};
 ghost use Rattle.buftag.specs.Link.{linkOf};
-ghost use Rattle.bufmodel.specs.Word.{empty, soundWord};
+ghost use Rattle.bufmodel.specs.Word.{maxCap, empty, soundWord};
 ghost use Rattle.bufmodel.specs.Rows.{placeOf};
 ghost use Rattle.bufmodel.specs.Memory.{memory};
 ghost use Rattle.bufmodel.specs.Sizes.{sized};
@@ -111,17 +111,20 @@ fn pin_new(
 
 // A page that is held has one pin more, unless it has the most.
 fn pin_held(control: Control, states: &mut [u32], buffer: BufferNumber) -> PinnedEnd
-    requires { ⌜ (buffer .0 < length (now states)) × (soundWord (getD (now states) (buffer .0) 0) ≡ true)
-        × (empty (getD (now states) (buffer .0) 0) ≡ false) ⌝ }
+    requires { ⌜ (buffer .0 < length (now states)) × (soundWord (control .cap) (getD (now states) (buffer .0) 0) ≡ true)
+        × (empty (getD (now states) (buffer .0) 0) ≡ false)
+        × (control .cap ≤ maxCap) ⌝ }
     ensures { λ r. ⌜ r .control ≡ control ⌝ }
     ensures { λ r. ⌜ r .answer ≡ heldAt (buffer .0) (getD (now (states .entry)) (buffer .0) 0) ⌝ }
-    ensures { λ _. ⌜ now (states .exit) ≡ heldWords (now (states .entry)) (buffer .0) ⌝ }
+    ensures { λ _. ⌜ now (states .exit) ≡ heldWords (control .cap) (now (states .entry)) (buffer .0) ⌝ }
 {
     let w = state_of(states, buffer);
     if pins_of(w) == MAX_PINS {
         return pin_refused(control, PIN_COUNT);
     }
-    put_state(states, buffer, pin_more(w));
+    let cap = control.cap as u32;
+    let more = pin_more(cap, w);
+    put_state(states, buffer, more);
     PinnedEnd {
         control: control,
         answer: Pinned::At {

@@ -117,19 +117,21 @@ pub fn pin_swept(
         ≡ pinnedOf
         (pinSwept
         (memory control (now (states .entry)) (now (names .entry)) (now (pool .entry)) (now (free .entry)) (now (heads .entry))
-        (now (chain .entry)) (now (rows .entry)) (now (store .entry))) name (sweepAll (now (states .entry)) (control .hand))) ⌝ }
+        (now (chain .entry)) (now (rows .entry)) (now (store .entry))) name
+        (sweepAll (control .cap) (now (states .entry)) (control .hand))) ⌝ }
     ensures { λ r.
         ⌜ memory (r .control) (now (states .exit)) (now (names .exit)) (now (pool .exit)) (now (free .exit))
         (now (heads .exit)) (now (chain .exit)) (now (rows .entry)) (now (store .exit))
         ≡ pinSwept
         (memory control (now (states .entry)) (now (names .entry)) (now (pool .entry)) (now (free .entry)) (now (heads .entry))
-        (now (chain .entry)) (now (rows .entry)) (now (store .entry))) name (sweepAll (now (states .entry)) (control .hand)) .after ⌝ }
+        (now (chain .entry)) (now (rows .entry)) (now (store .entry))) name
+        (sweepAll (control .cap) (now (states .entry)) (control .hand)) .after ⌝ }
 {
     let Victim::At {
         buffer,
         hand,
         probes,
-    } = sweep(states, control.hand)
+    } = sweep(control.cap, states, control.hand)
     else {
         return pin_refused(control, ALL_PINNED);
     };

@@ -33,13 +33,17 @@ returns c =
     let e = eq-eqb (pins w) maxPins (sym read ∙ c .before .if1 .taken) in
     rw (c .pin-refused .ensures) (refl, (rw e, rw e))
 
+cast-cap : tie.Need-cast-cap
+cast-cap c = search needs
+
 pin-more-requires : tie.Need-pin-more-requires
 pin-more-requires c κs =
-    let p = c .before .before in
+    let i = c .before in
+    let p = i .before in
     let s = p .before .before .before .before in
     let w = getD (now (s .args .states)) (s .args .buffer .0) 0 in
     let read = p .pins-of .ensures ∙ ap pins (p .before .state-of .ensures) in
-    let ne : pins w ≢ maxPins = λ h. c .before .if1 .left (read ∙ h) in
+    let ne : pins w ≢ maxPins = λ h. i .if1 .left (read ∙ h) in
     rw (p .before .state-of .ensures) (s .pre .1, s .pre .2, omega (arith, pins-lt w, ne))
 
 put-state-requires : tie.Need-put-state-requires
@@ -51,15 +55,16 @@ same-length-2 c = search needs
 returns-2 : tie.Need-returns-2
 unfolding heldAt heldWords
 returns-2 c =
-    let more = c .before .before .before in
-    let p = more .before .before .before in
+    let more = c .before .before .before .before in
+    let i = more .before .before in
+    let p = i .before in
     let s = p .before .before .before .before in
-    let i = s .args .buffer .0 in
-    let w = getD (now (s .args .states)) i 0 in
+    let b = s .args .buffer .0 in
+    let w = getD (now (s .args .states)) b 0 in
     let read = p .pins-of .ensures ∙ ap pins (p .before .state-of .ensures) in
-    let e = ne-eqb (pins w) maxPins (λ h. more .before .before .if1 .left (read ∙ h)) in
-    let raised = more .pin-more .ensures ∙ ap pinMore (p .before .state-of .ensures) in
-    (refl, (rw e, rw e (c .before .before .put-state .ensures ∙ ap (set (now (s .args .states)) i) raised)))
+    let e = ne-eqb (pins w) maxPins (λ h. i .if1 .left (read ∙ h)) in
+    let raised = more .pin-more .ensures ∙ ap (pinMore (s .args .control .cap)) (p .before .state-of .ensures) in
+    (refl, (rw e, rw e (c .before .before .put-state .ensures ∙ ap (set (now (s .args .states)) b) raised)))
 
 pub pin-held-spec : {M : Type 1} → statement M
 pin-held-spec =
@@ -70,6 +75,7 @@ pin-held-spec =
     pin-refused-requires
     same-length
     returns
+    cast-cap
     pin-more-requires
     put-state-requires
     same-length-2

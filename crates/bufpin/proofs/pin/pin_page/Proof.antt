@@ -224,7 +224,7 @@ pin-held-requires c κs =
     let k = good at-if1 in
     let b = c .before .before .buffer .given .0 .0 in
     let h = held-at m (s .args .name) b (held at-look-up ∙ c .before .before .buffer .given .1) in
-    (h .0, k .books .words (b .0) (h .0), h .1)
+    (h .0, k .books .words (b .0) (h .0), h .1, k .books .cap .1)
 
 same-length-22 : tie.Need-same-length-22
 same-length-22 c = search needs

@@ -1,5 +1,6 @@
 use borrow.Author.Needs.{needs}
 use denote.Ref.{now}
+use native.Mathlib.Omega.{arith}
 use mathlib.Core.Path.{_∙_}
 use Rattle.bufmodel.specs.Memory.{Memory, memory}
 use Rattle.bufmodel.specs.Sweep.{Swept, sweepAll}
@@ -18,12 +19,12 @@ good : (c : tie.Start) → Good (whole c)
 good c = good-of (whole c) (c .pre .0) (c .pre .1)
 
 abbrev end : tie.Start → Swept
-end c = sweepAll (now (c .args .states)) (c .args .control .hand)
+end c = sweepAll (c .args .control .cap) (now (c .args .states)) (c .args .control .hand)
 
 sweep-requires : tie.Need-sweep-requires
 sweep-requires c κs =
     let s = c .before .before .before .before .before .before in
-    (good s .books .hand, good s .sizes .most)
+    (good s .books .hand, good s .sizes .most, omega (arith, good s .books .cap .1))
 
 enum-known-buffer : tie.Need-enum-known-buffer
 enum-known-buffer c = search needs
