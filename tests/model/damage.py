@@ -2,8 +2,8 @@
 
 Each has the number that the rules give by hand; the model must give it too, and then the definitions.
 """
-from pool import BLOCK, BLOCKS, CAPACITY, CONTROL_WORDS, FLUSHED, FORK, HAND, INSERTED, NAME_WORDS, P, RELATION, ROW_WORDS, TOP
-from pool import CLEAN_FLAGS, DIRTY, DIRTY_FLAGS, JUST_DIRTIED, MOST_USAGE, NO_TOP, USAGE_ONE, Pool
+from memory import BLOCK, BLOCKS, CAPACITY, CONTROL_WORDS, FLUSHED, FORK, HAND, INSERTED, NAME_WORDS, NO_TOP, P, RELATION, ROW_WORDS, TOP
+from pool import CLEAN_FLAGS, DIRTY, DIRTY_FLAGS, JUST_DIRTIED, MOST_USAGE, USAGE_ONE, Pool
 from terms import Page, Start, zeros
 
 BUCKETS = 6

@@ -1,6 +1,7 @@
 """What has to happen somewhere in the lists of calls."""
 from checksum import AT, with_sum
-from pool import BLOCK, DIRTY, FILE_WORDS, FLUSHED, HAND, INSERTED, MOST_USAGE, NAME_WORDS, NO_TOP, P, TOP, Pool, peeked, pins, usage
+from memory import BLOCK, FILE_WORDS, FLUSHED, HAND, INSERTED, NAME_WORDS, NO_TOP, P, TOP
+from pool import DIRTY, MOST_USAGE, Pool, peeked, pins, usage
 from shelf import every_page
 
 REFUSALS = {'pin': (3, 4, 17, 5, 6), 'peek': (3, 4, 17), 'extend': (3, 13), 'drop': (3, 14), 'unpin': (7, 8), 'flush': (7, 8),

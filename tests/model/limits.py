@@ -1,7 +1,8 @@
 """The limits of set up, of the file rows, of answer slices, and a shelf's refusals at states that no short list reaches."""
 from checksum import bare, checksum, pack_sum, with_sum
 from damage import KEY, MAP, TRIES, base
-from pool import ANSWER_WORDS, CAPACITY, CONTROL_WORDS, FORK, MOST_PINS, NAME_WORDS, NO_TOP, ROW_WORDS, Pool, rows_fit
+from memory import ANSWER_WORDS, CAPACITY, CONTROL_WORDS, FORK, NAME_WORDS, NO_TOP, ROW_WORDS
+from pool import MOST_PINS, Pool, rows_fit
 from shelf import Shelf, came_bad
 from terms import Page, Start, noise, zeros
 

@@ -2,7 +2,8 @@
 import random
 
 from checksum import AT, with_sum
-from pool import BLOCKS, CAPACITY, CONTROL_WORDS, DIRTY, FILE_WORDS, FLUSHED, INSERTED, NAME_WORDS, NO_TOP, P, ROW_WORDS, TOP, Pool, pins
+from memory import BLOCKS, CAPACITY, CONTROL_WORDS, FILE_WORDS, FLUSHED, INSERTED, NAME_WORDS, NO_TOP, P, ROW_WORDS, TOP
+from pool import DIRTY, Pool, pins
 from terms import Page, Start, noise, zeros
 
 KEYS = [(1663, 5, 16384, 0), (1663, 5, 16384, 1), (0, 0, 0, 0), (2**32 - 1, 2**32 - 1, 2**32 - 1, 2), (1663, 5, 16385, 0), (5, 1663, 0, 2)]

@@ -1,8 +1,7 @@
 """The page pool of the written rules in Python: an independent model, written from the paper and not from the crates.
 
-Memory is the lent memory. Pool makes a call on it: Pool(memory).call(('pin', name)) gives an Outcome, with the memory
-afterwards; the memory before stays as it was. A control record has the top of the free list as 64 one bits for -1.
-A name is a tuple of its words, a file's key of those that begin it. The plain shelf and its ledger stand in shelf.py.
+Pool makes a call on lent memory: Pool(memory).call(('pin', name)) gives an Outcome, with the memory afterwards; the memory
+before stays as it was. The lent memory stands in memory.py, the plain shelf and its ledger in shelf.py.
 
 Calls: ('set_up', page size, position) ('pin', name) ('unpin', buffer) ('read', buffer, from, out)
 ('write', buffer, from, bytes, position) ('flush', buffer) ('checkpoint',) ('peek', name) ('extend', key) ('drop', key)
@@ -11,6 +10,8 @@ Calls: ('set_up', page size, position) ('pin', name) ('unpin', buffer) ('read', 
 import struct
 
 from checksum import checksum, pack_sum, unpack_sum, with_sum
+from memory import ANSWER_WORDS, BLOCK, BLOCKS, CAPACITY, CONTROL_WORDS, FILE_WORDS, FLUSHED, FORK, HAND, INSERTED, NAME_WORDS, NO_TOP, P
+from memory import ROW_WORDS, TOP
 
 PAGE_SIZES = (1024, 2048, 4096, 8192, 16384, 32768)
 MOST_PINS, MOST_USAGE = 262143, 5
@@ -18,15 +19,6 @@ USAGE_ONE = 1 << 18
 DIRTY, VALID, TAG_VALID, JUST_DIRTIED, PERMANENT = 1 << 23, 1 << 24, 1 << 25, 1 << 28, 1 << 31
 CLEAN_FLAGS = VALID | TAG_VALID | PERMANENT
 DIRTY_FLAGS = DIRTY | JUST_DIRTIED
-NO_TOP = 2**64 - 1
-
-# the layout of lent memory, for every file of this folder: the control record; a file's words, with which a name and a row begin;
-# what a name, and what a row, has behind them; the answer
-P, HAND, TOP, INSERTED, FLUSHED, CONTROL_WORDS = range(6)
-TABLESPACE, DATABASE, RELATION, FORK, FILE_WORDS = range(5)
-BLOCK, NAME_WORDS = FILE_WORDS, FILE_WORDS + 1
-BLOCKS, CAPACITY, ROW_WORDS = FILE_WORDS, FILE_WORDS + 1, FILE_WORDS + 2
-ANSWER_WORDS = 4
 
 
 class Refused(Exception):
@@ -72,59 +64,6 @@ def rows_fit(rows):
     files = [rows[at:at + ROW_WORDS] for at in range(0, len(rows), ROW_WORDS)]
     return (len(rows) % ROW_WORDS == 0 and len(files) <= 64 and all(row[FORK] <= 2 and row[BLOCKS] <= row[CAPACITY] for row in files)
             and sum(row[CAPACITY] for row in files) <= 65536 and len({tuple(row[:FILE_WORDS]) for row in files}) == len(files))
-
-
-class Memory:
-    """What is lent, and a few ways to look at it."""
-
-    def __init__(self, control, states, names, pool, free, heads, chain, rows, store):
-        self.control, self.states, self.names, self.pool = control, states, names, pool
-        self.free, self.heads, self.chain, self.rows, self.store = free, heads, chain, rows, store
-
-    def copy(self):
-        return Memory(self.control[:], self.states[:], self.names[:], self.pool[:], self.free[:], self.heads[:], self.chain[:],
-                      self.rows[:], self.store[:])
-
-    @property
-    def n(self):
-        return len(self.states)
-
-    def row(self, f):
-        return self.rows[ROW_WORDS * f:ROW_WORDS * (f + 1)]
-
-    def files(self):
-        return range(len(self.rows) // ROW_WORDS)
-
-    def file(self, key):
-        """The row with these numbers, or None."""
-        return next((f for f in self.files() if tuple(self.row(f)[:FILE_WORDS]) == tuple(key)), None)
-
-    def blocks(self, f):
-        return self.rows[ROW_WORDS * f + BLOCKS]
-
-    def place(self, name):
-        """The index of a name's block in the store."""
-        return sum(self.row(f)[CAPACITY] for f in range(self.file(name[:FILE_WORDS]))) + name[BLOCK]
-
-    def name(self, i):
-        return tuple(self.names[NAME_WORDS * i:NAME_WORDS * (i + 1)])
-
-    def set_name(self, i, name):
-        self.names[NAME_WORDS * i:NAME_WORDS * (i + 1)] = name
-
-    def page(self, i):
-        """Where buffer i's page is in the pool."""
-        return slice(i * self.control[P], (i + 1) * self.control[P])
-
-    def block(self, name):
-        place = self.place(name)
-        return slice(place * self.control[P], (place + 1) * self.control[P])
-
-    def used(self):
-        return [i for i in range(self.n) if self.states[i] != 0]
-
-    def empty(self):
-        return [i for i in range(self.n) if self.states[i] == 0]
 
 
 class Outcome:

@@ -5,8 +5,8 @@ the program's, and the ledger takes whether the pin wrote. Bytes of blocks are k
 Where the pool's bytes are compared with the shelf's, bytes 8 and 9 of a page are left out: only the store's have a checksum.
 """
 from checksum import bare, checksum, unpack_sum
-from pool import BLOCK, BLOCKS, CAPACITY, FILE_WORDS, FLUSHED, INSERTED, MOST_PINS, P, ROW_WORDS, Memory, Refused
-from pool import pack_position, peeked, refuse, unpack_position
+from memory import BLOCK, BLOCKS, CAPACITY, FILE_WORDS, FLUSHED, INSERTED, P, ROW_WORDS, Memory
+from pool import MOST_PINS, Refused, pack_position, peeked, refuse, unpack_position
 
 
 def came_bad(block, page):

@@ -2,8 +2,8 @@
 import struct
 
 from checksum import AT, checksum, pack_sum, summed, unpack_sum, with_sum
-from pool import BLOCK, BLOCKS, CAPACITY, DIRTY, FILE_WORDS, HAND, MOST_USAGE, NO_TOP, ROW_WORDS, TOP, USAGE_ONE
-from pool import Pool, Refused, name_bytes, pins, refuse, usage
+from memory import BLOCK, BLOCKS, CAPACITY, FILE_WORDS, HAND, NO_TOP, ROW_WORDS, TOP
+from pool import DIRTY, MOST_USAGE, USAGE_ONE, Pool, Refused, name_bytes, pins, refuse, usage
 from shelf import Shelf, came_bad
 
 

@@ -4,7 +4,8 @@ import random
 import struct
 
 from checksum import checksum, pack_sum, with_sum
-from pool import NAME_WORDS, NO_TOP, P, TOP, Memory, peeked
+from memory import NAME_WORDS, NO_TOP, P, TOP, Memory
+from pool import peeked
 
 CALLS = {'pin': 'Pin', 'unpin': 'Unpin', 'read': 'Read', 'write': 'Write', 'flush': 'Flush', 'checkpoint': 'Checkpoint',
          'peek': 'Peek', 'extend': 'Extend', 'drop': 'Drop', 'log_inserted': 'LogInserted', 'log_flushed': 'LogFlushed'}

@@ -17,7 +17,8 @@ import slips
 from checksum import checksum
 from events import ONLY_SOUND, WANTED, events, left_out
 from lists import BY_HAND, after_set_up, from_sound, run, set_up
-from pool import P, Pool
+from memory import P
+from pool import Pool
 from shelf import Shelf, came_bad, differs
 from terms import call_term, lent_books, lent_seen, list_seen, listed, numbers, words
 

@@ -4,8 +4,8 @@ import sys
 
 from checksum import checksum
 from lists import run
-from pool import ANSWER_WORDS, CONTROL_WORDS, HAND, NAME_WORDS, NO_TOP, TOP, Memory, Pool
-from pool import fnv_1a, name_bytes, pack_position, unpack_position
+from memory import ANSWER_WORDS, CONTROL_WORDS, HAND, NAME_WORDS, NO_TOP, TOP, Memory
+from pool import Pool, fnv_1a, name_bytes, pack_position, unpack_position
 
 KEY = (1663, 5, 16384, 0)
 THREE = [('pin', KEY + (block,)) for block in range(3)]
