@@ -2,8 +2,9 @@
 
 Each has the number that the rules give by hand; the model must give it too, and then the definitions.
 """
-from memory import BLOCK, BLOCKS, CAPACITY, CONTROL_WORDS, FLUSHED, FORK, HAND, INSERTED, NAME_WORDS, NO_TOP, P, RELATION, ROW_WORDS, TOP
-from pool import CLEAN_FLAGS, DIRTY, DIRTY_FLAGS, JUST_DIRTIED, MOST_USAGE, USAGE_ONE, Pool
+from memory import BLOCK, BLOCKS, CAP, CAPACITY, CONTROL_WORDS, FLUSHED, FORK, HAND, INSERTED, NAME_WORDS, NO_TOP, P, RELATION, ROW_WORDS
+from memory import TOP
+from pool import CLEAN_FLAGS, DIRTY, DIRTY_FLAGS, JUST_DIRTIED, USAGE_ONE, Pool, usage
 from terms import Page, Start, zeros
 
 BUCKETS = 6
@@ -13,13 +14,13 @@ KEY, MAP = (1663, 5, 16384, 0), (1663, 5, 16384, 1)
 def base():
     """N = 5, B = 6: blocks 0, 2 and 1 in buffers 0, unpinned, 1, dirty and pinned, and 2, pinned; 0 and 1 are in one chain.
 
-    Free list 3, 4; inserted 120, flushed 100. Of the store's blocks the first two have their checksums; the map's does not pass.
+    Free list 3, 4; inserted 120, flushed 100; cap 5. Of the store's blocks the first two have their checksums; the map's does not pass.
     """
     rows = [*KEY, 3, 3, *MAP, 1, 2]
     blank = Start([0] * CONTROL_WORDS, [0] * 5, [0] * (5 * NAME_WORDS), [zeros(1024)] * 5, [0] * 5, [0] * BUCKETS, [0] * 5, rows,
                   [zeros(1024)] * 5)
     m = blank.memory()
-    for call in [('set_up', 1024, 100), ('log_inserted', 120), *(('pin', KEY + (block,)) for block in (0, 2, 1)),
+    for call in [('set_up', 1024, 100, 5), ('log_inserted', 120), *(('pin', KEY + (block,)) for block in (0, 2, 1)),
                  ('write', 1, 8, b'x', 110), ('unpin', 0)]:
         outcome = Pool(m).call(call)
         assert outcome.number == 0
@@ -117,6 +118,15 @@ def emptied(start):
     start.heads[:] = [-1] * len(start.heads)
 
 
+def capped(cap, *usages):
+    """Another cap, and these usage counts in the buffers in use."""
+    def change(start):
+        start.control[CAP] = cap
+        for i, used in enumerate(usages):
+            start.states[i] += (used - usage(start.states[i])) * USAGE_ONE
+    return change
+
+
 def many_rows(count):
     def change(start):
         start.rows += [word for k in range(count - 2) for word in (k, 5, 7, 2, 0, 0)]
@@ -165,9 +175,8 @@ def books():
                     (TOP, NO_TOP, 2), (TOP, NO_TOP - 1, 2), (TOP, 0, 2), (TOP, 4, 2), (TOP, 2**32 + 3, 2)]:
         yield 'control word %d is %d' % control[:2], control[2], setting('control', *control[:2])
     for word, number in [
-            (clean | MOST_USAGE * USAGE_ONE, 0), (clean | (MOST_USAGE + 1) * USAGE_ONE, 2), (clean | 15 * USAGE_ONE, 2),
-            (clean | 262143, 0), (clean, 0), (dirty, 0), (clean | DIRTY, 2), (clean | JUST_DIRTIED, 2), (1, 2), (USAGE_ONE, 2),
-            (DIRTY_FLAGS, 2),
+            (clean | 5 * USAGE_ONE, 0), (clean | 6 * USAGE_ONE, 2), (clean | 15 * USAGE_ONE, 2), (clean | 262143, 0), (clean, 0),
+            (dirty, 0), (clean | DIRTY, 2), (clean | JUST_DIRTIED, 2), (1, 2), (USAGE_ONE, 2), (DIRTY_FLAGS, 2),
             *((clean ^ 1 << bit, 2) for bit in (24, 25, 31)), *((clean | 1 << bit, 2) for bit in (22, 26, 27, 29, 30)),
             *((dirty ^ 1 << bit, 2) for bit in (24, 25, 31)), (0, 2), (2**32 - 1, 2)]:
         yield f'word {word:#x}', number, setting('states', 0, word)
@@ -202,6 +211,21 @@ def books():
         yield f'chain link {at} is {value}', 2, setting('chain', at, value)
 
 
+def caps():
+    """Each rule on the cap broken, number 2, or a size too, number 1; and what stands at its edge, number 0.
+
+    Without uses a cap is judged alone; else a usage count is held to it.
+    """
+    for cap, number in [(0, 2), (1, 0), (15, 0), (16, 2), (21, 2), (2**32 + 5, 2), (2**63, 2), (2**63 + 5, 2), (2**64 - 1, 2)]:
+        yield f'cap {cap}, no uses', number, capped(cap, 0, 0, 0)
+    for cap, *usages, number in [(0, 1, 1, 1, 2), (1, 1, 1, 1, 0), (1, 2, 0, 1, 2), (2, 0, 2, 2, 0), (2, 0, 3, 0, 2), (4, 1, 1, 5, 2),
+                                 (5, 5, 5, 5, 0), (5, 1, 1, 6, 2), (14, 6, 13, 14, 0), (14, 15, 1, 1, 2), (15, 1, 15, 0, 0),
+                                 (16, 15, 1, 1, 2)]:
+        yield f'cap {cap}, uses {usages}', number, capped(cap, *usages)
+    for cap in (0, 16):
+        yield f'cap {cap}, a chain link less', 1, both(capped(cap), shorter('chain'))
+
+
 TRIES = [('pin', KEY + (2,)), ('unpin', 1), ('read', 1, 4, b'abcdef'), ('write', 1, 9, b'yz', 115), ('flush', 1), ('checkpoint',),
          ('peek', KEY + (0,)), ('extend', MAP), ('drop', MAP), ('log_inserted', 130), ('log_flushed', 110),
          ('pin', (1, 2, 3, 0, 0)), ('unpin', 9), ('read', 0, 0, b'ab'), ('write', 1, 7, b'', 121), ('flush', 2**64 - 1),
@@ -214,7 +238,7 @@ assert [Pool(base().memory()).call(call).number for call in TRIES[-2:]] == [17, 
 
 def damaged():
     """Name, start, and the calls to try."""
-    for k, (name, number, change) in enumerate([*sizes(), *books()]):
+    for k, (name, number, change) in enumerate([*sizes(), *books(), *caps()]):
         start = base()
         change(start)
         calls = [TRIES[(3 * k + j) % len(TRIES)] for j in range(3)]

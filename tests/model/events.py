@@ -1,15 +1,17 @@
 """What has to happen somewhere in the lists of calls."""
 from checksum import AT, with_sum
-from memory import BLOCK, FILE_WORDS, FLUSHED, HAND, INSERTED, NAME_WORDS, NO_TOP, P, TOP
-from pool import DIRTY, MOST_USAGE, Pool, peeked, pins, usage
+from lists import CAPS
+from memory import BLOCK, CAP, FILE_WORDS, FLUSHED, HAND, INSERTED, NAME_WORDS, NO_TOP, P, TOP
+from pool import DIRTY, Pool, peeked, pins, usage
 from shelf import every_page
 
 REFUSALS = {'pin': (3, 4, 17, 5, 6), 'peek': (3, 4, 17), 'extend': (3, 13), 'drop': (3, 14), 'unpin': (7, 8), 'flush': (7, 8),
             'read': (7, 8, 9), 'write': (7, 8, 9, 10, 11, 12), 'log_inserted': (15,), 'log_flushed': (16,), 'checkpoint': ()}
 # only a memory made by hand has so many pins, or a page over a block that does not pass
 ONLY_SOUND = {'pin 5', 'hit over a bad block', 'peek over a bad block'}
-WANTED = {f'{kind} {number}' for kind, refusals in REFUSALS.items() for number in (0, *refusals)} | ONLY_SOUND | {
-    'hit', 'hit at the greatest usage', 'hit with every buffer pinned', 'free', 'swept', 'swept, wrote', 'swept, more than N probes',
+AT_CAPS = {f'{what}, cap {cap}' for cap in CAPS for what in ('usage raised', 'usage at the cap', 'swept from the cap', 'swept, wrote')}
+WANTED = {f'{kind} {number}' for kind, refusals in REFUSALS.items() for number in (0, *refusals)} | ONLY_SOUND | AT_CAPS | {
+    'hit', 'hit with every buffer pinned', 'free', 'swept', 'swept, more than N probes',
     'swept past a pinned buffer', 'the hand wraps', 'a victim behind another in its chain', 'entered before another', 'a name of zeros',
     'a write-back raises flushed', 'a write-back leaves flushed', 'a checkpoint writes 2', 'drop discards', 'drop empties 2',
     'drop puts on a free list', 'drop of none', 'extend clears bytes', 'peek pool', 'peek store', 'peek of a dirty page',
@@ -28,12 +30,14 @@ def happening(found):
 
 def at_pin(call, before, o):
     i, hit, wrote, probes = o.answer
+    cap, used = before.control[CAP], usage(before.states[i])
     swept = not hit and before.control[TOP] == NO_TOP
     return happening({
-        'hit': hit, 'hit at the greatest usage': hit and usage(before.states[i]) == MOST_USAGE,
+        'hit': hit, f'usage raised, cap {cap}': hit and used < cap, f'usage at the cap, cap {cap}': hit and used == cap,
+        f'swept from the cap, cap {cap}': probes > cap * before.n, f'swept, wrote, cap {cap}': wrote,
         'hit with every buffer pinned': hit and all(map(pins, before.states)),
         'free': not hit and not swept, 'swept': swept, 'swept, more than N probes': probes > before.n,
-        'swept, wrote': wrote, 'swept, wrote at P 2048': wrote and before.control[P] == 2048,
+        'swept, wrote at P 2048': wrote and before.control[P] == 2048,
         'swept past a pinned buffer': swept and any(map(pins, before.states)), 'a name of zeros': call[1] == (0,) * NAME_WORDS,
         'the hand wraps': o.memory.control[HAND] < before.control[HAND],
         'a victim behind another in its chain': swept and i in before.chain,

@@ -12,7 +12,7 @@ def pages(count, size, seed):
     return [Page(k, seed + k, size) for k in range(count)] if count < 9 else [zeros(count * size)]
 
 
-def lent(n, b, rows, size, control=(7, 9, NO_TOP, 3, 4)):
+def lent(n, b, rows, size, control=(7, 9, NO_TOP, 3, 4, 6)):
     """A memory of this shape, with anything in its books."""
     pool, store = pages(n, size, 1), pages(sum(rows[CAPACITY::ROW_WORDS]), size, 50)
     return Start(list(control), [7] * n, [7] * (NAME_WORDS * n), pool, [7] * n, [7] * b, [7] * n, list(rows), store)
@@ -24,35 +24,49 @@ def files(*capacities):
 
 
 def set_ups():
-    """Number by hand, start, page size, position, answer slice."""
+    """Number by hand, start, what set up is given (block size, position, cap), answer slice."""
     row, slice_ = [*KEY, 1, 1], (9, 8, 7, 6)
     for size in (1024, 2048, 4096, 8192, 16384, 32768):
-        yield 0, lent(1, 1, row, size), size, size * 2**40, slice_
+        yield 0, lent(1, 1, row, size), (size, size * 2**40, 5), slice_
     for size in (512, 1000, 1023, 1025, 3072, 65536):
-        yield 1, lent(1, 1, row, size), size, 5, slice_
+        yield 1, lent(1, 1, row, size), (size, 5, 5), slice_
     for size in (0, 1, 2048, 2**32 + 1024, 2**63):
-        yield 1, lent(1, 1, row, 1024), size, 5, slice_
+        yield 1, lent(1, 1, row, 1024), (size, 5, 5), slice_
     for n, b, number in [(0, 0, 1), (0, 1, 1), (1, 1, 0), (1, 4096, 0), (1, 4097, 1), (2, 1, 1), (2, 2, 0), (3, 2, 1), (1024, 1024, 0),
                          (1024, 4096, 0), (1024, 1023, 1), (1025, 1025, 1), (1025, 4096, 1)]:
-        yield number, lent(n, b, [], 1024), 1024, 0, slice_
+        yield number, lent(n, b, [], 1024), (1024, 0, 5), slice_
     for rows, number in [([], 0), (row[:-1], 1), ([*row, 0], 1), ([*KEY, 0, 0], 0), ([*KEY, 1, 0], 1), ([*MAP, 2, 3], 0),
                          ([*KEY[:FORK], 2, 1, 2], 0), ([*KEY[:FORK], 3, 1, 2], 1), ([*row, *row], 1), ([*row, *MAP, 0, 1], 0),
                          ([*KEY, 9, 65536], 0), ([*KEY, 9, 65537], 1), ([*row, *MAP, 0, 65535], 0), ([*row, *MAP, 0, 65536], 1)]:
-        yield number, lent(1, 2, rows, 1024), 1024, 2**64 - 1, slice_
+        yield number, lent(1, 2, rows, 1024), (1024, 2**64 - 1, 5), slice_
     for count, number in [(64, 0), (65, 1)]:
-        yield number, lent(1, 1, files(*(int(k == 9) for k in range(count))), 1024), 1024, 1, slice_
+        yield number, lent(1, 1, files(*(int(k == 9) for k in range(count))), 1024), (1024, 1, 5), slice_
     for length in [0, 1, CONTROL_WORDS - 1, CONTROL_WORDS + 1]:
         control = (1024, *[0] * CONTROL_WORDS)[:length]
-        yield 1, lent(1, 1, row, 1024, control), 1024, 5, slice_
+        yield 1, lent(1, 1, row, 1024, control), (1024, 5, 5), slice_
     for length in [0, ANSWER_WORDS - 1, ANSWER_WORDS + 1]:
-        yield 1, lent(1, 1, row, 1024), 1024, 5, tuple(range(1, 1 + length))
+        yield 1, lent(1, 1, row, 1024), (1024, 5, 5), tuple(range(1, 1 + length))
 
 
-def checked_set_ups():
-    for number, start, size, position, answer in set_ups():
-        outcome = Pool(start.memory()).call(('set_up', size, position), answer)
-        assert outcome.number == number, (number, outcome.number, size, start.rows)
-        yield start, size, position, answer, outcome
+def caps():
+    """As set_ups: caps at the limits, and wrong ones where 1 stands above 18."""
+    row, slice_ = [*KEY, 1, 1], (9, 8, 7, 6)
+    for cap, number in [(0, 18), (1, 0), (2, 0), (14, 0), (15, 0), (16, 18), (21, 18), (2**32 + 5, 18), (2**63, 18), (2**63 + 5, 18),
+                        (2**64 - 1, 18)]:
+        yield number, lent(2, 3, row, 1024), (1024, 5, cap), slice_
+    for cap in (0, 16, 2**64 - 1):
+        yield 1, lent(2, 1, row, 1024), (1024, 5, cap), slice_
+        yield 1, lent(1, 1, row, 1024), (1000, 5, cap), slice_
+        yield 1, lent(1, 1, row, 1024, [7] * (CONTROL_WORDS - 1)), (1024, 5, cap), slice_
+        yield 1, lent(1, 1, row, 1024), (1024, 5, cap), slice_[1:]
+
+
+def checked(some):
+    """Of some set-ups the outcomes, each with its number by hand."""
+    for number, start, given, answer in some:
+        outcome = Pool(start.memory()).call(('set_up', *given), answer)
+        assert outcome.number == number, (number, outcome.number, given, start.rows)
+        yield start, given, answer, outcome
 
 
 def rows():

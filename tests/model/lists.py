@@ -2,11 +2,12 @@
 import random
 
 from checksum import AT, with_sum
-from memory import BLOCKS, CAPACITY, CONTROL_WORDS, FILE_WORDS, FLUSHED, INSERTED, NAME_WORDS, NO_TOP, P, ROW_WORDS, TOP
-from pool import DIRTY, Pool, pins
+from memory import BLOCKS, CAP, CAPACITY, CONTROL_WORDS, FILE_WORDS, FLUSHED, INSERTED, NAME_WORDS, NO_TOP, P, ROW_WORDS, TOP
+from pool import DIRTY, USAGE_ONE, Pool, pins, usage
 from terms import Page, Start, noise, zeros
 
 KEYS = [(1663, 5, 16384, 0), (1663, 5, 16384, 1), (0, 0, 0, 0), (2**32 - 1, 2**32 - 1, 2**32 - 1, 2), (1663, 5, 16385, 0), (5, 1663, 0, 2)]
+CAPS = (1, 2, 5, 14, 15)  # those of the lists, and the seeds that stand for case H with each
 BY_HAND = 0  # the seed that stands for a list made by hand
 POSITIONS = [5, 100, 2**32 - 2, 2**33 + 7, 2**64 - 4]
 WEIGHTS = {'pin': 36, 'unpin': 22, 'write': 20, 'read': 4, 'flush': 3, 'checkpoint': 3, 'peek': 4, 'extend': 4, 'drop': 5,
@@ -52,11 +53,11 @@ def store_pages(r, rows, position, size, bad):
 
 
 def start(r):
-    """A memory before set up, with anything in its books, and the block size and position for set up."""
+    """A memory before set up, with anything in its books, and what set up is given: block size, position, cap."""
     size = r.choice([1024] * 7 + [2048])
     n, room = (r.choice([1, 2, 2, 3, 3, 4]), 6) if size == 1024 else (r.randint(1, 2), 4)
     b = r.randint(n, 6)
-    position = r.choice(POSITIONS)
+    position, cap = r.choice(POSITIONS), r.choice(CAPS)
     rows = []
     for key in r.sample(KEYS, r.randint(1, 3)):
         capacity = r.randint(0, min(4, room)) if rows else r.randint(3, 4)
@@ -69,11 +70,12 @@ def start(r):
 
     def any_words(count):
         return [r.randrange(2**32) for _ in range(count)]
-    control = [r.choice([0, 1024, 7]), r.randrange(9), r.choice([NO_TOP, 0, 9]), r.randrange(9), r.randrange(9)]
+    control = [r.choice([0, 1024, 7]), r.randrange(9), r.choice([NO_TOP, 0, 9]), r.randrange(9), r.randrange(9),
+               r.choice([0, 9, 16, 2**64 - 1])]
     pool = [Page(r.randrange(2**64), r.randrange(1, 2**31), size) for _ in range(n)]
     store = [*store_pages(r, rows, position, size, 0.1)]
     made = Start(control, any_words(n), any_words(NAME_WORDS * n), pool, any_links(n), any_links(b), any_links(n), rows, store)
-    return made, size, position
+    return made, (size, position, cap)
 
 
 def some_key(r, m):
@@ -164,8 +166,8 @@ def random_calls(r, m, length):
     return calls, m
 
 
-def set_up(made, size, position):
-    return Pool(made.memory()).call(('set_up', size, position)).memory
+def set_up(made, given):
+    return Pool(made.memory()).call(('set_up', *given)).memory
 
 
 def by_hand():
@@ -176,31 +178,41 @@ def by_hand():
     page, victim, bad = key + (1,), key + (0,), other + (0,)
     made = Start([0] * CONTROL_WORDS, [7], [7] * NAME_WORDS, [Page(5, 6)], [7], [7], [7], [*other, 1, 1, *key, 2, 2],
                  [Page(90, 7), zeros(1024), zeros(1024)])
-    return made, 1024, 100, [
+    return made, (1024, 100, 5), [
         ('pin', page), ('write', 0, 8, b'abcd', 100), ('pin', bad), ('unpin', 0), ('pin', bad), ('pin', victim),
         ('write', 0, 9, b'a', 0), ('flush', 0), ('unpin', 0), ('pin', page), ('read', 0, 6, bytes(6)), ('unpin', 0), ('peek', page),
         ('checkpoint',), ('drop', other), ('extend', other), ('pin', bad), ('write', 0, 10, bytes(2), 0), ('flush', 0)]
 
 
+def case_h(cap):
+    """Buffers 0 and 1 are pinned; 2 is pinned once more than the cap counts, and unpinned; the hand is 0; block 3 is pinned."""
+    key = KEYS[0]
+    made = Start([9] * CONTROL_WORDS, [7] * 3, [7] * (3 * NAME_WORDS), [zeros(1024)] * 3, [7] * 3, [7] * 3, [7] * 3, [*key, 4, 4],
+                 [zeros(1024)] * 4)
+    return made, (1024, 100, cap), [*(('pin', key + (block,)) for block in (0, 1, 2)), *[('pin', key + (2,))] * cap,
+                                    *[('unpin', 2)] * (cap + 1), ('pin', key + (3,))]
+
+
 def after_set_up(seed):
-    """A start, its block size and position, and a list of calls after set up."""
-    if seed == BY_HAND:
-        return by_hand()
+    """A start, what its set up is given, and a list of calls after set up."""
+    if seed == BY_HAND or seed in CAPS:
+        return by_hand() if seed == BY_HAND else case_h(seed)
     r = random.Random(seed)
-    made, size, position = start(r)
-    return made, size, position, random_calls(r, set_up(made, size, position), r.randint(8, 14))[0]
+    made, given = start(r)
+    return made, given, random_calls(r, set_up(made, given), r.randint(8, 14))[0]
 
 
 def from_sound(seed):
-    """A sound memory as some earlier calls left it, with other bytes in its pages and pin counts near the greatest, and calls.
+    """A sound memory as some earlier calls left it, with other bytes in its pages and counts at or near their ends, and calls.
 
     Pages of zeros may be dirty there, and a page may be held whose block does not pass.
     """
     r = random.Random(10_000 + seed)
-    made, size, position = start(r)
-    m = random_calls(r, set_up(made, size, position), r.randint(10, 60))[1]
-    states, inserted = list(m.states), m.control[INSERTED]
+    made, given = start(r)
+    m = random_calls(r, set_up(made, given), r.randint(10, 60))[1]
+    states, size, inserted, cap = list(m.states), m.control[P], m.control[INSERTED], m.control[CAP]
     for i in m.used():
+        states[i] += (r.choice([0, 1, cap - 1, cap]) - usage(states[i])) * USAGE_ONE
         if pins(states[i]) and r.random() < 0.4:
             states[i] += 262142 - pins(states[i]) + r.randrange(2)
 

@@ -6,7 +6,7 @@ that begin it.
 NO_TOP = 2**64 - 1
 
 # the control record; a file's words, with which a name and a row begin; what a name, and what a row, has behind them; the answer
-P, HAND, TOP, INSERTED, FLUSHED, CONTROL_WORDS = range(6)
+P, HAND, TOP, INSERTED, FLUSHED, CAP, CONTROL_WORDS = range(7)
 TABLESPACE, DATABASE, RELATION, FORK, FILE_WORDS = range(5)
 BLOCK, NAME_WORDS = FILE_WORDS, FILE_WORDS + 1
 BLOCKS, CAPACITY, ROW_WORDS = FILE_WORDS, FILE_WORDS + 1, FILE_WORDS + 2

@@ -3,18 +3,18 @@
 Pool makes a call on lent memory: Pool(memory).call(('pin', name)) gives an Outcome, with the memory afterwards; the memory
 before stays as it was. The lent memory stands in memory.py, the plain shelf and its ledger in shelf.py.
 
-Calls: ('set_up', page size, position) ('pin', name) ('unpin', buffer) ('read', buffer, from, out)
+Calls: ('set_up', page size, position, cap) ('pin', name) ('unpin', buffer) ('read', buffer, from, out)
 ('write', buffer, from, bytes, position) ('flush', buffer) ('checkpoint',) ('peek', name) ('extend', key) ('drop', key)
 ('log_inserted', position) ('log_flushed', position)
 """
 import struct
 
 from checksum import checksum, pack_sum, unpack_sum, with_sum
-from memory import ANSWER_WORDS, BLOCK, BLOCKS, CAPACITY, CONTROL_WORDS, FILE_WORDS, FLUSHED, FORK, HAND, INSERTED, NAME_WORDS, NO_TOP, P
-from memory import ROW_WORDS, TOP
+from memory import ANSWER_WORDS, BLOCK, BLOCKS, CAP, CAPACITY, CONTROL_WORDS, FILE_WORDS, FLUSHED, FORK, HAND, INSERTED, NAME_WORDS
+from memory import NO_TOP, P, ROW_WORDS, TOP
 
 PAGE_SIZES = (1024, 2048, 4096, 8192, 16384, 32768)
-MOST_PINS, MOST_USAGE = 262143, 5
+MOST_PINS, LEAST_CAP, MOST_CAP = 262143, 1, 15
 USAGE_ONE = 1 << 18
 DIRTY, VALID, TAG_VALID, JUST_DIRTIED, PERMANENT = 1 << 23, 1 << 24, 1 << 25, 1 << 28, 1 << 31
 CLEAN_FLAGS = VALID | TAG_VALID | PERMANENT
@@ -72,8 +72,6 @@ class Outcome:
 
 
 class Pool:
-    most_usage = MOST_USAGE
-
     def __init__(self, memory):
         self.m = memory.copy()
 
@@ -106,10 +104,10 @@ class Pool:
                 and rows_fit(m.rows) and len(m.store) == page_size * sum(m.rows[CAPACITY::ROW_WORDS]))
 
     def books_sound(self):
-        m = self.m
-        if not (m.control[HAND] < m.n and m.control[FLUSHED] <= m.control[INSERTED]):
+        m, cap = self.m, self.cap()
+        if not (self.cap_fits(cap) and m.control[HAND] < m.n and m.control[FLUSHED] <= m.control[INSERTED]):
             return False
-        if not all(self.word_sound(word) for word in m.states):
+        if not all(self.word_sound(word, cap) for word in m.states):
             return False
         top = -1 if m.control[TOP] == NO_TOP else m.control[TOP]
         if self.walk(top, m.free) != sorted(m.empty()) or any(m.free[i] != -2 for i in m.used()):
@@ -124,9 +122,16 @@ class Pool:
                 return False
         return all(self.position(i) <= m.control[INSERTED] for i in m.used() if m.states[i] & DIRTY)
 
-    def word_sound(self, word):
+    def cap(self):
+        """The greatest usage count, as it was given at set up."""
+        return self.m.control[CAP]
+
+    def cap_fits(self, cap):
+        return LEAST_CAP <= cap <= MOST_CAP
+
+    def word_sound(self, word, cap):
         flags = word >> 22 << 22
-        return word == 0 or usage(word) <= self.most_usage and flags in (CLEAN_FLAGS, CLEAN_FLAGS | DIRTY_FLAGS)
+        return word == 0 or usage(word) <= cap and flags in (CLEAN_FLAGS, CLEAN_FLAGS | DIRTY_FLAGS)
 
     def names_block(self, name):
         f = self.m.file(name[:FILE_WORDS])
@@ -181,6 +186,10 @@ class Pool:
         m.states[i] &= ~DIRTY_FLAGS
         return 1
 
+    def raised(self, word, cap):
+        """A word with one use more, up to the cap."""
+        return word + USAGE_ONE if usage(word) < cap else word
+
     def sweep(self):
         """The published sweep: the victim and the probes made."""
         m, probes, pinned_in_a_row = self.m, 0, 0
@@ -213,9 +222,10 @@ class Pool:
 
     # the calls
 
-    def set_up(self, page_size, position):
+    def set_up(self, page_size, position, cap):
         m, n = self.m, self.m.n
-        m.control[:] = [page_size, 0, 0, position, position]
+        refuse(18, not self.cap_fits(cap))
+        m.control[:] = [page_size, 0, 0, position, position, cap]
         m.states[:], m.names[:] = [0] * n, [0] * (NAME_WORDS * n)
         m.free[:] = list(range(1, n)) + [-1]
         m.heads[:], m.chain[:] = [-1] * len(m.heads), [-1] * n
@@ -226,7 +236,7 @@ class Pool:
         i = self.held(name)
         if i is not None:
             refuse(5, pins(m.states[i]) == MOST_PINS)
-            m.states[i] += 1 + (USAGE_ONE if usage(m.states[i]) < self.most_usage else 0)
+            m.states[i] = self.raised(m.states[i], self.cap()) + 1
             return i, 1, 0, 0
         wrote = probes = 0
         if m.control[TOP] != NO_TOP:

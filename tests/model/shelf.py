@@ -5,7 +5,7 @@ the program's, and the ledger takes whether the pin wrote. Bytes of blocks are k
 Where the pool's bytes are compared with the shelf's, bytes 8 and 9 of a page are left out: only the store's have a checksum.
 """
 from checksum import bare, checksum, unpack_sum
-from memory import BLOCK, BLOCKS, CAPACITY, FILE_WORDS, FLUSHED, INSERTED, P, ROW_WORDS, Memory
+from memory import BLOCK, BLOCKS, CAP, CAPACITY, FILE_WORDS, FLUSHED, INSERTED, P, ROW_WORDS, Memory
 from pool import MOST_PINS, Refused, pack_position, peeked, refuse, unpack_position
 
 
@@ -29,7 +29,7 @@ class Shelf:
         self.counts, self.holds = {}, {}
         self.bad = self.bad_pages()
         # the ledger
-        self.dirty, self.last, self.flushed = set(), {}, memory.control[FLUSHED]
+        self.dirty, self.last, self.flushed, self.cap = set(), {}, memory.control[FLUSHED], memory.control[CAP]
 
     def bad_pages(self):
         """Those that came in bad."""
@@ -176,10 +176,12 @@ def differs(shelf, call, before, outcome):
     want('rows', after.rows == shelf.files.rows)
     want('inserted', after.control[INSERTED] == shelf.inserted)
     want('flushed', after.control[FLUSHED] == shelf.flushed)
+    want('cap', after.control[CAP] == shelf.cap)
     if expected == 0 and call[0] == 'pin':
         held = number_of.get(tuple(call[1]))
         buffer = outcome.answer[0]
         want('buffer', buffer == held if held is not None else buffer < shelf.n and buffer not in earlier)
+        want('probes', outcome.answer[3] <= (shelf.cap + 1) * shelf.n)
     if expected == 0 and call[0] in ('flush', 'checkpoint'):
         want('count', outcome.answer[0] == len(put))
     if expected == 0 and call[0] == 'extend':

@@ -1,14 +1,11 @@
 """Planted errors: models that are wrong in one thing each. Each must give a theorem that the checker refuses."""
 import struct
 
+import cap_slips
 from checksum import AT, checksum, pack_sum, summed, unpack_sum, with_sum
 from memory import BLOCK, BLOCKS, CAPACITY, FILE_WORDS, HAND, NO_TOP, ROW_WORDS, TOP
-from pool import DIRTY, MOST_USAGE, USAGE_ONE, Pool, Refused, name_bytes, pins, refuse, usage
+from pool import DIRTY, USAGE_ONE, Pool, Refused, name_bytes, pins, refuse, usage
 from shelf import Shelf, came_bad
-
-
-class UsageUpToSix(Pool):
-    most_usage = MOST_USAGE + 1
 
 
 class SweepLowersPinned(Pool):
@@ -229,8 +226,8 @@ class VerifiesHeldPages(Pool):
 # books and sizes, seen in damaged memories
 
 class BooksTakeAnyFlag(Pool):
-    def word_sound(self, word):
-        return super().word_sound(word) or super().word_sound(word & ~(1 << 27))
+    def word_sound(self, word, cap):
+        return super().word_sound(word, cap) or super().word_sound(word & ~(1 << 27), cap)
 
 
 class BooksTakeLongLinks(Pool):
@@ -324,17 +321,19 @@ class LedgerCountsVictimLate(Shelf):
         return [tuple(call[1])] if call[0] == 'pin' and back else back
 
 
-POOLS = [UsageUpToSix, SweepLowersPinned, SweepLowersThenTests, PositionAsOneNumber, DropPushesFalling, WriteBackForgetsFlushed,
+POOLS = [*cap_slips.POOLS, SweepLowersPinned, SweepLowersThenTests, PositionAsOneNumber, DropPushesFalling, WriteBackForgetsFlushed,
          WriteBackLeavesJustDirtied, VictimIsReloadedFirst, ChainEntersAtTail, HashMultipliesFirst, ExtendKeepsBytes, SealsNothing,
          SealsByPlace, VerifiesByPlace, SealsHighByteFirst, SealsThePoolToo, SealsWithOneRoundOfZeros, SumsItsOwnBytes,
          PassesWithoutChecksum, RefusesZeros, PinVerifiesNothing, PeekVerifiesNothing, SeventeenBelowSix, SeventeenAboveFour,
          SweepsBeforeItVerifies, SealsZeros, TakesMarkedZerosForZeros]
 LENT = [VerifiesHeldPages]
-BOOKS = [BooksTakeAnyFlag, BooksTakeLongLinks, SizesTakeLongerStore]
-SHELVES = [ShelfSixForPinned, ShelfBadForEver, ShelfBadAboveTheCount, ShelfBadByPlace, ShelfGoodWithoutChecksum, ShelfSixAboveSeventeen,
-           ShelfPeeksAtBad, LedgerKeepsDroppedDirty, LedgerCountsVictimLate]
+BOOKS = [*cap_slips.BOOKS, BooksTakeAnyFlag, BooksTakeLongLinks, SizesTakeLongerStore]
+SET_UPS = cap_slips.SET_UPS
+SHELVES = [*cap_slips.SHELVES, ShelfSixForPinned, ShelfBadForEver, ShelfBadAboveTheCount, ShelfBadByPlace, ShelfGoodWithoutChecksum,
+           ShelfSixAboveSeventeen, ShelfPeeksAtBad, LedgerKeepsDroppedDirty, LedgerCountsVictimLate]
 # what the claim about pool and shelf has to say of a wrong pool in Python
-CLAIMED = {'sums': [SealsNothing, SealsByPlace, SealsHighByteFirst, SealsWithOneRoundOfZeros, SumsItsOwnBytes,
+CLAIMED = {**cap_slips.CLAIMED,
+           'sums': [SealsNothing, SealsByPlace, SealsHighByteFirst, SealsWithOneRoundOfZeros, SumsItsOwnBytes,
                     TakesMarkedZerosForZeros],
            'number': [VerifiesByPlace, PassesWithoutChecksum, RefusesZeros, PinVerifiesNothing, PeekVerifiesNothing, SeventeenBelowSix,
                       SeventeenAboveFour],

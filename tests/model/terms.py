@@ -114,9 +114,10 @@ class Start:
         return self.record(words(self.control), shared)
 
     def memory_term(self, shared=str):
-        size, hand, top, inserted, flushed = self.control
+        size, hand, top, inserted, flushed, cap = self.control
         top = link(-1 if top == NO_TOP else top)
-        return self.record(f'record {{ size = {size}; hand = {hand}; top = {top}; inserted = {inserted}; flushed = {flushed} }}', shared)
+        log = f'inserted = {inserted}; flushed = {flushed}'
+        return self.record(f'record {{ size = {size}; hand = {hand}; top = {top}; {log}; cap = {cap} }}', shared)
 
     def record(self, control, shared):
         pool, store = map(shared, map(bytes_term, (self.pool, self.store)))
@@ -157,7 +158,7 @@ def ledger_seen(shelf, number, put):
 
     def found(numbered):
         return [1 + shelf.files.place(numbered[b]) if b in numbered else 0 for b in range(shelf.n)]
-    return [[number, len(shelf.pinned()), shelf.inserted, shelf.flushed], among(shelf, shelf.dirty), among(shelf, put),
+    return [[number, len(shelf.pinned()), shelf.inserted, shelf.flushed, shelf.cap], among(shelf, shelf.dirty), among(shelf, put),
             [counts.get(g, 0) for g in places], found(shelf.holds), found(shelf.last), list(shelf.files.rows)]
 
 

@@ -11,12 +11,13 @@ import re
 import shutil
 import sys
 
+import cap_slips
 import damage
 import limits
 import slips
 from checksum import checksum
-from events import ONLY_SOUND, WANTED, events, left_out
-from lists import BY_HAND, after_set_up, from_sound, run, set_up
+from events import AT_CAPS, ONLY_SOUND, WANTED, events, left_out
+from lists import BY_HAND, CAPS, after_set_up, from_sound, run, set_up
 from memory import P
 from pool import Pool
 from shelf import Shelf, came_bad, differs
@@ -24,10 +25,10 @@ from terms import call_term, lent_books, lent_seen, list_seen, listed, numbers, 
 
 # seeds of lists in which much happens, with few checksums: the checker takes a third of a second for each
 AFTER_SET_UP = [
-    BY_HAND, 299, 425, 571, 1501, 1730, 1861, 1930, 2576, 2657, 2763, 2823, 3419, 3507, 3951, 4068, 4205, 4653, 4794, 5006, 5112,
-    5157, 5203, 5243, 5570, 5789, 6148, 6484, 6511, 6632, 6991, 7150, 7512, 8235, 8238, 8448, 9689, 10205, 10366, 10455, 10592, 10679,
-    10846, 11525, 11581, 11627, 11644, 11715]
-FROM_SOUND = [348, 660, 661, 728, 935, 1390, 1456, 1490, 1521, 1695, 1997, 2038, 2178, 2311, 2518, 2713]
+    BY_HAND, *CAPS, 122, 197, 510, 537, 579, 585, 612, 1276, 1442, 3126, 3626, 3821, 3887, 4413, 4726, 5331, 5358, 5875, 5923, 5968,
+    6019, 6421, 6838, 6918, 6998, 7200, 7285, 7327, 7354, 7647, 7682, 7867, 8125, 8144, 8542, 10132, 10355, 10405, 10634, 10764,
+    11248, 11704]
+FROM_SOUND = [111, 231, 1110, 1281, 1378, 1401, 1557, 1930, 1976, 2046, 2127, 2348, 2401, 2478, 2836, 2900]
 BELOW = ['laws', 'bufhash', 'buftag', 'bufmodel', 'shelf']
 
 HEAD = '''-- Written by tests/model/vectors.py.
@@ -115,8 +116,8 @@ def seen_crate(room):
 
 def observed(seed, pool_class=Pool, shelf_class=Shelf):
     """What the model gives for the list of this seed."""
-    made, size, position, calls = after_set_up(seed)
-    memory = set_up(made, size, position)
+    made, given, calls = after_set_up(seed)
+    memory = set_up(made, given)
     return list_seen(shelf_class(memory), calls, run(pool_class, memory, calls))
 
 
@@ -126,10 +127,11 @@ def calls_term(calls):
 
 def define_list(module, seed):
     """The definitions of a list; gives the term of what is seen of it."""
-    made, size, position, calls = after_set_up(seed)
+    made, given, calls = after_set_up(seed)
+    start = ' '.join([f'start-{seed}', *map(str, given)])
     module.define(f'start-{seed}', 'Memory', made.memory_term())
     module.define(f'calls-{seed}', 'List Call', calls_term(calls))
-    return f'listSeen (setUp start-{seed} {size} {position} .after) (firstLedger start-{seed} {size} {position}) calls-{seed}'
+    return f'listSeen (setUp {start} .after) (firstLedger {start}) calls-{seed}'
 
 
 def shelf_observed(seed, shelf_class=Shelf):
@@ -157,8 +159,8 @@ def happenings(memory, calls):
 
 def agree_in_python(seed):
     """Pool and shelf on the list of this seed, and what happens where bytes are left out between them."""
-    made, size, position, calls = after_set_up(seed)
-    memory = set_up(made, size, position)
+    made, given, calls = after_set_up(seed)
+    memory = set_up(made, given)
     shelf = Shelf(memory)
     for call, o in zip(calls, run(Pool, memory, calls)):
         wrong = differs(shelf, call, memory, o)
@@ -177,23 +179,24 @@ def write_lists(room, unfolding):
     for k, seeds in enumerate(eights(AFTER_SET_UP)):
         module, count = Module(f'Lists{k + 1}', unfolding), 0
         for seed in seeds:
-            made, size, position, calls = after_set_up(seed)
-            happened |= {*agree_in_python(seed), *happenings(set_up(made, size, position), calls)}
+            made, given, calls = after_set_up(seed)
+            happened |= {*agree_in_python(seed), *happenings(set_up(made, given), calls)}
             module.state(f'list-{seed}', define_list(module, seed), numbers(observed(seed)))
             count += len(calls)
         crate.add(module, f'{len(seeds)} lists, {count} calls after set up, on the pool, the shelf and the ledger')
     if WANTED - ONLY_SOUND - happened:
         sys.exit(f'the lists after set up miss: {sorted(WANTED - ONLY_SOUND - happened)}')
+    from_these = set()
     for k, seeds in enumerate(eights(FROM_SOUND)):
         module, count = Module(f'Sound{k + 1}', unfolding), 0
         for seed in seeds:
             made, calls = from_sound(seed)
-            happened |= set(happenings(made.memory(), calls))
+            from_these |= set(happenings(made.memory(), calls))
             module.state(f'lent-{seed}', define_lent(module, seed), numbers(lent_observed(seed)))
             count += len(calls)
         crate.add(module, f'{len(seeds)} lists, {count} calls from a sound memory, as C makes them')
-    if WANTED - happened:
-        sys.exit(f'the lists miss: {sorted(WANTED - happened)}')
+    if (ONLY_SOUND | AT_CAPS) - from_these:
+        sys.exit(f'the lists from sound memories miss: {sorted((ONLY_SOUND | AT_CAPS) - from_these)}')
 
 
 def write_apart(room, seed):
@@ -203,7 +206,7 @@ def write_apart(room, seed):
     module.define('seen', 'List (List (List ℕ))', define_list(module, seed))
     for k, one in enumerate(observed(seed)):
         module.state(f'part-{k}', f'getD seen {k} []', numbers(one))
-    crate.add(module, '; '.join(f'part-{k} {call_term(call)}' for k, call in enumerate(after_set_up(seed)[3])))
+    crate.add(module, '; '.join(f'part-{k} {call_term(call)}' for k, call in enumerate(after_set_up(seed)[2])))
 
 
 # damaged memories and limits
@@ -213,12 +216,16 @@ def judged(start, calls, pool_class=Pool):
     def call(one):
         return pool_class(start.memory()).call(one, (9, 8, 7, 6))
     size = start.control[P] if start.control else 1024
-    set_up, outcomes = call(('set_up', size, 7)), [call(one) for one in calls]
+    set_up, outcomes = call(('set_up', size, 7, 3)), [call(one) for one in calls]
     seen = [[set_up.number, *set_up.answer], *([o.number, *o.answer, *o.own] for o in outcomes), *lent_books(outcomes[0].memory)]
     return f'{size} ({call_term(calls[0])}) {calls_term(calls[1:])}', seen
 
 
-def state_set_up(module, j, start, size, position, answer, o):
+def set_up_seen(o):
+    return [[o.number, *o.answer], *lent_books(o.memory)]
+
+
+def state_set_up(module, name, start, given, answer, o):
     """A set-up. A pool or store that is too large to compute with is any list of that length."""
     large = []
 
@@ -226,10 +233,10 @@ def state_set_up(module, j, start, size, position, answer, o):
         zeros = re.fullmatch(r'\(fill (\d{6,}) 0 \(\[\]\)\)', term)
         large.extend(zeros.groups() if zeros else [])
         return 'bytes' if zeros else module.shared(term)
-    lent, seen = start.lent_term(shared), listed(map(words, [[o.number, *o.answer], *lent_books(o.memory)]))
-    module.define(f'lent-{j}', 'List ℕ → Lent', f'λ bytes. {lent}')
-    given = f'(bytes : List ℕ) → length bytes ≡ {large[0]} → ' if large else '(bytes : List ℕ) → '
-    module.state(f'set-up-{j}', f'{given}setUpSeen (lent-{j} bytes) {size} {position} {numbers(answer)}', seen,
+    module.define(f'{name}-lent', 'List ℕ → Lent', f'λ bytes. {start.lent_term(shared)}')
+    every = f'(bytes : List ℕ) → length bytes ≡ {large[0]} → ' if large else '(bytes : List ℕ) → '
+    made = ' '.join([f'({name}-lent bytes)', *map(str, given), numbers(answer)])
+    module.state(name, f'{every}setUpSeen {made}', listed(map(words, set_up_seen(o))),
                  'λ bytes e. rw e refl' if large and not o.number else 'λ bytes e. refl' if large else 'λ bytes. refl')
 
 
@@ -246,8 +253,8 @@ def write_damage(room, unfolding):
             broken += seen[1][0] in (1, 2)
         crate.add(module, f'{broken} damaged memories and {len(some) - broken} at the edge of a rule, with 3 calls and set up each')
     module = Module('SetUps', unfolding)
-    for j, one in enumerate(limits.checked_set_ups()):
-        state_set_up(module, j, *one)
+    for j, one in enumerate(limits.checked([*limits.set_ups(), *limits.caps()])):
+        state_set_up(module, f'set-up-{j}', *one)
     crate.add(module, f'{j + 1} set-ups at the limits')
     write_limits(crate, Module('Limits', unfolding))
     write_sums(crate, Module('Sums', unfolding))
@@ -302,8 +309,8 @@ def first_wrong(slip, seeds, seen):
 def claimed(slip):
     """What the claim about pool and shelf has to say of a wrong pool."""
     for seed in AFTER_SET_UP:
-        made, size, position, calls = after_set_up(seed)
-        memory = set_up(made, size, position)
+        made, given, calls = after_set_up(seed)
+        memory = set_up(made, given)
         shelf = Shelf(memory)
         for call, o in zip(calls, run(slip, memory, calls)):
             wrong = differs(shelf, call, memory, o)
@@ -314,15 +321,16 @@ def claimed(slip):
 
 
 def planted():
-    """The wrong models of slips.py; each has to be in one of its lists."""
-    return {one for one in vars(slips).values() if isinstance(one, type) and issubclass(one, (Pool, Shelf))} - {Pool, Shelf}
+    """The wrong models of both files; each has to be in one of the lists."""
+    every = [*vars(slips).values(), *vars(cap_slips).values()]
+    return {one for one in every if isinstance(one, type) and issubclass(one, (Pool, Shelf))} - {Pool, Shelf}
 
 
 def write_slips(room, unfolding):
-    if planted() != {*slips.POOLS, *slips.LENT, *slips.BOOKS, *slips.SHELVES}:
-        sys.exit('slips.py has a planted error that is in none of its lists')
+    if planted() != {*slips.POOLS, *slips.LENT, *slips.BOOKS, *slips.SET_UPS, *slips.SHELVES}:
+        sys.exit('there is a planted error that is in none of the lists')
     crate = Crate(room, 'model_slips', [*BELOW, 'model_seen'])
-    shortest = sorted(AFTER_SET_UP, key=lambda seed: len(after_set_up(seed)[3]))
+    shortest = sorted(AFTER_SET_UP, key=lambda seed: len(after_set_up(seed)[2]))
     for slip in [*slips.POOLS, *slips.SHELVES]:
         seed, wrong = first_wrong(slip, shortest, observed if slip in slips.POOLS else shelf_observed)
         module = Module(slip.__name__, unfolding)
@@ -337,6 +345,11 @@ def write_slips(room, unfolding):
         for slip in pools:
             if word not in claimed(slip):
                 sys.exit(f'{slip.__name__}: pool and shelf do not differ in {word} in Python')
+    write_memory_slips(crate, unfolding)
+    write_set_up_slips(crate, unfolding)
+
+
+def write_memory_slips(crate, unfolding):
     for slip in slips.BOOKS:
         apart = [one for one in damage.damaged() if judged(*one[1:]) != judged(*one[1:], slip)]
         if not apart:
@@ -347,6 +360,18 @@ def write_slips(room, unfolding):
         term, seen = judged(start, calls, slip)
         module.state('wrong', f'judged lent {term}', numbers(seen))
         crate.add(module, f'shows in {len(apart)} memories, the first: {name}')
+
+
+def write_set_up_slips(crate, unfolding):
+    for slip in slips.SET_UPS:
+        made = [(start, given, answer, o, slip(start.memory()).call(('set_up', *given), answer))
+                for start, given, answer, o in limits.checked(limits.caps())]
+        apart = [(*one, wrong) for *one, o, wrong in made if set_up_seen(o) != set_up_seen(wrong)]
+        if not apart:
+            sys.exit(f'{slip.__name__} shows in no set-up')
+        module = Module(f'SetUp{slip.__name__}', unfolding)
+        state_set_up(module, 'wrong', *apart[0])
+        crate.add(module, f'shows in {len(apart)} set-ups, the first with {apart[0][1]}')
 
 
 def main():

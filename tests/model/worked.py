@@ -12,16 +12,16 @@ THREE = [('pin', KEY + (block,)) for block in range(3)]
 UNPINNED = THREE + [('unpin', buffer) for buffer in range(3)]
 
 
-def worked_pool():
-    """N = 3, B = 3, P = 1024, log 100; one file with 4 blocks of zeros, capacity 5."""
+def worked_pool(cap):
+    """N = 3, B = 3, P = 1024, log 100; one file with 4 blocks of zeros, capacity 5. On the bench the cap is 5."""
     lent = Memory([0] * CONTROL_WORDS, [7] * 3, [7] * (3 * NAME_WORDS), bytearray(3072), [7] * 3, [7] * 3, [7] * 3, [*KEY, 4, 5],
                   bytearray(5120))
-    return Pool(lent).call(('set_up', 1024, 100)).memory
+    return Pool(lent).call(('set_up', 1024, 100, cap)).memory
 
 
-def seen(calls, last=1):
+def seen(calls, last=1, cap=5):
     """The numbers and answers of the last calls of a list, and the memory afterwards."""
-    outcomes = run(Pool, worked_pool(), calls)
+    outcomes = run(Pool, worked_pool(cap), calls)
     return [(o.number, o.answer) for o in outcomes[-last:]], outcomes[-1].memory
 
 
@@ -78,8 +78,9 @@ def cases():
     yield 'E, then', (answers, m.control[HAND]), ([(0, [1, 0, 0, 1])], 2)
     yield 'F', seen([pin(0)] * 6)[1].states[0], 0x83140006
     yield 'G', seen([*THREE, write(8, b'x')])[1].states[0], 0x93840001
-    answers, _ = seen([*THREE, *[pin(2)] * 4, *[('unpin', 2)] * 5, pin(3)])
-    yield 'H', answers, [(0, [2, 0, 0, 18])]
+    for cap, probes in [(5, 18), (1, 6), (2, 9), (14, 45), (15, 48)]:
+        answers, _ = seen([*THREE, *[pin(2)] * (cap - 1), *[('unpin', 2)] * cap, pin(3)], cap=cap)
+        yield f'H, cap {cap}', answers, [(0, [2, 0, 0, probes])]
     write_90 = [*THREE, write(10, bytes([77, 78]), 90), ('flush', 0)]
     yield 'a page written back', seen(write_90)[1].store[4:12].hex(), '5a0000008d8e4d4e'
     yield 'its pool page', seen(write_90)[1].pool[4:12].hex(), '5a00000000004d4e'
