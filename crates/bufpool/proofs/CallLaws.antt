@@ -16,14 +16,14 @@ use Rattle.bufmodel.proofs.AnsweredLaws.{by-case}
 use Rattle.bufpool.proofs.ExportLaws.{Early, under, endedBy}
 
 -- ---- set up: it looks at no control record
-module _ (p at : ℕ) where
+module _ (p at cap : ℕ) where
   ended-like : (l : Lent) (k : ℕ) (a b : Memory) (o : Outcome)
       → endedBy l (outcome k [] a o) ≡ endedBy l (outcome k [] b o)
   unfolding outcome ended
   ended-like l zero a b o = refl
   ended-like l (suc k) a b o = refl
 
-  pub set-up-read : (l : Lent) (c : Control) → endedBy l (setUp (under c l) p at) ≡ endedBy l (setUp (opened l) p at)
+  pub set-up-read : (l : Lent) (c : Control) → endedBy l (setUp (under c l) p at cap) ≡ endedBy l (setUp (opened l) p at cap)
   unfolding setUp fresh sizedFor opened
   set-up-read l c = ended-like l _ (under c l) (opened l) _
 

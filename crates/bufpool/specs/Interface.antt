@@ -3,4 +3,4 @@
 use Prim.Native.Nat.{ℕ}
 
 abbrev pub interface : ℕ
-interface = 2
+interface = 3

@@ -28,13 +28,14 @@ pub extern "C" fn bufpool_set_up(
     store: &[u8],
     page_size: u64,
     position: u64,
+    cap: u64,
     answer: &mut [u64],
 ) -> u32
     ensures { λ r.
         ⌜ ends r (now (answer .exit)) []
         (lent (now (control .exit)) (now (states .exit)) (now (names .exit)) (now (pool .entry)) (now (free .exit))
         (now (heads .exit)) (now (chain .exit)) (now (rows .entry)) (now (store .entry)))
-        ≡ called (λ m. setUp m «page_size» position)
+        ≡ called (λ m. setUp m «page_size» position cap)
         (lent (now (control .entry)) (now (states .entry)) (now (names .entry)) (now (pool .entry)) (now (free .entry))
         (now (heads .entry)) (now (chain .entry)) (now (rows .entry)) (now (store .entry))) [] (now (answer .entry)) ⌝ }
 {
@@ -56,6 +57,7 @@ pub extern "C" fn bufpool_set_up(
         store,
         page_size as usize,
         position,
+        cap as usize,
     );
     let answered = end.answer;
     let r = put_accepted(answer, answered);

@@ -35,7 +35,11 @@ put-pinned-requires : tie.Need-put-pinned-requires
 put-pinned-requires c κs = search needs
 
 keep-control-requires : tie.Need-keep-control-requires
-keep-control-requires c κs = search needs
+keep-control-requires c κs =
+    let at-put-pinned = c .before .before .before in
+    let at-pin-page = at-put-pinned .before .before .before .before .before .before .before .before .before .before .before .before .before in
+    let at-if2 = at-pin-page .before .before .before .before .before .before .before .before .before .before .before in
+    at-if2 .if2 .left
 
 same-length-2 : tie.Need-same-length-2
 same-length-2 c = search needs

@@ -65,7 +65,7 @@ returns-3 c =
     let p = at-put-accepted .put-accepted .ensures in
     let u = at-set-up-pool .set-up-pool .ensures in
     rw (at-keep-control .keep-control .ensures)
-    (export-made _ _ _ _ (at-if1 .if1 .left) (at-if2 .if2 .left) (set-up-read _ _ _ _) (set-up-answers _ _ _)
+    (export-made _ _ _ _ (at-if1 .if1 .left) (at-if2 .if2 .left) (set-up-read _ _ _ _ _) (set-up-answers _ _ _ _)
     (p .0 ∙ u .1 .0) (p .1 ∙ u .1 .1 .0) (u .1 .1 .1))
 
 pub bufpool-set-up-spec : {M : Type 1} → statement M
