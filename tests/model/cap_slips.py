@@ -33,15 +33,6 @@ class BooksTakeFive(Pool):
         return super().word_sound(word, 5)
 
 
-class SweepsSixEach(Pool):
-    """It gives up after six probes for each buffer, which are enough for cap 5."""
-
-    def sweep(self):
-        victim, probes = super().sweep()
-        refuse(6, probes > 6 * self.m.n)
-        return victim, probes
-
-
 class CapInWordFour(Pool):
     def cap(self):
         return self.m.control[FLUSHED]
@@ -60,6 +51,17 @@ class CheckpointSetsFive(Pool):
     def checkpoint(self):
         self.m.control[CAP] = 5
         return super().checkpoint()
+
+
+# seen from a sound memory
+
+class SweepsSixEach(Pool):
+    """It gives up after six probes for each buffer, which are enough for cap 5."""
+
+    def sweep(self):
+        victim, probes = super().sweep()
+        refuse(6, probes > 6 * self.m.n)
+        return victim, probes
 
 
 # seen in damaged memories, the first three at set up too
@@ -87,6 +89,15 @@ class BooksTakeAnyCap(Pool):
         return super().books_sound()
 
 
+class SizesTakeFiveWords(Pool):
+    """A control record without the cap, which is 5 then."""
+
+    def sizes_fit(self, page_size):
+        if len(self.m.control) == CAP:
+            self.m.control.append(5)
+        return super().sizes_fit(page_size)
+
+
 # at set up
 
 class EighteenAboveOne(Pool):
@@ -106,6 +117,16 @@ class LeavesCap(Pool):
         self.m.control[CAP] = before
 
 
+class StoresBadCap(Pool):
+    """Where it refuses it."""
+
+    def call(self, call, answer):
+        outcome = super().call(call, answer)
+        if outcome.number == 18:
+            outcome.memory.control[CAP] = call[3]
+        return outcome
+
+
 # the ledger
 
 class LedgerTakesFive(Shelf):
@@ -114,9 +135,9 @@ class LedgerTakesFive(Shelf):
         self.cap = 5
 
 
-POOLS = [RaisesWithoutCap, RaisesPastCap, UsagePastCap, RaisesToFive, BooksTakeFive, SweepsSixEach, CapInWordFour, PinRaisesCap,
-         CheckpointSetsFive]
-BOOKS = [TakesCapZero, TakesCapSixteen, CutsCap, BooksTakeAnyCap]
-SET_UPS = [TakesCapZero, TakesCapSixteen, CutsCap, EighteenAboveOne, LeavesCap]
+POOLS = [RaisesWithoutCap, RaisesPastCap, UsagePastCap, RaisesToFive, BooksTakeFive, CapInWordFour, PinRaisesCap, CheckpointSetsFive]
+LENT = [SweepsSixEach]
+BOOKS = [TakesCapZero, TakesCapSixteen, CutsCap, BooksTakeAnyCap, SizesTakeFiveWords]
+SET_UPS = [TakesCapZero, TakesCapSixteen, CutsCap, EighteenAboveOne, LeavesCap, StoresBadCap]
 SHELVES = [LedgerTakesFive]
 CLAIMED = {'cap': [PinRaisesCap, CheckpointSetsFive], 'probes': [UsagePastCap]}

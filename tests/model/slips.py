@@ -326,7 +326,7 @@ POOLS = [*cap_slips.POOLS, SweepLowersPinned, SweepLowersThenTests, PositionAsOn
          SealsByPlace, VerifiesByPlace, SealsHighByteFirst, SealsThePoolToo, SealsWithOneRoundOfZeros, SumsItsOwnBytes,
          PassesWithoutChecksum, RefusesZeros, PinVerifiesNothing, PeekVerifiesNothing, SeventeenBelowSix, SeventeenAboveFour,
          SweepsBeforeItVerifies, SealsZeros, TakesMarkedZerosForZeros]
-LENT = [VerifiesHeldPages]
+LENT = [*cap_slips.LENT, VerifiesHeldPages]
 BOOKS = [*cap_slips.BOOKS, BooksTakeAnyFlag, BooksTakeLongLinks, SizesTakeLongerStore]
 SET_UPS = cap_slips.SET_UPS
 SHELVES = [*cap_slips.SHELVES, ShelfSixForPinned, ShelfBadForEver, ShelfBadAboveTheCount, ShelfBadByPlace, ShelfGoodWithoutChecksum,

@@ -25,9 +25,9 @@ from terms import call_term, lent_books, lent_seen, list_seen, listed, numbers, 
 
 # seeds of lists in which much happens, with few checksums: the checker takes a third of a second for each
 AFTER_SET_UP = [
-    BY_HAND, *CAPS, 122, 197, 510, 537, 579, 585, 612, 1276, 1442, 3126, 3626, 3821, 3887, 4413, 4726, 5331, 5358, 5875, 5923, 5968,
-    6019, 6421, 6838, 6918, 6998, 7200, 7285, 7327, 7354, 7647, 7682, 7867, 8125, 8144, 8542, 10132, 10355, 10405, 10634, 10764,
-    11248, 11704]
+    BY_HAND, *CAPS, 197, 379, 537, 579, 585, 612, 1105, 1407, 1442, 2330, 2427, 2668, 3126, 3279, 3821, 4139, 4718, 4726, 4899, 5358,
+    5809, 5875, 6019, 6421, 6836, 6838, 6918, 7285, 7354, 7867, 8542, 8894, 8906, 9034, 10090, 10132, 10187, 10355, 10405, 10634,
+    11066, 11248]
 FROM_SOUND = [111, 231, 1110, 1281, 1378, 1401, 1557, 1930, 1976, 2046, 2127, 2348, 2401, 2478, 2836, 2900]
 BELOW = ['laws', 'bufhash', 'buftag', 'bufmodel', 'shelf']
 
@@ -350,8 +350,9 @@ def write_slips(room, unfolding):
 
 
 def write_memory_slips(crate, unfolding):
+    every = [*damage.damaged()]
     for slip in slips.BOOKS:
-        apart = [one for one in damage.damaged() if judged(*one[1:]) != judged(*one[1:], slip)]
+        apart = [one for one in every if judged(*one[1:]) != judged(*one[1:], slip)]
         if not apart:
             sys.exit(f'{slip.__name__} shows in no damaged memory')
         name, start, calls = apart[0]

@@ -76,7 +76,8 @@ def cases():
     yield 'E', (answers, m.control[HAND]), ([(0, [0, 0, 0, 4])], 1)
     answers, m = seen([*UNPINNED, pin(3), pin(0)])
     yield 'E, then', (answers, m.control[HAND]), ([(0, [1, 0, 0, 1])], 2)
-    yield 'F', seen([pin(0)] * 6)[1].states[0], 0x83140006
+    for cap, word in [(5, 0x83140006), (1, 0x83040006), (2, 0x83080006), (14, 0x83180006), (15, 0x83180006)]:
+        yield f'F, cap {cap}', seen([pin(0)] * 6, cap=cap)[1].states[0], word
     yield 'G', seen([*THREE, write(8, b'x')])[1].states[0], 0x93840001
     for cap, probes in [(5, 18), (1, 6), (2, 9), (14, 45), (15, 48)]:
         answers, _ = seen([*THREE, *[pin(2)] * (cap - 1), *[('unpin', 2)] * cap, pin(3)], cap=cap)
