@@ -8,7 +8,7 @@ EXPORT = re.compile(r'#\[no_mangle\]\npub extern "C" fn (\w+)\((.*?)\) -> u32\n(
 SLICES = ['control', 'states', 'names', 'pool', 'free', 'heads', 'chain', 'rows', 'store']
 # each call with its arguments, as the equations of Made.antt.in have it, and the caller's own bytes
 CALLS = {
-    'bufpool_set_up': ('setUp m «page_size» position «cap»', None),
+    'bufpool_set_up': ('setUp m «page_size» position cap', None),
     'bufpool_pin': ('pin m (nameOf tablespace database relation fork block)', None),
     'bufpool_unpin': ('unpin m buffer', None),
     'bufpool_read': ('read m buffer from (now (out .entry))', 'out'),
