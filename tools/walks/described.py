@@ -5,11 +5,11 @@ DESCRIBED = {
         'stored': 'hand, top and log positions',
         # for each call the law of SizeLaws by which it leaves the other fields
         'laws': {
-            'pin': 'pin-size',
-            'flush': 'flush-size',
-            'checkpoint': 'checkpoint-size',
-            'log_inserted_to': 'inserted-size',
-            'log_flushed_to': 'flushed-size',
+            'pin': 'pin-fixed',
+            'flush': 'flush-fixed',
+            'checkpoint': 'checkpoint-fixed',
+            'log_inserted_to': 'inserted-fixed',
+            'log_flushed_to': 'flushed-fixed',
         },
     },
 }

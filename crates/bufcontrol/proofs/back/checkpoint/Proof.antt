@@ -49,7 +49,7 @@ use denote.Exit.{yes}
 use Rattle.bufmodel.specs.Memory.{memory}
 use Rattle.bufmodel.specs.Answer.{writtenNumber, writtenWords, writtenOf}
 use Rattle.bufmodel.specs.Calls.{checkpoint}
-use Rattle.bufcontrol.proofs.SizeLaws.{checkpoint-size}
+use Rattle.bufcontrol.proofs.SizeLaws.{checkpoint-fixed}
 use Rattle.bufmodel.specs.declared.control.Control.{Control}
 use Rattle.bufcalls.specs.declared.ends.WrittenEnd.{WrittenEnd}
 use Rattle.bufmodel.specs.declared.answer.Written.{Written}
@@ -181,7 +181,7 @@ module _ {M : Type 1} (𝓤 : URA M) (H : Heap 𝓤) (A : Atoms 𝓤) (W : Given
       suffices ! _ (ends-at 𝓤 H A f.ended stayed (f.clauses 𝓤 H A at-mem run) W ((lfts, shares, tt, x, at), tt) (mach-answer (r .answer))
       (r .answer) (back h (r .control), (Zstates, (tt, (tt, (tt, (tt, (tt, (tt, (Zstore, tt)))))))))
       (tt, (len-states, (tt, (tt, (tt, (tt, (tt, (tt, (len-store, tt)))))))))) $
-      says-all ! _ (_ ∷ _ ∷ _ ∷ []) (e1 ▹ e2 ▹ e3 ▹ stored h (r .control) _ _ _ _ _ _ _ _ _ e4 (checkpoint-size _)) $
+      says-all ! _ (_ ∷ _ ∷ _ ∷ []) (e1 ▹ e2 ▹ e3 ▹ stored h (r .control) _ _ _ _ _ _ _ _ _ e4 (checkpoint-fixed _)) $
       move ! (2 ∷ 3 ∷ []) $ join ! $ frame ! $ feqI ! (List Val) (vptr b o ∷ []) (vptr b o ∷ []) refl $ fjoin3 ! $ nothing ! $
       move ! (3 ∷ 0 ∷ []) $ fjoin ! $ move ! (8 ∷ 0 ∷ []) $ fjoin ! $ move ! (7 ∷ 0 ∷ []) $ fjoin ! $ move ! (6 ∷ 0 ∷ []) $
       fjoin ! $ move ! (5 ∷ 0 ∷ []) $ fjoin ! $ move ! (4 ∷ 0 ∷ []) $ fjoin ! $ move ! (3 ∷ 0 ∷ []) $ fjoin ! $

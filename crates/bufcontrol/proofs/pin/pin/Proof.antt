@@ -49,7 +49,7 @@ use denote.Exit.{yes}
 use Rattle.bufmodel.specs.Memory.{memory}
 use Rattle.bufmodel.specs.Answer.{pinnedNumber, pinnedWords, pinnedOf}
 use Rattle.bufmodel.specs.Pin.{pin}
-use Rattle.bufcontrol.proofs.SizeLaws.{pin-size}
+use Rattle.bufcontrol.proofs.SizeLaws.{pin-fixed}
 use Rattle.bufmodel.specs.declared.control.Control.{Control}
 use Rattle.bufpin.specs.declared.ends.PinnedEnd.{PinnedEnd}
 use Rattle.bufmodel.specs.declared.answer.Pinned.{Pinned}
@@ -196,7 +196,7 @@ module _ {M : Type 1} (𝓤 : URA M) (H : Heap 𝓤) (A : Atoms 𝓤) (W : Given
       suffices ! _ (ends-at 𝓤 H A f.ended stayed (f.clauses 𝓤 H A at-mem run) W ((lfts, shares, tt, x, at), tt) (mach-answer (r .answer))
       (r .answer) (back h (r .control), (Zstates, (Znames, (Zpool, (Zfree, (Zheads, (Zchain, (tt, (Zstore, (tt, tt))))))))))
       (tt, (len-states, (len-names, (len-pool, (len-free, (len-heads, (len-chain, (tt, (len-store, (tt, tt))))))))))) $
-      says-all ! _ (_ ∷ _ ∷ _ ∷ []) (e1 ▹ e2 ▹ e3 ▹ stored h (r .control) _ _ _ _ _ _ _ _ _ e4 (pin-size _ name)) $
+      says-all ! _ (_ ∷ _ ∷ _ ∷ []) (e1 ▹ e2 ▹ e3 ▹ stored h (r .control) _ _ _ _ _ _ _ _ _ e4 (pin-fixed _ name)) $
       move ! (2 ∷ 3 ∷ []) $ join ! $ frame ! $ feqI ! (List Val) (vptr b o ∷ []) (vptr b o ∷ []) refl $ fjoin3 ! $ nothing ! $
       owned ! B.the-row (Is B.the-row) (LL.makes B.the-type B′.the-plain 𝓤 H A) name _ is-name $ fjoin ! $
       move ! (8 ∷ 0 ∷ []) $ fjoin ! $ move ! (8 ∷ 0 ∷ []) $ fjoin ! $ move ! (7 ∷ 0 ∷ []) $ fjoin ! $ move ! (6 ∷ 0 ∷ []) $
