@@ -1,4 +1,4 @@
-// Document 01's bench: three buffers, three buckets, one file of four blocks of zeros with room for a fifth, the log at 100.
+// Document 01's bench: three buffers, three buckets, one file of four blocks of zeros with room for a fifth, the log at 100, the cap 5.
 
 use crate::text::say;
 use crate::text::say_accepted;
@@ -13,6 +13,9 @@ const SIZE: usize = 1024;
 
 // The log's position at set-up.
 const POSITION: u64 = 100;
+
+// The cap.
+const CAP: usize = 5;
 
 // The lent memory.
 pub(crate) struct Bench {
@@ -54,6 +57,7 @@ pub(crate) fn set_up() -> Bench {
         &store,
         SIZE,
         POSITION,
+        CAP,
     );
     let control = end.control;
     let answer = end.answer;
@@ -81,5 +85,6 @@ fn no_control() -> Control {
         top: 0,
         inserted: 0,
         flushed: 0,
+        cap: 0,
     }
 }
