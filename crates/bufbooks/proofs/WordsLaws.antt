@@ -65,7 +65,8 @@ words f e = record { fine = f; empty = e }
 module _ (cap : ℕ) (states : List ℕ) (free chain : List ℤ) where
   -- the links as they are read: 32 bits, signed again
   pub fine-read : (i : ℕ) → mag (numberAt free i) < 2 ^ 31 → mag (numberAt chain i) < 2 ^ 31
-      → fine cap (getD states i 0) (toZ w32 (ofZ w32 (numberAt free i))) (toZ w32 (ofZ w32 (numberAt chain i))) ≡ fineAt cap states free chain i
+      → fine cap (getD states i 0) (toZ w32 (ofZ w32 (numberAt free i))) (toZ w32 (ofZ w32 (numberAt chain i)))
+      ≡ fineAt cap states free chain i
   unfolding fineAt
   fine-read i f g = rw (element-back free i f, element-back chain i g)
 

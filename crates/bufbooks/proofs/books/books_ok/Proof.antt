@@ -93,7 +93,8 @@ returns-5 c =
     let p = capped h in
     let s = entry p in
     c .buffers-ok .ensures
-    ∙ books-buffers (lent s) (s .pre) (cap p) (h .if2 .left) (l .before .if3 .left) (sym (l .lists-ok .ensures) ∙ not-false _ (e .if4 .left))
+    ∙ books-buffers (lent s) (s .pre) (cap p) (h .if2 .left) (l .before .if3 .left)
+    (sym (l .lists-ok .ensures) ∙ not-false _ (e .if4 .left))
 
 pub books-ok-spec : {M : Type 1} → statement M
 books-ok-spec =

@@ -66,8 +66,8 @@ returns-2 c =
     let l = c .before .before .before in
     let a = entry l .args in
     let e = l .before .before in
-    lists-other (a .control .cap) (a .control .top) _ _ (now (a .heads)) (now (a .chain)) (e .before .before .count-words .ensures) (e .if1 .left)
-    (λ q. c .if2 .taken (omega (arith, counted l, q)))
+    lists-other (a .control .cap) (a .control .top) _ _ (now (a .heads)) (now (a .chain)) (e .before .before .count-words .ensures)
+    (e .if1 .left) (λ q. c .if2 .taken (omega (arith, counted l, q)))
 
 read-link-requires : tie.Need-read-link-requires
 read-link-requires c κs = search needs
@@ -91,8 +91,8 @@ returns-3 c =
     let back = bits-back (a .control .top) (record { sfits = r .before .struct-told .given .1 .1 .0 .1 }) in
     let top = r .read-link .ensures ∙ ap linkOf back in
     let walk = c .before .list-walk .ensures ∙ ap (spend (now (a .free)) (e .before .before .count-words .result .empty)) top in
-    lists-walked (a .control .cap) (a .control .top) _ _ (now (a .heads)) (now (a .chain)) (e .before .before .count-words .ensures) (e .if1 .left)
-    (omega (arith, counted l, i .if2 .left)) (c .is-spent .ensures ∙ ap spent walk)
+    lists-walked (a .control .cap) (a .control .top) _ _ (now (a .heads)) (now (a .chain)) (e .before .before .count-words .ensures)
+    (e .if1 .left) (omega (arith, counted l, i .if2 .left)) (c .is-spent .ensures ∙ ap spent walk)
 
 pub lists-ok-spec : {M : Type 1} → statement M
 lists-ok-spec =

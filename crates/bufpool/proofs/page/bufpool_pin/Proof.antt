@@ -37,7 +37,8 @@ put-pinned-requires c κs = search needs
 keep-control-requires : tie.Need-keep-control-requires
 keep-control-requires c κs =
     let at-put-pinned = c .before .before .before in
-    let at-pin-page = at-put-pinned .before .before .before .before .before .before .before .before .before .before .before .before .before in
+    let at-answer = at-put-pinned .before .before .before .before .before .before in
+    let at-pin-page = at-answer .before .before .before .before .before .before .before in
     let at-if2 = at-pin-page .before .before .before .before .before .before .before .before .before .before .before in
     at-if2 .if2 .left
 
