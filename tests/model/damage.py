@@ -2,8 +2,8 @@
 
 Each has the number that the rules give by hand; the model must give it too, and then the definitions.
 """
-from memory import BLOCK, BLOCKS, CAP, CAPACITY, CONTROL_WORDS, FLUSHED, FORK, HAND, INSERTED, NAME_WORDS, NO_TOP, P, RELATION, ROW_WORDS
-from memory import TOP
+from memory import BLOCK, BLOCKS, CAP, CAPACITY, CONTROL_WORDS, FLUSHED, FORK, HAND, INSERTED, NAME_WORDS, NO_TOP, P
+from memory import RELATION, ROW_WORDS, TOP
 from pool import CLEAN_FLAGS, DIRTY, DIRTY_FLAGS, JUST_DIRTIED, USAGE_ONE, Pool, usage
 from terms import Page, Start, zeros
 

@@ -62,7 +62,7 @@ def caps():
 
 
 def checked(some):
-    """Of some set-ups the outcomes, each with its number by hand."""
+    """Some set-ups with their outcomes, which have the number by hand."""
     for number, start, given, answer in some:
         outcome = Pool(start.memory()).call(('set_up', *given), answer)
         assert outcome.number == number, (number, outcome.number, given, start.rows)

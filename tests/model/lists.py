@@ -185,7 +185,7 @@ def by_hand():
 
 
 def case_h(cap):
-    """Buffers 0 and 1 are pinned; 2 is pinned once more than the cap counts, and unpinned; the hand is 0; block 3 is pinned."""
+    """Buffers 0 and 1 are pinned, 2 is unpinned with usage cap, at which it was pinned once more; the hand is 0. Block 3 is pinned."""
     key = KEYS[0]
     made = Start([9] * CONTROL_WORDS, [7] * 3, [7] * (3 * NAME_WORDS), [zeros(1024)] * 3, [7] * 3, [7] * 3, [7] * 3, [*key, 4, 4],
                  [zeros(1024)] * 4)
