@@ -127,7 +127,7 @@ class Call(Subject):
 
     def __init__(self, crates, place, law, stored_words):
         self.place, self.law, self.stored_words = place, law, stored_words
-        self.laws = [('Rattle.%s.proofs.SizeLaws' % place.crate, law)]
+        self.laws = [('Rattle.bufmodel.proofs.FixedLaws', law)]
         self.crates, self.crate = crates, place.crate
         source = Source(crates, place.crate, place.module)
         function = source.function(place.name)

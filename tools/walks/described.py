@@ -3,7 +3,7 @@ DESCRIBED = {
     'bufcontrol': {
         # in words, the fields that each call stores back
         'stored': 'hand, top and log positions',
-        # for each call the law of SizeLaws by which it leaves the other fields
+        # for each call the law of bufmodel's FixedLaws by which it leaves the other fields
         'laws': {
             'pin': 'pin-fixed',
             'flush': 'flush-fixed',

@@ -1,4 +1,3 @@
 pub mod LendLaws
-pub mod SizeLaws
 pub mod StoredLaws
 pub mod WalkLaws

@@ -12,7 +12,7 @@ use Rattle.bufmodel.specs.declared.control.Control.{Control}
 use Rattle.bufmodel.specs.Memory.{Memory, memory}
 use Rattle.bufmodel.proofs.control.Control as T
 use Rattle.bufmodel.proofs.control.Control.Laws as T′
-use Rattle.bufcontrol.proofs.SizeLaws.{fixed}
+use Rattle.bufmodel.proofs.FixedLaws.{fixed}
 
 -- the record's machine value
 abbrev pub mach : Control → Val

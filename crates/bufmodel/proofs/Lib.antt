@@ -21,6 +21,8 @@ pub mod ReleaseLaws
 pub mod FilesLaws
 pub mod DropLaws
 pub mod FreshLaws
+-- what no call changes
+pub mod FixedLaws
 -- the sweep
 pub mod LessUsedLaws
 pub mod SweepLaws

@@ -25,7 +25,9 @@ use Rattle.bufmodel.proofs.GoodLaws.{Good}
 abbrev pub like : Memory → ℕ → ℕ → ℕ → List ℕ → List ℕ → List ℕ → Memory
 like m hand inserted flushed words pool store =
     record {
-      control = let c = m .control in record { size = c .size; hand = hand; top = c .top; inserted = inserted; flushed = flushed; cap = c .cap };
+      control =
+          let c = m .control in
+          record { size = c .size; hand = hand; top = c .top; inserted = inserted; flushed = flushed; cap = c .cap };
       states = words;
       names = m .names;
       pool = pool;

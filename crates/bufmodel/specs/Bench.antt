@@ -10,8 +10,8 @@ use Rattle.buftag.specs.Link.{none}
 use Rattle.bufmodel.specs.Memory.{Memory, withRows, withStore}
 use Rattle.bufmodel.specs.Step.{Call, Pin, Peek}
 
--- ---- the bench: N = 3, B = 3, P = 1024, log 100; one file with 4 blocks of zeros, capacity 5. What stands in the books before set up
--- does not matter
+-- ---- the bench: N = 3, B = 3, P = 1024, log 100, cap 5; one file with 4 blocks of zeros, capacity 5. What stands in the books before set
+-- up does not matter
 unfoldable pub bench : Memory
 bench =
     record {

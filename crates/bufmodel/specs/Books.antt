@@ -63,7 +63,7 @@ module _ (m : Memory) where
 
 -- ---- the same as a statement
 pub record BooksSound (m : Memory) : Type 0 where
-  -- the greatest usage count
+  -- for other calls than set up a bad cap is 2 (document 02)
   pub cap : (1 ≤ capOf m) × (capOf m ≤ maxCap)
   pub hand : m .control .hand < buffers m
   pub log : m .control .flushed ≤ m .control .inserted

@@ -36,7 +36,8 @@ use Rattle.bufmodel.specs.Moves.{writeBack, writeUpTo, ofFile, releaseUp
 use Rattle.bufmodel.specs.Outcome.{Outcome, Place, place, refusalOf, checked, zeros, one, two, done, outcome}
 use Rattle.bufmodel.specs.Pin.{noRow, pagePlaces, heldIn}
 
--- ---- set up: all buffers and chains empty; free list 0, 1, .. N−1; hand 0; both positions as given. Pool, rows and store untouched
+-- ---- set up: all buffers and chains empty; free list 0, 1, .. N−1; hand 0; both positions and the cap as given.
+-- Pool, rows and store untouched
 -- n free links, the first of buffer i, each to the next buffer
 unfoldable pub freeLinks : ℕ → ℕ → List ℤ
 freeLinks i zero = []
@@ -57,6 +58,7 @@ fresh m p at cap =
       store = m .store;
     }
 
+-- 1, sizes or rows; after it 18, cap outside 1 to 15 (document 02)
 unfoldable pub setUp : Memory → ℕ → ℕ → ℕ → Outcome
 setUp m p at cap =
     outcome (refusalOf (place 1 (not (sizedFor p m)) ∷ place 18 (not (soundCap cap)) ∷ [])) [] m (done zeros [] (fresh m p at cap))

@@ -11,13 +11,11 @@ use Rattle.bufmodel.specs.Outcome.{zeros}
 use Rattle.bufmodel.specs.Calls.{setUp}
 use Rattle.bufmodel.specs.Step.{
   Call,
-  Pin,
   Unpin,
   Read,
   Write,
   Flush,
   Checkpoint,
-  Peek,
   Extend,
   Drop,
   LogInserted,

@@ -183,13 +183,21 @@ withStore x m =
     }
 
 abbrev pub withHand : ℕ → Memory → Memory
-withHand x m = let c = m .control in withControl (record { size = c .size; hand = x; top = c .top; inserted = c .inserted; flushed = c .flushed; cap = c .cap }) m
+withHand x m =
+    let c = m .control in
+    withControl (record { size = c .size; hand = x; top = c .top; inserted = c .inserted; flushed = c .flushed; cap = c .cap }) m
 
 abbrev pub withTop : ℤ → Memory → Memory
-withTop x m = let c = m .control in withControl (record { size = c .size; hand = c .hand; top = x; inserted = c .inserted; flushed = c .flushed; cap = c .cap }) m
+withTop x m =
+    let c = m .control in
+    withControl (record { size = c .size; hand = c .hand; top = x; inserted = c .inserted; flushed = c .flushed; cap = c .cap }) m
 
 abbrev pub withInserted : ℕ → Memory → Memory
-withInserted x m = let c = m .control in withControl (record { size = c .size; hand = c .hand; top = c .top; inserted = x; flushed = c .flushed; cap = c .cap }) m
+withInserted x m =
+    let c = m .control in
+    withControl (record { size = c .size; hand = c .hand; top = c .top; inserted = x; flushed = c .flushed; cap = c .cap }) m
 
 abbrev pub withFlushed : ℕ → Memory → Memory
-withFlushed x m = let c = m .control in withControl (record { size = c .size; hand = c .hand; top = c .top; inserted = c .inserted; flushed = x; cap = c .cap }) m
+withFlushed x m =
+    let c = m .control in
+    withControl (record { size = c .size; hand = c .hand; top = c .top; inserted = c .inserted; flushed = x; cap = c .cap }) m

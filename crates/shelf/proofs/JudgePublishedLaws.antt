@@ -120,7 +120,8 @@ module _ (cap many : ℕ) (m : Memory) (o : Outcome) where
     said-pass (LogInserted p) h = all
     said-pass (LogFlushed p) h = all
 
-    pub leaves-after : (c : Call) → Published m cap many c o → Leaves m o (marksAfter cap many m c) (pagesAfter cap many m c) (blocksAfter cap many m c)
+    pub leaves-after : (c : Call) → Published m cap many c o
+        → Leaves m o (marksAfter cap many m c) (pagesAfter cap many m c) (blocksAfter cap many m c)
     unfolding marksAfter pagesAfter blocksAfter
     leaves-after (Pin n) h = pinned n h .leaves
     leaves-after (Unpin b) h = h .accepts z

@@ -65,13 +65,15 @@ module _ (m : Memory) (v : View) (k : Kept m v) (n : PageName) (b : BufferNumber
   hit-kept =
       let f = pin-more (k .words (b .0) (has .below) (has .full)) (k .good .books .cap .1) (pin-room m n z b e) in
       let s = k .same (b .0) g has in
-      pins-kept m v k (b .0) g has (pinMore (capOf m) word) (v .counts g + 1) (found g) (with (b .0) (found g) (v .last)) (f .held) (f .dirty)
+      pins-kept m v k (b .0) g has (pinMore (capOf m) word) (v .counts g + 1) (found g) (with (b .0) (found g) (v .last)) (f .held)
+      (f .dirty)
       (omega (arith, s .counts, f .pins))
       (ap (λ (t : Bool). cond t (found g) missing) (sym (pins-pinned (pinMore (capOf m) word) (omega (arith, f .pins)))))
       (with-old (b .0) (found g) (v .last) (sym (s .last)))
 
   -- the pin as the program makes it, accepted
-  pub hit-accepted : Accepted m v (Pin n) (b .0 ∷ 1 ∷ 0 ∷ 0 ∷ []) [] (withStates (set (m .states) (b .0) (pinMore (capOf m) (wordOf m (b .0)))) m)
+  pub hit-accepted : Accepted m v (Pin n) (b .0 ∷ 1 ∷ 0 ∷ 0 ∷ []) []
+      (withStates (set (m .states) (b .0) (pinMore (capOf m) (wordOf m (b .0)))) m)
   unfolding bufferIn wroteIn
   hit-accepted =
       pin-accepted m v n g answer now (pin-place m n z .1)

@@ -1,4 +1,5 @@
 -- Demand 2: the pool's calls do what is published. And a refused call leaves the memory as it was.
+use Prim.Native.Nat.{ℕ}
 use mathlib.Core.Path.{_≡_, refl, ap, subst}
 use mathlib.Core.Bool.{false}
 use mathlib.Core.Logic.{_≢_}
@@ -7,6 +8,7 @@ use Rattle.bufmodel.specs.Memory.{Memory, buffers, capOf}
 use Rattle.bufmodel.specs.Outcome.{Outcome}
 use Rattle.bufmodel.specs.Step.{Call, Pin, Unpin, Read, Write, Flush, Checkpoint, Peek, Extend, Drop, LogInserted, LogFlushed, step}
 use Rattle.bufmodel.proofs.GoodLaws.{Good}
+use Rattle.bufmodel.proofs.FixedLaws.{step-fixed}
 use Rattle.shelf.specs.Published.{Sought, Published, Demand2}
 use Rattle.shelf.proofs.CallKinds.{isPin, not-pin}
 use Rattle.shelf.proofs.GuardsTable.{step-refused}
@@ -34,9 +36,19 @@ refused-same m c h = ap (λ (o : Outcome). o .after) (step-refused m c h)
 pin-same : {a b : PageName} → Pin a ≡ Pin b → a ≡ b
 pin-same e = cc
 
+-- no call changes the cap
+cap-stays : (m : Memory) (c : Call) → capOf (step m c .after) ≡ capOf m
+cap-stays m c = ap (λ (x : ℕ × ℕ). x .1) (step-fixed m c)
+
 -- a call that is no pin has no probes
 other-published : {m : Memory} {c : Call} → isPin c ≡ false → Says m c → Published m (capOf m) (buffers m) c (step m c)
-other-published {m} {c} h says = record { sought = λ n e. absurd (not-pin h n e); accepts = says; same = refused-same m c }
+other-published {m} {c} h says =
+    record {
+      sought = λ n e. absurd (not-pin h n e);
+      accepts = says;
+      stays = cap-stays m c;
+      same = refused-same m c;
+    }
 
 -- write, flush and checkpoint set a word's flags, and so ask what flags it had
 pub published : (m : Memory) (c : Call) → Good m → HeldWords m → Published m (capOf m) (buffers m) c (step m c)
@@ -44,6 +56,7 @@ published m (Pin n) k held =
     record {
       sought = λ n′ e. subst (λ (x : PageName). Sought m x (capOf m) (buffers m) (step m (Pin n))) (pin-same e) (pin-sought m k n);
       accepts = λ z. tt;
+      stays = cap-stays m (Pin n);
       same = refused-same m (Pin n);
     }
 published m (Unpin i) k held = other-published refl (unpin-says m i)

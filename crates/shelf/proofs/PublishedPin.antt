@@ -254,11 +254,14 @@ module _ (m : Memory) (k : Good m) (n : PageName) where
 
     module _ (new : heldIn m n ≡ Nowhere) where
       -- some buffer is unpinned, so a sweep finds a victim
-      swept-sought : linkOf (m .control .top) ≡ End → Sought m n (capOf m) (buffers m) (pinSwept m n (sweepAll (capOf m) (m .states) (m .control .hand)))
+      swept-sought : linkOf (m .control .top) ≡ End
+          → Sought m n (capOf m) (buffers m) (pinSwept m n (sweepAll (capOf m) (m .states) (m .control .hand)))
       unfolding pinSwept
       swept-sought top =
           let f = pin-victim m n z k new in
-          subst (λ (x : Found). Sought m n (capOf m) (buffers m) (pinVictim m n (sweepAll (capOf m) (m .states) (m .control .hand)) x)) (sym (f .1))
+          subst
+          (λ (x : Found). Sought m n (capOf m) (buffers m) (pinVictim m n (sweepAll (capOf m) (m .states) (m .control .hand)) x))
+          (sym (f .1))
           (taken-sought new (page .0) (page .1) top (f .0) (f .1))
 
       new-sought : Sought m n (capOf m) (buffers m) (pinNew m n (linkOf (m .control .top)))

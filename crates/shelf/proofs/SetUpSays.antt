@@ -16,7 +16,7 @@ use Rattle.buftag.specs.Link.{none, numberAt}
 use Rattle.bufmodel.specs.Word.{soundCap}
 use Rattle.bufmodel.specs.Memory.{Memory, buffers}
 use Rattle.bufmodel.specs.Sizes.{sizedFor, SizedFor}
-use Rattle.bufmodel.specs.Outcome.{place, refusalOf, zeros, done, refused, outcome}
+use Rattle.bufmodel.specs.Outcome.{place, refusalOf, zeros, done, outcome}
 use Rattle.bufmodel.specs.Calls.{freeLinks, fresh, setUp}
 use Rattle.bufmodel.specs.Lent.{Lent, Called, controlWords, answerWords, topWord, wordsOf, opened, closed, ended, called}
 use Rattle.bufmodel.proofs.SizesLaws.{sizes-say}

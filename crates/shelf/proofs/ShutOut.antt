@@ -63,7 +63,7 @@ use Rattle.shelf.proofs.JudgeLaws.{judge-fine}
 use Rattle.shelf.proofs.Computes.{computes}
 
 -- ---- what the statement assumes holds where its test passes
-below : (k : ℕ) (xs : List ℕ) → allBelow k xs ≡ true → Below k xs
+pub below : (k : ℕ) (xs : List ℕ) → allBelow k xs ≡ true → Below k xs
 unfolding allBelow
 below k [] h i l = absurd (not-suc-le-zero l)
 below k (x ∷ xs) h zero l = ltb-true x k (and-left (ltb x k) (allBelow k xs) h)
@@ -280,7 +280,8 @@ all-fine : (pool : Pool) → Demand3For pool → (ws : List Wrong) → every (ma
 unfolding every
 all-fine pool d [] h = tt
 all-fine pool d (w ∷ ws) h =
-    (passes pool d (w .lent) (w .size) (w .log) (w .cap) (w .calls) (and-left (isTrial w) _ h), all-fine pool d ws (and-right (isTrial w) _ h))
+    let trial = and-left (isTrial w) _ h in
+    (passes pool d (w .lent) (w .size) (w .log) (w .cap) (w .calls) trial, all-fine pool d ws (and-right (isTrial w) _ h))
 
 pub right-passes : Demand3 → AllFine (calling step) wrongPools
 right-passes d = all-fine (calling step) d wrongPools (shown .trials)

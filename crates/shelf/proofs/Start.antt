@@ -66,13 +66,15 @@ module _ (m : Memory) (p at cap : ℕ) where
   -- so the relation holds
   pub start-kept : setUp m p at cap .refusal ≡ 0 → Kept (setUp m p at cap .after) (viewOf (firstLedger m p at cap))
   start-kept e =
-      subst (λ (m′ : Memory). Kept m′ (viewOf (firstLedger m p at cap))) (sym (set-up-after e)) (fresh-kept (set-up-sized e) (set-up-capped e))
+      subst (λ (m′ : Memory). Kept m′ (viewOf (firstLedger m p at cap))) (sym (set-up-after e))
+      (fresh-kept (set-up-sized e) (set-up-capped e))
 
   -- ---- the first ledger shares its parts with that memory
   fresh-ledger : firstLedger m p at cap ≡ ledgerOf (fresh m p at cap) (viewOf (firstLedger m p at cap))
   unfolding firstLedger firstShelf fresh
   fresh-ledger = rw (fresh-many m p at cap) refl
 
-  pub start-ledger : setUp m p at cap .refusal ≡ 0 → firstLedger m p at cap ≡ ledgerOf (setUp m p at cap .after) (viewOf (firstLedger m p at cap))
+  pub start-ledger : setUp m p at cap .refusal ≡ 0
+      → firstLedger m p at cap ≡ ledgerOf (setUp m p at cap .after) (viewOf (firstLedger m p at cap))
   start-ledger e =
       fresh-ledger ∙ ap (λ (m′ : Memory). ledgerOf m′ (viewOf (firstLedger m p at cap))) (sym (set-up-after e))

@@ -112,7 +112,10 @@ said o i = getD (o .answer) i 0
 abbrev pub pinsAgain : (ℕ → ℕ → ℕ) → Pool
 pinsAgain word =
     pins
-    (λ m c o. let b = said o 0 in let o′ = leaving (withStates (set (m .states) b (word (capOf m) (wordOf m b)))) o in cond (eqb (said o 1) 1) o′ o)
+    (λ m c o.
+    let b = said o 0 in
+    let o′ = leaving (withStates (set (m .states) b (word (capOf m) (wordOf m b)))) o in
+    cond (eqb (said o 1) 1) o′ o)
 
 abbrev pub sweeps : (ℕ → List ℕ → ℕ → Swept) → Pool
 sweeps by = pins (λ m c o. let o′ = pinSwept m (c .page) (by (capOf m) (m .states) (m .control .hand)) in cond (eqb (said o 3) 0) o o′)

@@ -110,6 +110,7 @@ pub record Guards (c : Call) (m : Lent) (answer : List ℕ) (r : Called) : Type 
 
 pub record GuardsSetUp (m : Lent) (p at cap : ℕ) (answer : List ℕ) (r : Called) : Type 0 where
   pub slice : length answer ≢ 4 → Refuses 1 [] m answer r
+  -- 1, sizes or rows; 18, the cap
   pub sizes : length answer ≡ 4 → SetsUp m p at cap r
 
 -- DEMAND 1, of a pool

@@ -1,4 +1,5 @@
--- The ledger: the shelf, and what the calls so far did to the log and the store. One function for each sentence of document 01.
+-- The ledger: the shelf, what the calls so far did to the log and the store, and the cap given at set up. One function for each sentence of
+-- document 01.
 use Prim.Native.Nat.{ℕ, zero, suc, max}
 use mathlib.Core.Bool.{Bool, false, not, _&&_, _||_, cond}
 use mathlib.Core.List.{List}

@@ -69,8 +69,8 @@ pub record Numbers : Type 0 where
   -- An empty buffer has word 0
   pub emptyWord : (w : ℕ) → empty w ≡ eqb w 0
   pub zeroSound : (cap : ℕ) → soundWord cap 0 ≡ true
-  -- usage count at most the cap. Any other has valid, tag valid and permanent, and has dirty and just dirtied both or neither; every other flag
-  -- is 0 between calls
+  -- usage count at most the cap. Any other has valid, tag valid and permanent, and has dirty and just dirtied both or neither; every other
+  -- flag is 0 between calls
   pub sound : (cap w : ℕ) → w ≢ 0
       → (soundWord cap w ≡ true)
       ↔ ((w / 262144 % 16 ≤ cap) × (w / 16777216 % 2 ≡ 1) × (w / 33554432 % 2 ≡ 1) × (w / 2147483648 % 2 ≡ 1)

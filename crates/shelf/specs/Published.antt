@@ -238,10 +238,12 @@ module _ (m : Memory) where
   Accepts (LogInserted p) o = Words o (wordOf m) blocksOf
   Accepts (LogFlushed p) o = Words o (wordOf m) blocksOf
 
-  -- the cap and the number of buffers are the memory's here; demand 3 has those given at set up
+  -- the cap and the number of buffers: in demand 2, below, the memory's, in demand 3 those given at set up
   pub record Published (cap many : ℕ) (c : Call) (o : Outcome) : Type 0 where
     pub sought : (n : PageName) → c ≡ Pin n → Sought n cap many o
     pub accepts : o .refusal ≡ 0 → Accepts c o
+    -- no call changes the cap
+    pub stays : capOf (o .after) ≡ capOf m
     -- a refusal changes nothing
     pub same : o .refusal ≢ 0 → o .after ≡ m
 

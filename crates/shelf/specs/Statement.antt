@@ -170,8 +170,8 @@ pub record Left (m : Lent) (r : Called) (l′ : Ledger) : Type 0 where
   -- none of the calls answers 1 or 2: sizes and rows keep the rules and the books are sound, whichever call comes next
   pub sizes : SizedFor (l′ .shelf .size) (opened (r .lent))
   pub books : BooksSound (opened (r .lent))
-  -- the control record as 64-bit words in the order P, hand, top of the free list, inserted, flushed, cap; hand and top are as `opened` reads
-  -- them, and what they are is demand 2's
+  -- the control record as 64-bit words in the order P, hand, top of the free list, inserted, flushed, cap; hand and top are as `opened`
+  -- reads them, and what they are is demand 2's
   pub control : let k = opened (r .lent) .control in
       r .lent .control ≡ l′ .shelf .size ∷ k .hand ∷ topWord (k .top) ∷ l′ .shelf .inserted ∷ l′ .flushed ∷ l′ .cap ∷ []
 

@@ -18,7 +18,6 @@ use Rattle.shelf.specs.Changes.{
   unpins,
   checkpoints,
   leaving,
-  said,
   pinsAgain,
   sweeps,
   refuses,
@@ -29,7 +28,7 @@ use Rattle.shelf.specs.Changes.{
 }
 
 -- another cap in the control record
-abbrev withCap : ℕ → Memory → Memory
+abbrev pub withCap : ℕ → Memory → Memory
 withCap x m = let c = m .control in
     withControl
     (record { size = c .size; hand = c .hand; top = c .top; inserted = c .inserted; flushed = c .flushed; cap = x }) m

@@ -155,6 +155,6 @@ wrongSetUps =
     -- a refused set up writes the control record
     ∷ wrongSetUp (setsUp (λ p at cap m r. lending (withControlWords (p ∷ 0 ∷ 0 ∷ at ∷ at ∷ cap ∷ []) m) r)) (bench 0) size log Refused
     -- the answer slice is left as it was
-    ∷ wrongSetUp (setsUp (λ p at cap m r. record { result = r .result; answer = slice; bytes = r .bytes; lent = r .lent })) (bench 1) size log
-    Zeros
+    ∷ wrongSetUp (setsUp (λ p at cap m r. record { result = r .result; answer = slice; bytes = r .bytes; lent = r .lent })) (bench 1) size
+    log Zeros
     ∷ []

@@ -50,7 +50,7 @@ use denote.Exit.{yes}
 use Rattle.bufmodel.specs.Memory.{memory}
 use Rattle.bufmodel.specs.Answer.{acceptedNumber, acceptedWords, acceptedOf}
 use Rattle.bufmodel.specs.Calls.{logInserted}
-use Rattle.bufcontrol.proofs.SizeLaws.{inserted-fixed}
+use Rattle.bufmodel.proofs.FixedLaws.{inserted-fixed}
 use Rattle.bufmodel.specs.declared.control.Control.{Control}
 use Rattle.bufcalls.specs.declared.ends.AcceptedEnd.{AcceptedEnd}
 use Rattle.bufmodel.specs.declared.answer.Accepted.{Accepted}

@@ -49,7 +49,7 @@ use denote.Exit.{yes}
 use Rattle.bufmodel.specs.Memory.{memory}
 use Rattle.bufmodel.specs.Answer.{pinnedNumber, pinnedWords, pinnedOf}
 use Rattle.bufmodel.specs.Pin.{pin}
-use Rattle.bufcontrol.proofs.SizeLaws.{pin-fixed}
+use Rattle.bufmodel.proofs.FixedLaws.{pin-fixed}
 use Rattle.bufmodel.specs.declared.control.Control.{Control}
 use Rattle.bufpin.specs.declared.ends.PinnedEnd.{PinnedEnd}
 use Rattle.bufmodel.specs.declared.answer.Pinned.{Pinned}

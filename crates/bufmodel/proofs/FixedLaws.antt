@@ -1,21 +1,39 @@
--- No call but set up changes the block size or the cap, so a call need not store them back.
+-- No call but set up changes the block size or the cap, whatever the memory.
 use Prim.Native.Nat.{ℕ, zero, suc}
 use mathlib.Core.Path.{_≡_, refl, _∙_}
-use mathlib.Core.List.{[]}
+use mathlib.Core.Bool.{Bool, true, false}
+use mathlib.Core.List.{List}
 use Rattle.laws.specs.First.{Found, found, missing}
 use Rattle.buftag.specs.declared.link.Link.{Link}
 use Rattle.buftag.specs.declared.link.Link.the-variants.{To, End, Off, Bad}
 use Rattle.buftag.specs.declared.lookup.Held.{Held}
 use Rattle.buftag.specs.declared.lookup.Held.the-variants.{At, Nowhere}
+use Rattle.buftag.specs.declared.name.FileName.{FileName}
 use Rattle.buftag.specs.declared.name.PageName.{PageName}
 use Rattle.buftag.specs.Link.{linkOf}
-use Rattle.bufmodel.specs.Memory.{Memory, size, capOf, withHand, withStates}
-use Rattle.bufmodel.specs.Rows.{placeOf}
+use Rattle.bufmodel.specs.Memory.{Memory, buffers, size, capOf, withHand, withStates}
+use Rattle.bufmodel.specs.Rows.{rowOf, placeOf}
 use Rattle.bufmodel.specs.Sweep.{Swept}
-use Rattle.bufmodel.specs.Moves.{writeBack, writeUpTo, release, loadAt, loadTop, load}
+use Rattle.bufmodel.specs.Moves.{writeBack, writeUpTo, ofFile, release, releaseIf, releaseUpTo, loadAt, loadTop, load}
 use Rattle.bufmodel.specs.Outcome.{Outcome, outcome}
 use Rattle.bufmodel.specs.Pin.{heldIn, pinHeld, pinFree, pinVictim, pinSwept, pinNew, pinTo, pin}
-use Rattle.bufmodel.specs.Calls.{flush, checkpoint, logInserted, logFlushed}
+use Rattle.bufmodel.specs.Calls.{unpin, read, writeTo, write, flush, checkpoint, peek, extendAt, extend, dropAt, dropFile}
+use Rattle.bufmodel.specs.Calls.{logInserted, logFlushed}
+use Rattle.bufmodel.specs.Step.{
+  Call,
+  Pin,
+  Unpin,
+  Read,
+  Write,
+  Flush,
+  Checkpoint,
+  Peek,
+  Extend,
+  Drop,
+  LogInserted,
+  LogFlushed,
+  step,
+}
 
 -- the block size and the cap
 abbrev pub fixed : Memory → ℕ × ℕ
@@ -26,7 +44,7 @@ abbrev Keeps : Memory → Outcome → Type 0
 Keeps m o = fixed (o .after) ≡ fixed m
 
 -- a refused call leaves the memory
-by-case : (k : ℕ) (m : Memory) (o : Outcome) → Keeps m o → Keeps m (outcome k [] m o)
+by-case : (k : ℕ) {bytes : List ℕ} (m : Memory) (o : Outcome) → Keeps m o → Keeps m (outcome k bytes m o)
 unfolding outcome
 by-case zero m o e = e
 by-case (suc k) m o e = refl
@@ -97,3 +115,39 @@ to-fixed m n Nowhere = new-fixed m n (linkOf (m .control .top))
 pub pin-fixed : (m : Memory) (n : PageName) → Keeps m (pin m n)
 unfolding pin
 pin-fixed m n = by-case _ m _ (to-fixed m n (heldIn m n))
+
+-- ---- extend and drop
+extend-fixed : (m : Memory) (r : Found) → Keeps m (extendAt m r)
+unfolding extendAt
+extend-fixed m (found r) = refl
+extend-fixed m missing = refl
+
+if-fixed : (t : Bool) (m : Memory) (i : ℕ) → fixed (releaseIf t m i) ≡ fixed m
+unfolding releaseIf
+if-fixed true m i = release-fixed m i
+if-fixed false m i = refl
+
+released-fixed : (f : FileName) (k : ℕ) (m : Memory) → fixed (releaseUpTo f k m) ≡ fixed m
+unfolding releaseUpTo
+released-fixed f zero m = refl
+released-fixed f (suc k) m = let on = releaseUpTo f k m in if-fixed (ofFile on f k) on k ∙ released-fixed f k m
+
+drop-fixed : (m : Memory) (f : FileName) (r : Found) → Keeps m (dropAt m f r)
+unfolding dropAt
+drop-fixed m f (found r) = released-fixed f (buffers m) m
+drop-fixed m f missing = refl
+
+-- ---- every call
+pub step-fixed : (m : Memory) (c : Call) → Keeps m (step m c)
+unfolding step unpin read write writeTo peek extend dropFile
+step-fixed m (Pin n) = pin-fixed m n
+step-fixed m (Unpin i) = by-case _ m _ refl
+step-fixed m (Read i from out) = by-case _ m _ refl
+step-fixed m (Write i from bytes at) = by-case _ m _ refl
+step-fixed m (Flush i) = flush-fixed m i
+step-fixed m Checkpoint = checkpoint-fixed m
+step-fixed m (Peek n) = by-case _ m _ refl
+step-fixed m (Extend f) = by-case _ m _ (extend-fixed m (rowOf (m .rows) f))
+step-fixed m (Drop f) = by-case _ m _ (drop-fixed m f (rowOf (m .rows) f))
+step-fixed m (LogInserted p) = inserted-fixed m p
+step-fixed m (LogFlushed p) = flushed-fixed m p
