@@ -44,18 +44,18 @@ abbrev Keeps : Memory → Outcome → Type 0
 Keeps m o = fixed (o .after) ≡ fixed m
 
 -- a refused call leaves the memory
-by-case : (k : ℕ) {bytes : List ℕ} (m : Memory) (o : Outcome) → Keeps m o → Keeps m (outcome k bytes m o)
+by-case : (k : ℕ) (bytes : List ℕ) (m : Memory) (o : Outcome) → Keeps m o → Keeps m (outcome k bytes m o)
 unfolding outcome
-by-case zero m o e = e
-by-case (suc k) m o e = refl
+by-case zero bytes m o e = e
+by-case (suc k) bytes m o e = refl
 
 pub inserted-fixed : (m : Memory) (p : ℕ) → Keeps m (logInserted m p)
 unfolding logInserted
-inserted-fixed m p = by-case _ m _ refl
+inserted-fixed m p = by-case _ _ m _ refl
 
 pub flushed-fixed : (m : Memory) (p : ℕ) → Keeps m (logFlushed m p)
 unfolding logFlushed
-flushed-fixed m p = by-case _ m _ refl
+flushed-fixed m p = by-case _ _ m _ refl
 
 -- ---- write-back
 back-fixed : (m : Memory) (i : ℕ) → fixed (writeBack m i) ≡ fixed m
@@ -69,11 +69,11 @@ all-fixed (suc k) m = back-fixed (writeUpTo k m) k ∙ all-fixed k m
 
 pub flush-fixed : (m : Memory) (i : ℕ) → Keeps m (flush m i)
 unfolding flush
-flush-fixed m i = by-case _ m _ (back-fixed m i)
+flush-fixed m i = by-case _ _ m _ (back-fixed m i)
 
 pub checkpoint-fixed : (m : Memory) → Keeps m (checkpoint m)
 unfolding checkpoint
-checkpoint-fixed m = by-case _ m _ (all-fixed _ m)
+checkpoint-fixed m = by-case _ _ m _ (all-fixed _ m)
 
 -- ---- pin
 release-fixed : (m : Memory) (i : ℕ) → fixed (release m i) ≡ fixed m
@@ -114,7 +114,7 @@ to-fixed m n Nowhere = new-fixed m n (linkOf (m .control .top))
 
 pub pin-fixed : (m : Memory) (n : PageName) → Keeps m (pin m n)
 unfolding pin
-pin-fixed m n = by-case _ m _ (to-fixed m n (heldIn m n))
+pin-fixed m n = by-case _ _ m _ (to-fixed m n (heldIn m n))
 
 -- ---- extend and drop
 extend-fixed : (m : Memory) (r : Found) → Keeps m (extendAt m r)
@@ -141,13 +141,13 @@ drop-fixed m f missing = refl
 pub step-fixed : (m : Memory) (c : Call) → Keeps m (step m c)
 unfolding step unpin read write writeTo peek extend dropFile
 step-fixed m (Pin n) = pin-fixed m n
-step-fixed m (Unpin i) = by-case _ m _ refl
-step-fixed m (Read i from out) = by-case _ m _ refl
-step-fixed m (Write i from bytes at) = by-case _ m _ refl
+step-fixed m (Unpin i) = by-case _ _ m _ refl
+step-fixed m (Read i from out) = by-case _ _ m _ refl
+step-fixed m (Write i from bytes at) = by-case _ _ m _ refl
 step-fixed m (Flush i) = flush-fixed m i
 step-fixed m Checkpoint = checkpoint-fixed m
-step-fixed m (Peek n) = by-case _ m _ refl
-step-fixed m (Extend f) = by-case _ m _ (extend-fixed m (rowOf (m .rows) f))
-step-fixed m (Drop f) = by-case _ m _ (drop-fixed m f (rowOf (m .rows) f))
+step-fixed m (Peek n) = by-case _ _ m _ refl
+step-fixed m (Extend f) = by-case _ _ m _ (extend-fixed m (rowOf (m .rows) f))
+step-fixed m (Drop f) = by-case _ _ m _ (drop-fixed m f (rowOf (m .rows) f))
 step-fixed m (LogInserted p) = inserted-fixed m p
 step-fixed m (LogFlushed p) = flushed-fixed m p
