@@ -1,6 +1,5 @@
 """What has to happen somewhere in the lists of calls."""
 from checksum import AT, with_sum
-from lists import CAPS
 from memory import BLOCK, CAP, FILE_WORDS, FLUSHED, HAND, INSERTED, NAME_WORDS, NO_TOP, P, TOP
 from pool import DIRTY, Pool, peeked, pins, usage
 from shelf import every_page
@@ -9,7 +8,8 @@ REFUSALS = {'pin': (3, 4, 17, 5, 6), 'peek': (3, 4, 17), 'extend': (3, 13), 'dro
             'read': (7, 8, 9), 'write': (7, 8, 9, 10, 11, 12), 'log_inserted': (15,), 'log_flushed': (16,), 'checkpoint': ()}
 # only a memory made by hand has so many pins, or a page over a block that does not pass
 ONLY_SOUND = {'pin 5', 'hit over a bad block', 'peek over a bad block'}
-AT_CAPS = {f'{what}, cap {cap}' for cap in CAPS for what in ('usage raised', 'usage at the cap', 'swept from the cap', 'swept, wrote')}
+AT_CAPS = {f'{what}, cap {cap}' for cap in (1, 2, 5, 14, 15)
+           for what in ('usage raised', 'usage at the cap', 'swept from the cap', 'swept, wrote')}
 WANTED = {f'{kind} {number}' for kind, refusals in REFUSALS.items() for number in (0, *refusals)} | ONLY_SOUND | AT_CAPS | {
     'hit', 'hit with every buffer pinned', 'free', 'swept', 'swept, more than N probes',
     'swept past a pinned buffer', 'the hand wraps', 'a victim behind another in its chain', 'entered before another', 'a name of zeros',

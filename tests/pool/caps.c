@@ -159,9 +159,18 @@ static void expect_unsound(uint64_t cap, size_t k)
     expect("the cap after it", lot.control[CONTROL_CAP], cap);
 }
 
+/* Every call but set up is among the others. */
+static void expect_every_call(void)
+{
+    uint32_t tried = 1u << SET_UP;
+    for (size_t k = 0; k < OTHERS; k++) tried |= 1u << others[k].call;
+    expect("calls tried", tried, (2u << LOG_FLUSHED) - 1);
+}
+
 static void case_unsound(void)
 {
     begin("such caps in the control record: 2 in every call but set up; with set up's cap each passes, and leaves the cap as it is");
+    expect_every_call();
     for (uint64_t cap = 1; cap <= 15; cap++)
         for (size_t k = 0; k < OTHERS; k++) expect_unsound(cap, k);
     end();

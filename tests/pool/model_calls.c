@@ -365,8 +365,8 @@ static uint32_t checksum(struct memory *m, const struct request *q)
 /* Places 1 and 18. */
 static uint32_t set_up_places(struct memory *m, const struct request *q)
 {
-    uint64_t cap = SLIP == 56 ? (uint32_t)q->cap : SLIP == 57 ? (uint8_t)q->cap : q->cap;
-    bool permitted = (cap != 0 || SLIP == 53) && cap <= MOST_CAP + (SLIP == 54);
+    uint64_t cap = SLIP == 56 ? (uint32_t)q->cap : SLIP == 57 ? (uint8_t)q->cap : SLIP == 64 ? q->cap & INT64_MAX : q->cap;
+    bool permitted = (cap > (SLIP == 65) || SLIP == 53) && cap <= MOST_CAP + (SLIP == 54) - (SLIP == 66);
     if (SLIP == 55 && !permitted) return 18;
     if (!sizes_hold_for(m, q->page_size)) return 1;
     if (SLIP == 63) m->control[CONTROL_CAP] = cap;
