@@ -1,6 +1,6 @@
--- 32-bit FNV-1a over bytes.
+-- 32-bit FNV-1a over bytes, and over the bytes of words.
 use mathlib.Core.List.{List, [], _∷_}
-use Prim.Native.Nat.{ℕ, _*_, _%_, _^_}
+use Prim.Native.Nat.{ℕ, _*_, _/_, _%_, _^_}
 use lib.Bits.{bitXor}
 
 abbrev pub fnvStart : ℕ
@@ -17,3 +17,7 @@ fnvStep b h = bitXor b h * fnvPrime % 2 ^ 32
 abbrev pub fnv : List ℕ → ℕ → ℕ
 fnv [] h = h
 fnv (b ∷ bs) h = fnv bs (fnvStep b h)
+
+-- the hash continued over a word: its four bytes, the lowest first, each taken out of the word as it is met
+unfoldable pub fnvWord : ℕ → ℕ → ℕ
+fnvWord w h = fnvStep (w / 16777216 % 256) (fnvStep (w / 65536 % 256) (fnvStep (w / 256 % 256) (fnvStep (w % 256) h)))

@@ -1,5 +1,5 @@
 -- Laws of page names: the test of equality, the bytes back to the name, the hash continued from the file's.
-use mathlib.Core.Path.{_≡_, sym, _∙_, ap}
+use mathlib.Core.Path.{_≡_, refl, sym, _∙_, ap}
 use mathlib.Core.Bool.{false}
 use mathlib.Core.Logic.{_≢_, ⊎-elim}
 use mathlib.Core.List.{List, _∷_, _++_}
@@ -15,8 +15,9 @@ use Rattle.laws.proofs.Says.{says-eq, says-and, says-as}
 use Rattle.buftag.specs.declared.name.FileName.{FileName}
 use Rattle.buftag.specs.declared.name.PageName.{PageName}
 use Rattle.bufhash.specs.Bytes.{wordBytes, wordAt}
-use Rattle.bufhash.specs.Fnv.{fnv, fnvStart}
-use Rattle.buftag.specs.Name.{fileOf, nameOf, nameSize, fileBytes, nameBytes, nameOfBytes, hashOf, bucketOf, sameFile, sameName, Fits}
+use Rattle.bufhash.specs.Fnv.{fnv, fnvStart, fnvWord}
+use Rattle.buftag.specs.Name.{fileOf, nameOf, nameSize, fileBytes, nameBytes, nameOfBytes, hashOf, hashWords, bucketOf}
+use Rattle.buftag.specs.Name.{sameFile, sameName, Fits}
 use Rattle.bufhash.proofs.BytesLaws.{word-of-bytes, bytes-of-word}
 use Rattle.bufhash.proofs.FnvLaws.{fnv-append}
 
@@ -55,6 +56,22 @@ blocks-apart a b ne =
 pub hash-continued : (n : PageName) → fnv (wordBytes (n .block .0)) (fnv (fileBytes (n .file)) fnvStart) ≡ hashOf n
 unfolding hashOf
 hash-continued n = sym (fnv-append (fileBytes (n .file)) (wordBytes (n .block .0)) fnvStart)
+
+-- a word at a time it is the hash of the 20 bytes, for every name
+pub hash-words : (n : PageName)
+    → hashWords (n .file .tablespace) (n .file .database) (n .file .relation) (n .file .fork) (n .block .0) ≡ hashOf n
+unfolding fnvWord hashWords hashOf
+hash-words n = refl
+
+-- so the hash is what it comes to when words are mixed in one after the other
+pub hash-mixed : (t d r f b : ℕ) {h2 h3 h4 h5 : ℕ}
+    → h2 ≡ fnv (wordBytes t ++ wordBytes d) fnvStart → h3 ≡ fnv (wordBytes r) h2 → h4 ≡ fnv (wordBytes f) h3 → h5 ≡ fnv (wordBytes b) h4
+    → (h5 ≡ hashWords t d r f b) × (h5 ≡ hashOf (nameOf t d r f b))
+unfolding hashOf
+hash-mixed t d r f b {h5 = h5} p q s u =
+    let over : ℕ → ℕ → ℕ = λ w. fnv (wordBytes w) in
+    let whole : h5 ≡ hashOf (nameOf t d r f b) = u ∙ ap (over b) (s ∙ ap (over f) (q ∙ ap (over r) p)) in
+    (whole ∙ sym (hash-words (nameOf t d r f b)), whole)
 
 -- a bucket is one of the buckets
 pub bucket-lt : (n : PageName) (buckets : ℕ) → 0 < buckets → bucketOf n buckets < buckets

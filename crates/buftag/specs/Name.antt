@@ -7,7 +7,7 @@ use lib.Dec.{eqb, leb}
 use Rattle.buftag.specs.declared.name.FileName.{FileName}
 use Rattle.buftag.specs.declared.name.PageName.{PageName}
 use Rattle.bufhash.specs.Bytes.{wordBytes, wordAt}
-use Rattle.bufhash.specs.Fnv.{fnv, fnvStart}
+use Rattle.bufhash.specs.Fnv.{fnv, fnvStart, fnvStep, fnvWord}
 
 abbrev pub fileOf : ℕ → ℕ → ℕ → ℕ → FileName
 fileOf t d r f = record { tablespace = t; database = d; relation = r; fork = f }
@@ -52,6 +52,19 @@ case-A = refl
 -- ---- the hash is FNV-1a over these bytes, the bucket the hash modulo the number of buckets
 unfoldable pub hashOf : PageName → ℕ
 hashOf n = fnv (nameBytes n) fnvStart
+
+-- the same a word at a time, the words in the order of the bytes: that it is the same is the theorem `hash-words` of NameLaws
+unfoldable pub hashWords : ℕ → ℕ → ℕ → ℕ → ℕ → ℕ
+hashWords t d r f b = fnvWord b (fnvWord f (fnvWord r (fnvWord d (fnvWord t fnvStart))))
+
+-- not marked: both hashes of the name whose bytes are 1 to 20
+pub case-bytes : hashOf (nameOf 0x04030201 0x08070605 0x0C0B0A09 0x100F0E0D 0x14131211) ≡ 360515885
+unfolding fnvStep hashOf
+case-bytes = refl
+
+pub case-words : hashWords 0x04030201 0x08070605 0x0C0B0A09 0x100F0E0D 0x14131211 ≡ 360515885
+unfolding fnvStep fnvWord hashWords
+case-words = refl
 
 unfoldable pub bucketOf : PageName → ℕ → ℕ
 bucketOf n buckets = hashOf n % buckets

@@ -24,7 +24,7 @@ pub extern "C" fn buftag_hash(
 ) -> u32
     ensures { λ r. ⌜ r ≡ hashOf (nameOf tablespace database relation fork block) ⌝ }
 {
-    hash(page_name(tablespace, database, relation, fork, block))
+    hash(tablespace, database, relation, fork, block)
 }
 
 // Fills `out` with a name's bytes and answers 0; where `out` has another length, it stays as it is and the answer is 1.

@@ -6,8 +6,8 @@ ghost use Prim.Native.Nat.{_^_, _<_};
 ghost use lib.ListN.{length};
 ghost use Rattle.bufhash.specs.Bytes.{wordBytes};
 ghost use Rattle.bufhash.specs.Fnv.{fnv, fnvStart};
-ghost use Rattle.buftag.specs.Name.{fileOf, nameOf, nameSize, fileBytes, nameBytes, nameOfBytes};
-ghost use Rattle.buftag.specs.Name.{hashOf, bucketOf, sameFile, sameName, isFork};
+ghost use Rattle.buftag.specs.Name.{fileOf, nameOf, nameSize, nameBytes, nameOfBytes};
+ghost use Rattle.buftag.specs.Name.{hashOf, hashWords, bucketOf, sameFile, sameName, isFork};
 use crate::number::BlockNumber;
 use bufhash::bytes::put_word;
 use bufhash::bytes::word_at;
@@ -83,23 +83,7 @@ pub fn hash_within(h: u32, file: FileName) -> u32
     mix_small(h3, file.fork)
 }
 
-// The hash of a file's 16 bytes: what the hash of each of its pages' names begins with.
-fn hash_file(file: FileName) -> u32
-    ensures { λ r. ⌜ r ≡ fnv (fileBytes file) fnvStart ⌝ }
-{
-    let h2 = hash_database(file.tablespace, file.database);
-    let h3 = mix_word(h2, file.relation);
-    mix_word(h3, file.fork)
-}
-
-// A hash continued over a block number's four bytes.
-fn hash_block(h: u32, block: BlockNumber) -> u32
-    ensures { λ r. ⌜ r ≡ fnv (wordBytes (block .0)) h ⌝ }
-{
-    mix_word(h, block.0)
-}
-
-// The same for a block that a file can have.
+// The hash of a file's 16 bytes continued over the four of a block that it can have.
 pub fn hash_short(h: u32, block: BlockNumber) -> u32
     requires { ⌜ block .0 < 2 ^ 16 ⌝ }
     ensures { λ r. ⌜ r ≡ fnv (wordBytes (block .0)) h ⌝ }
@@ -107,12 +91,36 @@ pub fn hash_short(h: u32, block: BlockNumber) -> u32
     mix_short(h, block.0)
 }
 
-pub fn hash(name: PageName) -> u32
-    ensures { λ r. ⌜ r ≡ hashOf name ⌝ }
+// A hash continued over a fork's four bytes, and over a block's: of every page that there is, their upper bytes are zeros.
+fn mix_fork(h: u32, fork: u32) -> u32
+    ensures { λ r. ⌜ r ≡ fnv (wordBytes fork) h ⌝ }
 {
-    let file = name.file;
-    let block = name.block;
-    hash_block(hash_file(file), block)
+    if fork < 256 {
+        mix_small(h, fork)
+    } else {
+        mix_word(h, fork)
+    }
+}
+
+fn mix_block(h: u32, block: u32) -> u32
+    ensures { λ r. ⌜ r ≡ fnv (wordBytes block) h ⌝ }
+{
+    if block < 65536 {
+        mix_short(h, block)
+    } else {
+        mix_word(h, block)
+    }
+}
+
+// The hash of a name, a word at a time: the bytes are taken out of each word as it is met, and no array of them is made.
+pub fn hash(tablespace: u32, database: u32, relation: u32, fork: u32, block: u32) -> u32
+    ensures { λ r. ⌜ r ≡ hashWords tablespace database relation fork block ⌝ }
+    ensures { λ r. ⌜ r ≡ hashOf (nameOf tablespace database relation fork block) ⌝ }
+{
+    let h2 = hash_database(tablespace, database);
+    let h3 = mix_word(h2, relation);
+    let h4 = mix_fork(h3, fork);
+    mix_block(h4, block)
 }
 
 // The bucket of a name.
@@ -120,7 +128,15 @@ pub fn bucket(name: PageName, buckets: usize) -> usize
     requires { ⌜ 0 < buckets ⌝ }
     ensures { λ r. ⌜ r ≡ bucketOf name buckets ⌝ }
 {
-    hash(name) as usize % buckets
+    let file = name.file;
+    let h = hash(
+        file.tablespace,
+        file.database,
+        file.relation,
+        file.fork,
+        name.block.0,
+    );
+    h as usize % buckets
 }
 
 pub fn same_file(a: FileName, b: FileName) -> bool

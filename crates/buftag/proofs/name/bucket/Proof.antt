@@ -16,7 +16,7 @@ rem-result c = search needs
 
 returns : tie.Need-returns
 unfolding bucketOf
-returns c = ap (λ h. h % c .before .args .buckets) (c .hash .ensures)
+returns c = ap (λ h. h % c .before .before .args .buckets) (c .hash .ensures .1)
 
 pub bucket-spec : {M : Type 1} → statement M
 bucket-spec = tie.close (tie.spec hash-requires cast-result rem-result returns)
