@@ -37,6 +37,9 @@ def edge_names():
         yield (number,) * NAME_WORDS
         for place in range(NAME_WORDS):
             yield tuple(number if k == place else 0 for k in range(NAME_WORDS))
+    for fork in EDGES:  # the hash goes by how many bytes fork and block have
+        for block in EDGES:
+            yield (1663, 5, 37721, fork, block)
     for bit in range(8 * NAME_BYTES):
         yield tuple((1 << bit) // WORD**place % WORD for place in range(NAME_WORDS))
 

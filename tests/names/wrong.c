@@ -13,6 +13,10 @@ enum {
     FNV_1_ORDER,
     START_FROM_ZERO,
     SIGNED_BYTES,
+    FORK_OF_ONE_BYTE,
+    BLOCK_OF_TWO_BYTES,
+    FORK_256_SMALL,
+    BLOCK_65536_SHORT,
     OTHER_LENGTH_FILLED,
     OTHER_LENGTH_ACCEPTED,
     READ_FORK_AFTER_BLOCK,
@@ -41,13 +45,24 @@ static void spread_all(uint8_t *out, uint32_t t, uint32_t d, uint32_t r, uint32_
     spread(out + WORD_BYTES * (SLIP == FORK_AFTER_BLOCK ? FILE_FORK : NAME_BLOCK), b);
 }
 
+/* A byte as the hash takes it: also where a fork or a block is taken for one with fewer bytes than it has, cut or uncut. */
+static uint32_t hashed(const uint8_t *bytes, int i, uint32_t fork, uint32_t block)
+{
+    int in_fork = i - WORD_BYTES * FILE_FORK, in_block = i - WORD_BYTES * NAME_BLOCK;
+    if (SLIP == FORK_OF_ONE_BYTE && in_fork > 0 && in_block < 0) return 0;
+    if (SLIP == BLOCK_OF_TWO_BYTES && in_block > 1) return 0;
+    if (SLIP == FORK_256_SMALL && fork == 256 && in_fork >= 0 && in_block < 0) return in_fork == 0 ? fork : 0;
+    if (SLIP == BLOCK_65536_SHORT && block == 65536 && in_block > 0) return in_block == 1 ? block / 256 : 0;
+    return SLIP == SIGNED_BYTES ? (uint32_t)(int8_t)bytes[i] : bytes[i];
+}
+
 uint32_t buftag_hash(uint32_t tablespace, uint32_t database, uint32_t relation, uint32_t fork, uint32_t block)
 {
     uint8_t bytes[BUFTAG_NAME_BYTES];
     uint32_t h = SLIP == START_FROM_ZERO ? 0 : 2166136261u;
     spread_all(bytes, tablespace, database, relation, fork, block);
     for (int i = 0; i < BUFTAG_NAME_BYTES; i++) {
-        uint32_t byte = SLIP == SIGNED_BYTES ? (uint32_t)(int8_t)bytes[i] : bytes[i];
+        uint32_t byte = hashed(bytes, i, fork, block);
         h = SLIP == FNV_1_ORDER ? (h * 16777619u) ^ byte : (h ^ byte) * 16777619u;
     }
     return h;

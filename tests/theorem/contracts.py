@@ -1,5 +1,5 @@
-"""contracts.py CRATES: the contracts of the exports of CRATES/bufpool, as theorem and documents speak of them, and of the other crates'
-exports that they ask nothing. Prints what differs; status 1 if anything does."""
+"""contracts.py CRATES: the contracts of the exports of CRATES/bufpool and of the hash of CRATES/buftag, as theorem and documents speak of
+them, and of the other crates' exports that they ask nothing. Prints what differs; status 1 if anything does."""
 import glob
 import re
 import sys
@@ -29,7 +29,12 @@ OTHERS = {
         'ensures { λ r. ⌜ r ≡ sumResult (now (page .entry)) (now (answer .entry)) ⌝ } '
         'ensures { λ _. ⌜ now (answer .exit) ≡ sumAnswer (now (page .entry)) block (now (answer .entry)) ⌝ }'),
 }
-# what these two say, as bufpool's own specs define it
+# the hash of a name, by its five words, within the library and for C
+FIVE = 'tablespace: u32, database: u32, relation: u32, fork: u32, block: u32'
+OF_BYTES = 'ensures { λ r. ⌜ r ≡ hashOf (nameOf tablespace database relation fork block) ⌝ }'
+OF_WORDS = 'ensures { λ r. ⌜ r ≡ hashWords tablespace database relation fork block ⌝ }'
+HASHES = {'pub fn hash': OF_WORDS + ' ' + OF_BYTES, 'pub extern "C" fn buftag_hash': OF_BYTES}
+# what the two of OTHERS say, as bufpool's own specs define it
 DEFINITIONS = {
     'Interface.antt': ['interface = 3'],
     'Checksum.antt': [
@@ -61,8 +66,18 @@ def exports(crates, crate):
         yield from EXPORT.findall(open(path, encoding='utf8').read())
 
 
+def hashes(crates):
+    """What is wrong with the contracts of the hash."""
+    code = ''.join(open(path, encoding='utf8').read() for path in sorted(glob.glob('%s/buftag/src/*.rt' % crates)))
+    for head, contract in HASHES.items():
+        said = [' '.join(text.split()) for text in re.findall(r'^%s\((.*?\n)\{\n' % re.escape(head), code, re.S | re.M)]
+        said = [re.sub(r',? ?\) -> u32 ', ') -> u32 ', text, count=1) for text in said]
+        if said != ['%s) -> u32 %s' % (FIVE, contract)]:
+            yield '%s says: %s' % (head.split()[-1], said)
+
+
 def main(crates):
-    found, wrong = {}, []
+    found, wrong = {}, list(hashes(crates))
     for crate in ('buftag', 'bufbooks', 'bufpool'):
         for name, parameters, contract in exports(crates, crate):
             found[name] = crate

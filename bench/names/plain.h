@@ -1,0 +1,9 @@
+/* Plain C's hash of a page name. */
+#ifndef PLAIN_HASH_H
+#define PLAIN_HASH_H
+
+#include <stdint.h>
+
+uint32_t plain_hash(uint32_t tablespace, uint32_t database, uint32_t relation, uint32_t fork, uint32_t block);
+
+#endif
