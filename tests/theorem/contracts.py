@@ -34,6 +34,9 @@ FIVE = 'tablespace: u32, database: u32, relation: u32, fork: u32, block: u32'
 OF_BYTES = 'ensures { λ r. ⌜ r ≡ hashOf (nameOf tablespace database relation fork block) ⌝ }'
 OF_WORDS = 'ensures { λ r. ⌜ r ≡ hashWords tablespace database relation fork block ⌝ }'
 HASHES = {'pub fn hash': OF_WORDS + ' ' + OF_BYTES, 'pub extern "C" fn buftag_hash': OF_BYTES}
+# and where the words of these contracts are from, none by another name
+WORDS, FROM = {'hashOf', 'hashWords', 'nameOf'}, 'Rattle.buftag.specs.Name'
+GHOST = re.compile(r'^ghost use (\S+)\.\{(.*?)\};', re.M)
 # what the two of OTHERS say, as bufpool's own specs define it
 DEFINITIONS = {
     'Interface.antt': ['interface = 3'],
@@ -74,6 +77,10 @@ def hashes(crates):
         said = [re.sub(r',? ?\) -> u32 ', ') -> u32 ', text, count=1) for text in said]
         if said != ['%s) -> u32 %s' % (FIVE, contract)]:
             yield '%s says: %s' % (head.split()[-1], said)
+    for module, names in GHOST.findall(code):
+        for name in names.split(', '):
+            if WORDS & set(name.split()) and (module != FROM or ' as ' in name):
+                yield 'buftag has %s from %s' % (name, module)
 
 
 def main(crates):

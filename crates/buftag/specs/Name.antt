@@ -57,12 +57,12 @@ hashOf n = fnv (nameBytes n) fnvStart
 unfoldable pub hashWords : ℕ → ℕ → ℕ → ℕ → ℕ → ℕ
 hashWords t d r f b = fnvWord b (fnvWord f (fnvWord r (fnvWord d (fnvWord t fnvStart))))
 
--- not marked: both hashes of the name whose bytes are 1 to 20
-pub case-bytes : hashOf (nameOf 0x04030201 0x08070605 0x0C0B0A09 0x100F0E0D 0x14131211) ≡ 360515885
+-- not marked: both hashes of the name whose bytes are the first twenty multiples of 13, modulo 256
+pub case-bytes : hashOf (nameOf 0x34271A0D 0x685B4E41 0x9C8F8275 0xD0C3B6A9 0x04F7EADD) ≡ 498205429
 unfolding fnvStep hashOf
 case-bytes = refl
 
-pub case-words : hashWords 0x04030201 0x08070605 0x0C0B0A09 0x100F0E0D 0x14131211 ≡ 360515885
+pub case-words : hashWords 0x34271A0D 0x685B4E41 0x9C8F8275 0xD0C3B6A9 0x04F7EADD ≡ 498205429
 unfolding fnvStep fnvWord hashWords
 case-words = refl
 
