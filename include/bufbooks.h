@@ -27,12 +27,13 @@ extern "C" {
    pool         N pages of P bytes                  free    N free links
    heads        B heads of the bucket chains        chain   N chain links
    rows         file rows of six words              store   P bytes for each block of the rows' capacities
+   counts       N x 64 private counts: holder h's pins on buffer i at i * 64 + h
    answer       the four words in which a call would answer; only its length is looked at */
 BUFBOOKS_RESULT uint32_t bufbooks_check(
     const uint64_t *control, uint64_t control_len, const uint32_t *states, uint64_t states_len,
     const uint32_t *names, uint64_t names_len, const uint8_t *pool, uint64_t pool_len, const int32_t *free, uint64_t free_len,
     const int32_t *heads, uint64_t heads_len, const int32_t *chain, uint64_t chain_len, const uint32_t *rows, uint64_t rows_len,
-    const uint8_t *store, uint64_t store_len, const uint64_t *answer, uint64_t answer_len);
+    const uint8_t *store, uint64_t store_len, const uint16_t *counts, uint64_t counts_len, const uint64_t *answer, uint64_t answer_len);
 
 #ifdef __cplusplus
 }
