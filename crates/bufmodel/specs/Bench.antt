@@ -24,13 +24,18 @@ bench =
       chain = replicate 3 none;
       rows = 1663 ∷ 5 ∷ 16384 ∷ 0 ∷ 4 ∷ 5 ∷ [];
       store = replicate 5120 0;
+      counts = replicate 192 7;
     }
 
 abbrev pub file : FileName
 file = fileOf 1663 5 16384 0
 
+-- block b pinned by holder h, and by holder 0
+abbrev pub blockBy : ℕ → ℕ → Call
+blockBy h b = Pin h (nameOf 1663 5 16384 0 b)
+
 abbrev pub block : ℕ → Call
-block b = Pin (nameOf 1663 5 16384 0 b)
+block = blockBy 0
 
 -- The same with two files, a table and its free space map, of capacities 2 and 3. Blocks 0 and 1 of the store are the table's, which has
 -- one block yet; 2, 3 and 4 are the map's, which has two. Two bytes behind a page's checksum, here the first argument, tell the block.
@@ -51,7 +56,7 @@ abbrev pub mapFile : FileName
 mapFile = fileOf 1663 5 16384 1
 
 abbrev pub mapBlock : ℕ → Call
-mapBlock b = Pin (nameOf 1663 5 16384 1 b)
+mapBlock b = Pin 0 (nameOf 1663 5 16384 1 b)
 
 abbrev pub mapPeek : ℕ → Call
 mapPeek b = Peek (nameOf 1663 5 16384 1 b)

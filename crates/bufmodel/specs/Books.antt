@@ -2,7 +2,7 @@
 use Prim.Native.Nat.{ℕ, _≤_, _<_}
 use mathlib.Core.Path.{_≡_}
 use mathlib.Core.Bool.{Bool, true, false, not, _&&_, _||_}
-use lib.Dec.{leb, ltb}
+use lib.Dec.{eqb, leb, ltb}
 use Rattle.laws.specs.Every.{all}
 use Rattle.laws.specs.First.{Found, found, missing}
 use Rattle.buftag.specs.declared.link.Link.{Link}
@@ -11,10 +11,11 @@ use Rattle.buftag.specs.Name.{sameName}
 use Rattle.buftag.specs.Names.{noName}
 use Rattle.buftag.specs.Link.{linkOf, linkAt, Holds, holdsTest}
 use Rattle.buftag.specs.Chain.{ChainsSound, Distinct, chainsTest}
-use Rattle.bufmodel.specs.Word.{empty, dirty, maxCap, soundCap, soundWord}
+use Rattle.bufmodel.specs.Word.{pins, empty, dirty, maxCap, soundCap, soundWord}
 use Rattle.bufmodel.specs.Position.{position}
 use Rattle.bufmodel.specs.Rows.{placeOf}
 use Rattle.bufmodel.specs.Memory.{Memory, buffers, capOf, wordOf, nameOf, pageOf}
+use Rattle.bufmodel.specs.Counts.{holdersOf}
 
 abbrev pub isFound : Found → Bool
 isFound (found i) = true
@@ -52,6 +53,10 @@ module _ (m : Memory) where
   unfoldable pub soundPages : Bool
   soundPages = all (buffers m) (λ i. not (dirty (wordOf m i)) || leb (position (pageOf m i)) (m .control .inserted))
 
+  -- a word counts the holders whose private count isn't 0 (document 02)
+  unfoldable pub soundCounts : Bool
+  soundCounts = all (buffers m) (λ i. eqb (pins (wordOf m i)) (holdersOf (m .counts) i))
+
   unfoldable pub sound : Bool
   sound =
       soundCap (capOf m) && ltb (m .control .hand) (buffers m) && leb (m .control .flushed) (m .control .inserted) && soundWords
@@ -60,6 +65,7 @@ module _ (m : Memory) where
       && soundNames
       && chainsTest (m .states) (m .names) (m .heads) (m .chain)
       && soundPages
+      && soundCounts
 
 -- ---- the same as a statement
 pub record BooksSound (m : Memory) : Type 0 where
@@ -79,3 +85,5 @@ pub record BooksSound (m : Memory) : Type 0 where
   pub chains : ChainsSound (m .states) (m .names) (m .heads) (m .chain)
   -- a dirty page's log position ≤ inserted
   pub low : (i : ℕ) → i < buffers m → dirty (wordOf m i) ≡ true → position (pageOf m i) ≤ m .control .inserted
+  -- the word counts the holders whose private count isn't 0
+  pub counts : (i : ℕ) → i < buffers m → pins (wordOf m i) ≡ holdersOf (m .counts) i

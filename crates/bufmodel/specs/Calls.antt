@@ -1,6 +1,6 @@
 -- The other calls, each a function from the lent memory and its arguments to its outcome.
-use Prim.Native.Nat.{ℕ, zero, suc, _+_, _*_, max}
-use mathlib.Core.Bool.{Bool, false, not, _&&_, _||_}
+use Prim.Native.Nat.{ℕ, zero, suc, _+_, _-_, _*_, max}
+use mathlib.Core.Bool.{Bool, false, not, _&&_, _||_, cond}
 use mathlib.Core.List.{List, [], _∷_}
 use lib.ListN.{length, getD, take, drop, set, replicate}
 use lib.IntN.{ℤ, pos}
@@ -28,15 +28,17 @@ use Rattle.bufmodel.specs.Memory.{
   withPool,
   withRows,
   withStore,
+  withCounts,
   withInserted,
   withFlushed,
 }
+use Rattle.bufmodel.specs.Counts.{countAt, setCount, hasPin}
 use Rattle.bufmodel.specs.Sizes.{sizedFor}
 use Rattle.bufmodel.specs.Moves.{writeBack, writeUpTo, ofFile, releaseUpTo}
 use Rattle.bufmodel.specs.Outcome.{Outcome, Place, place, refusalOf, checked, zeros, one, two, done, outcome}
-use Rattle.bufmodel.specs.Pin.{noRow, pagePlaces, heldIn}
+use Rattle.bufmodel.specs.Pin.{holderPlace, noRow, pagePlaces, heldIn}
 
--- ---- set up: all buffers and chains empty; free list 0, 1, .. N−1; hand 0; both positions and the cap as given.
+-- ---- set up: all buffers and chains empty; free list 0, 1, .. N−1; hand 0; both positions and the cap as given; all counts 0.
 -- Pool, rows and store untouched
 -- n free links, the first of buffer i, each to the next buffer
 unfoldable pub freeLinks : ℕ → ℕ → List ℤ
@@ -56,6 +58,7 @@ fresh m p at cap =
       chain = replicate (length (m .chain)) none;
       rows = m .rows;
       store = m .store;
+      counts = replicate (length (m .counts)) 0;
     }
 
 -- 1, sizes or rows; after it 18, cap outside 1 to 15 (document 02)
@@ -64,25 +67,33 @@ setUp m p at cap =
     outcome (refusalOf (place 1 (not (sizedFor p m)) ∷ place 18 (not (soundCap cap)) ∷ [])) [] m (done zeros [] (fresh m p at cap))
 
 -- ---- calls on a buffer
--- 7, ≥ N; 8, pin count 0
-unfoldable pub bufferPlaces : Memory → ℕ → List Place → List Place
-bufferPlaces m i later = place 7 (leb (buffers m) i) ∷ place 8 (not (pinned (wordOf m i))) ∷ later
+-- 19, no such holder; 7, ≥ N; 8, this holder has no pin on it
+unfoldable pub bufferPlaces : Memory → ℕ → ℕ → List Place → List Place
+bufferPlaces m h i later = holderPlace h ∷ place 7 (leb (buffers m) i) ∷ place 8 (not (hasPin (m .counts) i h)) ∷ later
 
--- pin count − 1
-unfoldable pub unpin : Memory → ℕ → Outcome
-unpin m i =
-    outcome (checked m (bufferPlaces m i [])) [] m (done zeros [] (withStates (set (m .states) i (pinLess (wordOf m i))) m))
+-- the word of a buffer on which a holder had c pins and unpins one: with its last one pin count − 1
+unfoldable pub lessWord : ℕ → ℕ → ℕ
+lessWord c w = cond (eqb c 1) (pinLess w) w
+
+-- this holder's count − 1, and with its last pin the word
+unfoldable pub unpinAt : Memory → ℕ → ℕ → Memory
+unpinAt m h i =
+    let c = countAt (m .counts) i h in
+    withCounts (setCount (m .counts) i h (c - 1)) (withStates (set (m .states) i (lessWord c (wordOf m i))) m)
+
+unfoldable pub unpin : Memory → ℕ → ℕ → Outcome
+unpin m h i = outcome (checked m (bufferPlaces m h i [])) [] m (done zeros [] (unpinAt m h i))
 
 -- fills out from the page
-unfoldable pub read : Memory → ℕ → ℕ → List ℕ → Outcome
-read m i from out =
-    outcome (checked m (bufferPlaces m i (place 9 (ltb (size m) (from + length out)) ∷ []))) out m
+unfoldable pub read : Memory → ℕ → ℕ → ℕ → List ℕ → Outcome
+read m h i from out =
+    outcome (checked m (bufferPlaces m h i (place 9 (ltb (size m) (from + length out)) ∷ []))) out m
     (done zeros (take (length out) (drop from (pageOf m i))) m)
 
 -- copies the bytes, sets the page's log position, sets dirty and just dirtied
-unfoldable pub writePlaces : Memory → ℕ → ℕ → List ℕ → ℕ → List Place
-writePlaces m i from bytes at =
-    bufferPlaces m i
+unfoldable pub writePlaces : Memory → ℕ → ℕ → ℕ → List ℕ → ℕ → List Place
+writePlaces m h i from bytes at =
+    bufferPlaces m h i
     (place 9 (ltb (size m) (from + length bytes) || ltb from 8)
     ∷ place 10 (eqb (length bytes) 0)
     ∷ place 11 (ltb (m .control .inserted) at)
@@ -94,12 +105,32 @@ writeTo m i from bytes at =
     withPool (putBlock (size m) i (written at from bytes (pageOf m i)) (m .pool))
     (withStates (set (m .states) i (makeDirty (wordOf m i))) m)
 
-unfoldable pub write : Memory → ℕ → ℕ → List ℕ → ℕ → Outcome
-write m i from bytes at = outcome (checked m (writePlaces m i from bytes at)) bytes m (done zeros bytes (writeTo m i from bytes at))
+unfoldable pub write : Memory → ℕ → ℕ → ℕ → List ℕ → ℕ → Outcome
+write m h i from bytes at =
+    outcome (checked m (writePlaces m h i from bytes at)) bytes m (done zeros bytes (writeTo m i from bytes at))
 
 -- answers the count written
-unfoldable pub flush : Memory → ℕ → Outcome
-flush m i = outcome (checked m (bufferPlaces m i [])) [] m (done (one (ind (dirty (wordOf m i)))) [] (writeBack m i))
+unfoldable pub flush : Memory → ℕ → ℕ → Outcome
+flush m h i = outcome (checked m (bufferPlaces m h i [])) [] m (done (one (ind (dirty (wordOf m i)))) [] (writeBack m i))
+
+-- ---- give back: everything that a holder has
+-- the word of a buffer on which a holder had c pins and has none now
+unfoldable pub givenWord : ℕ → ℕ → ℕ
+givenWord c w = cond (eqb c 0) w (pinLess w)
+
+unfoldable pub giveAt : Memory → ℕ → ℕ → Memory
+giveAt m h i =
+    withCounts (setCount (m .counts) i h 0)
+    (withStates (set (m .states) i (givenWord (countAt (m .counts) i h) (wordOf m i))) m)
+
+-- the first k buffers, rising
+unfoldable pub giveUpTo : ℕ → ℕ → Memory → Memory
+giveUpTo h zero m = m
+giveUpTo h (suc k) m = giveAt (giveUpTo h k m) h k
+
+-- nothing else is looked at: a holder that has nothing gives nothing back
+unfoldable pub giveBack : Memory → ℕ → Outcome
+giveBack m h = outcome (checked m (holderPlace h ∷ [])) [] m (done zeros [] (giveUpTo h (buffers m) m))
 
 -- every buffer, rising
 unfoldable pub checkpoint : Memory → Outcome

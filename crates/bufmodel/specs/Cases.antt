@@ -1,87 +1,61 @@
 -- The marked cases A to J of document 01 ("Pages on the bench"), and unmarked ones: one list, which one theorem covers.
-use Prim.Native.Nat.{ℕ, _+_, _-_, _^_}
+use Prim.Native.Nat.{ℕ, zero, suc, _+_, _-_, _^_}
 use mathlib.Core.Path.{_≡_, refl, sym, ap, ap₂, _∙_}
 use mathlib.Core.List.{List, [], _∷_, _++_}
-use lib.ListN.{getD, take, drop, replicate}
-use lib.IntN.{ℤ, pos, negsuc}
+use lib.ListN.{getD, replicate}
+use lib.IntN.{pos, negsuc}
 use Rattle.buftag.specs.Name.{nameOf, nameBytes}
 use Rattle.bufmodel.specs.Position.{position, positionBytes}
-use Rattle.bufmodel.specs.Memory.{Memory, withStore}
+use Rattle.bufmodel.specs.Memory.{withStore, withCounts}
 use Rattle.bufmodel.specs.Outcome.{zeros}
 use Rattle.bufmodel.specs.Calls.{setUp}
 use Rattle.bufmodel.specs.Step.{
   Call,
+  Pin,
   Unpin,
   Read,
   Write,
   Flush,
+  GiveBack,
   Checkpoint,
   Extend,
   Drop,
   LogInserted,
   LogFlushed,
-  step,
-  memoryAfter,
   answers,
 }
-use Rattle.bufmodel.specs.Lent.{Lent, called}
-use Rattle.bufmodel.specs.Bench.{bench, file, block, twoFiles, damaged, mapFile, mapBlock, mapPeek, peek}
-
--- ---- what is seen. These are definitions and not abbreviations, so that the checker computes the memory once for all that is read off it
--- the memory after set up and these calls
-unfoldable pub after : Memory → List Call → Memory
-after m calls = memoryAfter (setUp m 1024 100 5 .after) calls
-
--- the same on the bench with another cap
-unfoldable pub warmed : ℕ → List Call → Memory
-warmed cap calls = memoryAfter (setUp bench 1024 100 cap .after) calls
-
--- the refusal number and the answer's words of each of some calls, after others
-unfoldable pub seen : Memory → List Call → List Call → List (List ℕ)
-seen m before calls = answers (after m before) calls
-
-unfoldable pub seenAt : ℕ → List Call → List Call → List (List ℕ)
-seenAt cap before calls = answers (warmed cap before) calls
-
--- the bytes that a read of a buffer's page hands back, after some calls
-unfoldable pub bytes : Memory → List Call → ℕ → ℕ → ℕ → List ℕ
-bytes m before buffer from n = step (after m before) (Read buffer from (replicate n 0)) .bytes
-
--- the bytes from 4 to 12 of each of five blocks of the store, after some calls
-unfoldable pub blocks : Memory → List Call → List (List ℕ)
-blocks m calls =
-    let store = after m calls .store in
-    take 9 (drop 4 store)
-    ∷ take 9 (drop 1028 store)
-    ∷ take 9 (drop 2052 store)
-    ∷ take 9 (drop 3076 store)
-    ∷ take 9 (drop 4100 store)
-    ∷ []
-
--- calls as C makes them: each one's result and answer, and the control words that it leaves
-unfoldable pub results : Lent → List Call → List (List ℕ)
-results m [] = []
-results m (c ∷ cs) =
-    let r = called (λ k. step k c) m [] (7 ∷ 7 ∷ 7 ∷ 7 ∷ []) in
-    (r .result ∷ r .answer) ∷ r .lent .control ∷ results (r .lent) cs
-
--- the same, where these control words are lent with the rest of a memory after other calls
-unfoldable pub told : Memory → List Call → List ℕ → List Call → List (List ℕ)
-told m before words calls =
-    let left = after m before in
-    results
-    (record {
-      control = words;
-      states = left .states;
-      names = left .names;
-      pool = left .pool;
-      free = left .free;
-      heads = left .heads;
-      chain = left .chain;
-      rows = left .rows;
-      store = left .store;
-    })
-    calls
+use Rattle.bufmodel.specs.Bench.{bench, file, blockBy, block, twoFiles, damaged, mapFile, mapBlock, mapPeek, peek}
+use Rattle.bufmodel.specs.Seen.{
+  after,
+  warmed,
+  seen,
+  seenAt,
+  bytes,
+  blocks,
+  told,
+  linksAfter,
+  seenCounts,
+  seenCount,
+  seenWord,
+  countsOf,
+  A,
+  B,
+  C,
+  D,
+  E,
+  F,
+  G,
+  H,
+  I,
+  J,
+  unmarked,
+  Shown,
+  links,
+  Case,
+  case,
+  linked,
+  just,
+}
 
 -- number and answer of an accepted pin, buffer, loaded, wrote nothing, probes; of an accepted call that answers a count or a block number;
 -- and a number with zeros
@@ -94,30 +68,41 @@ counted k = 0 ∷ k ∷ 0 ∷ 0 ∷ 0 ∷ []
 abbrev only : ℕ → List ℕ
 only k = k ∷ zeros
 
--- ---- lists of calls
+-- ---- lists of calls. Where no holder is named, it is holder 0
+abbrev unpin : ℕ → Call
+unpin = Unpin 0
+
+abbrev flush : ℕ → Call
+flush = Flush 0
+
+-- a call by each of n holders, the first of which is h
+abbrev each : (ℕ → Call) → ℕ → ℕ → List Call
+each call h zero = []
+each call h (suc n) = call h ∷ each call (suc h) n
+
 -- blocks 0, 1, 2 pinned; then all unpinned
 abbrev three : List Call
 three = block 0 ∷ block 1 ∷ block 2 ∷ []
 
 abbrev unpinned : List Call
-unpinned = three ++ (Unpin 0 ∷ Unpin 1 ∷ Unpin 2 ∷ [])
+unpinned = three ++ (unpin 0 ∷ unpin 1 ∷ unpin 2 ∷ [])
 
--- buffers 0 and 1 pinned, 2 unpinned with this usage
+-- buffers 0 and 1 pinned, 2 unpinned with this usage: as many holders pin its page, then all unpin it
 abbrev used : ℕ → List Call
-used n = three ++ (replicate (n - 1) (block 2) ++ replicate n (Unpin 2))
+used n = three ++ (each (λ h. blockBy h 2) 1 (n - 1) ++ each (λ h. Unpin h 2) 0 n)
 
 abbrev clocked : List Call
 clocked = used 5
 
 abbrev write : ℕ → Call
-write position = Write 0 8 (1 ∷ []) position
+write position = Write 0 0 8 (1 ∷ []) position
 
 -- block 0 written to and unpinned; then its buffer taken by block 3, and from that by block 0 again
 abbrev dirtied : List Call
-dirtied = three ++ (Write 0 10 (77 ∷ 78 ∷ []) 90 ∷ Unpin 0 ∷ [])
+dirtied = three ++ (Write 0 0 10 (77 ∷ 78 ∷ []) 90 ∷ unpin 0 ∷ [])
 
 abbrev back : List Call
-back = block 3 ∷ Unpin 0 ∷ block 0 ∷ []
+back = block 3 ∷ unpin 0 ∷ block 0 ∷ []
 
 -- the table's block 0 and the map's blocks 1 and 0 in the buffers 0, 1, 2; then all three written to, the second one flushed, twice, and
 -- the others left to a checkpoint, twice
@@ -126,34 +111,18 @@ spread = block 0 ∷ mapBlock 1 ∷ mapBlock 0 ∷ []
 
 abbrev settled : List Call
 settled =
-    Write 1 12 (77 ∷ []) 91 ∷ Flush 1 ∷ Flush 1 ∷ Write 0 12 (78 ∷ []) 90 ∷ Write 2 12 (79 ∷ []) 92 ∷ Checkpoint ∷ Checkpoint ∷ []
+    Write 0 1 12 (77 ∷ []) 91
+    ∷ flush 1
+    ∷ flush 1
+    ∷ Write 0 0 12 (78 ∷ []) 90
+    ∷ Write 0 2 12 (79 ∷ []) 92
+    ∷ Checkpoint
+    ∷ Checkpoint
+    ∷ []
 
--- ---- what the definitions give, beside what document 01 says
-pub data Letter : Type 0 where
-  A B C D E F G H I J unmarked : Letter
-
--- rows of numbers, or the free links with the top of the free list
-pub data Shown : Type 0 where
-  numbers : List (List ℕ) → Shown
-  links : List ℤ → ℤ → Shown
-
-unfoldable pub linksAfter : Memory → List Call → Shown
-linksAfter m calls = let left = after m calls in links (left .free) (left .control .top)
-
-pub record Case : Type 0 where
-  pub letter : Letter
-  pub gives : Shown
-  pub says : Shown
-
-abbrev case : Letter → List (List ℕ) → List (List ℕ) → Case
-case l g s = record { letter = l; gives = numbers g; says = numbers s }
-
-abbrev linked : Letter → Shown → Shown → Case
-linked l g s = record { letter = l; gives = g; says = s }
-
--- numbers as a row of one
-abbrev just : ℕ → List (List ℕ)
-just k = (k ∷ []) ∷ []
+-- Holder 0 has block 0 twice and block 1, holder 1 has block 1, holder 63 block 2
+abbrev shared : List Call
+shared = block 0 ∷ block 0 ∷ block 1 ∷ blockBy 1 1 ∷ blockBy 63 2 ∷ []
 
 -- document 01's, and others on the bench
 unfoldable pub benchCases : List Case
@@ -174,8 +143,10 @@ benchCases =
     ∷ case E (seen bench unpinned (block 3 ∷ block 0 ∷ [])) (at 0 4 ∷ at 1 1 ∷ [])
     ∷ case E (just (after bench (unpinned ++ (block 3 ∷ [])) .control .hand)) (just 1)
     ∷ case E (just (after bench (unpinned ++ (block 3 ∷ block 0 ∷ [])) .control .hand)) (just 2)
-    -- One page pinned six times
-    ∷ case F (just (getD (after bench (replicate 6 (block 0)) .states) 0 0)) (just 0x83140006)
+    -- One page pinned by six holders; and by one holder six times, private count 6
+    ∷ case F (just (getD (after bench (each (λ h. blockBy h 0) 0 6) .states) 0 0)) (just 0x83140006)
+    ∷ case F (just (getD (after bench (replicate 6 (block 0)) .states) 0 0)) (just 0x83040001)
+    ∷ case F (countsOf bench (replicate 6 (block 0)) 0 3 ∷ []) ((6 ∷ 0 ∷ 0 ∷ []) ∷ [])
     -- C, then a write to buffer 0
     ∷ case G (just (getD (after bench (three ++ (write 100 ∷ [])) .states) 0 0)) (just 0x93840001)
     -- Buffers 0, 1 pinned, 2 unpinned with usage 5, hand 0: probes 18
@@ -197,7 +168,7 @@ benchCases =
     -- From C: the control words are P, hand, top of the free list with −1 as 64 one bits, inserted, flushed, cap
     ∷ case unmarked
     (told bench unpinned (1024 ∷ 2 ∷ 18446744073709551615 ∷ 200 ∷ 150 ∷ 7 ∷ [])
-    (LogInserted 300 ∷ LogFlushed 180 ∷ block 3 ∷ Unpin 2 ∷ Drop file ∷ []))
+    (LogInserted 300 ∷ LogFlushed 180 ∷ block 3 ∷ unpin 2 ∷ Drop file ∷ []))
     (only 0
     ∷ (1024 ∷ 2 ∷ 18446744073709551615 ∷ 300 ∷ 150 ∷ 7 ∷ [])
     ∷ only 0
@@ -245,7 +216,7 @@ sumCases =
     -- The pool's page keeps its own bytes 8 and 9
     case unmarked (bytes twoFiles (spread ++ settled) 1 8 2 ∷ []) ((218 ∷ 199 ∷ []) ∷ [])
     -- A write reaches them
-    ∷ case unmarked (bytes bench (three ++ (Write 0 8 (5 ∷ 6 ∷ []) 90 ∷ [])) 0 8 2 ∷ []) ((5 ∷ 6 ∷ []) ∷ [])
+    ∷ case unmarked (bytes bench (three ++ (Write 0 0 8 (5 ∷ 6 ∷ []) 90 ∷ [])) 0 8 2 ∷ []) ((5 ∷ 6 ∷ []) ∷ [])
     -- A block without its checksum: 17, after 4 and before a victim is sought. A drop takes it out, and an extend's block is of zeros
     ∷ case unmarked (seen damaged three (block 3 ∷ peek 3 ∷ block 4 ∷ [])) (only 17 ∷ only 17 ∷ only 4 ∷ [])
     ∷ case unmarked
@@ -261,10 +232,10 @@ capCases =
     -- H at other caps: the sweep looks at each buffer cap + 1 times
     case unmarked (seenAt 1 (used 1) (block 3 ∷ [])) (at 2 6 ∷ [])
     ∷ case unmarked (seenAt 15 (used 15) (block 3 ∷ [])) (at 2 48 ∷ [])
-    -- A page pinned more often than the cap: usage stays there
-    ∷ case unmarked (just (getD (warmed 1 (replicate 3 (block 0)) .states) 0 0)) (just 0x83040003)
-    ∷ case unmarked (just (getD (warmed 2 (replicate 3 (block 0)) .states) 0 0)) (just 0x83080003)
-    ∷ case unmarked (just (getD (warmed 15 (replicate 16 (block 0)) .states) 0 0)) (just 0x833C0010)
+    -- A page pinned by more holders than the cap: usage stays there
+    ∷ case unmarked (just (getD (warmed 1 (each (λ h. blockBy h 0) 0 3) .states) 0 0)) (just 0x83040003)
+    ∷ case unmarked (just (getD (warmed 2 (each (λ h. blockBy h 0) 0 3) .states) 0 0)) (just 0x83080003)
+    ∷ case unmarked (just (getD (warmed 15 (each (λ h. blockBy h 0) 0 16) .states) 0 0)) (just 0x833C0010)
     -- Set up: 18, cap outside 1 to 15, after 1, sizes
     ∷ case unmarked (just (setUp bench 1024 100 0 .refusal)) (just 18)
     ∷ case unmarked (just (setUp bench 1024 100 1 .refusal)) (just 0)
@@ -279,14 +250,57 @@ capCases =
     (only 2 ∷ (1024 ∷ 0 ∷ 0 ∷ 100 ∷ 100 ∷ 16 ∷ []) ∷ [])
     ∷ case unmarked (told bench [] (1024 ∷ 0 ∷ 0 ∷ 100 ∷ 100 ∷ (2 ^ 63 + 5) ∷ []) (Checkpoint ∷ []))
     (only 2 ∷ (1024 ∷ 0 ∷ 0 ∷ 100 ∷ 100 ∷ (2 ^ 63 + 5) ∷ []) ∷ [])
-    ∷ case unmarked (told bench (block 0 ∷ block 0 ∷ []) (1024 ∷ 0 ∷ 1 ∷ 100 ∷ 100 ∷ 1 ∷ []) (Checkpoint ∷ []))
+    ∷ case unmarked (told bench (block 0 ∷ blockBy 1 0 ∷ []) (1024 ∷ 0 ∷ 1 ∷ 100 ∷ 100 ∷ 1 ∷ []) (Checkpoint ∷ []))
     (only 2 ∷ (1024 ∷ 0 ∷ 1 ∷ 100 ∷ 100 ∷ 1 ∷ []) ∷ [])
-    ∷ case unmarked (told bench (block 0 ∷ block 0 ∷ []) (1024 ∷ 0 ∷ 1 ∷ 100 ∷ 100 ∷ 2 ∷ []) (Checkpoint ∷ []))
+    ∷ case unmarked (told bench (block 0 ∷ blockBy 1 0 ∷ []) (1024 ∷ 0 ∷ 1 ∷ 100 ∷ 100 ∷ 2 ∷ []) (Checkpoint ∷ []))
     (counted 0 ∷ (1024 ∷ 0 ∷ 1 ∷ 100 ∷ 100 ∷ 2 ∷ []) ∷ [])
     ∷ []
 
+-- holders
+unfoldable pub holderCases : List Case
+holderCases =
+    -- 19, holder 64 or above, before 3 and 7, for each call that names a holder; 63 is one
+    case unmarked
+    (seen bench three (Pin 64 (nameOf 9 9 9 0 9) ∷ Unpin 64 9 ∷ Read 64 9 0 [] ∷ Write 64 9 0 [] 0 ∷ Flush 64 9 ∷ GiveBack 64 ∷ []))
+    (replicate 6 (only 19))
+    ∷ case unmarked (seen bench [] (blockBy 63 0 ∷ Unpin 63 0 ∷ Unpin 63 0 ∷ [])) (at 0 0 ∷ only 0 ∷ only 8 ∷ [])
+    -- 8: this holder has no pin on the buffer, though another has
+    ∷ case unmarked (seen bench three (Unpin 1 0 ∷ Read 1 0 0 [] ∷ Write 1 0 8 (1 ∷ []) 100 ∷ Flush 1 0 ∷ [])) (replicate 4 (only 8))
+    -- A word counts holders; usage rises with a holder's first pin, and the pin count falls with its last one
+    ∷ case unmarked (after bench shared .states ∷ []) ((0x83040001 ∷ 0x83080002 ∷ 0x83040001 ∷ []) ∷ [])
+    ∷ case unmarked (countsOf bench shared 0 2 ∷ countsOf bench shared 1 2 ∷ countsOf bench shared 2 2 ∷ [])
+    ((2 ∷ 0 ∷ []) ∷ (1 ∷ 1 ∷ []) ∷ (0 ∷ 0 ∷ []) ∷ [])
+    ∷ case unmarked (after bench (shared ++ (unpin 0 ∷ unpin 1 ∷ [])) .states ∷ []) ((0x83040001 ∷ 0x83080001 ∷ 0x83040001 ∷ []) ∷ [])
+    -- A holder that comes again arrives anew
+    ∷ case unmarked (just (getD (after bench (block 0 ∷ unpin 0 ∷ block 0 ∷ []) .states) 0 0)) (just 0x83080001)
+    -- Give back: all of one holder's pins, and no other's; a second time, and by one who has nothing, it is accepted and changes nothing
+    ∷ case unmarked (seen bench shared (GiveBack 0 ∷ GiveBack 0 ∷ unpin 0 ∷ Unpin 1 1 ∷ [])) (only 0 ∷ only 0 ∷ only 8 ∷ only 0 ∷ [])
+    ∷ case unmarked (after bench (shared ++ (GiveBack 0 ∷ GiveBack 5 ∷ [])) .states ∷ [])
+    ((0x83040000 ∷ 0x83080001 ∷ 0x83040001 ∷ []) ∷ [])
+    ∷ case unmarked (let left = shared ++ (GiveBack 0 ∷ []) in countsOf bench left 0 2 ∷ countsOf bench left 1 2 ∷ [])
+    ((0 ∷ 0 ∷ []) ∷ (0 ∷ 1 ∷ []) ∷ [])
+    -- 6 and 14 go by all holders together; what one gave back is taken, and what others have is not
+    ∷ case unmarked (seen bench shared (blockBy 9 3 ∷ Drop file ∷ GiveBack 0 ∷ blockBy 9 3 ∷ [])) (only 6 ∷ only 14 ∷ only 0 ∷ at 0 4 ∷ [])
+    ∷ []
+
+-- counts that are lent
+unfoldable pub countCases : List Case
+countCases =
+    -- 5: this holder's count is full; another's pin passes
+    case unmarked (seenCount (block 0 ∷ []) 0 65535 (block 0 ∷ blockBy 1 0 ∷ [])) (only 5 ∷ (0 ∷ 0 ∷ 1 ∷ 0 ∷ 0 ∷ []) ∷ [])
+    -- 1: another number of counts than N × 64, at set up too, which sets them all to 0
+    ∷ case unmarked (seenCounts [] (replicate 191 0) (Checkpoint ∷ [])) (only 1 ∷ [])
+    ∷ case unmarked (seenCounts [] (replicate 193 0) (Checkpoint ∷ [])) (only 1 ∷ [])
+    ∷ case unmarked (just (setUp (withCounts (replicate 193 7) bench) 1024 100 5 .refusal)) (just 1)
+    ∷ case unmarked (after bench [] .counts ∷ []) (replicate 192 0 ∷ [])
+    -- 2: a count under an empty buffer; a word that counts a holder too many, or too few
+    ∷ case unmarked (seenCount (block 0 ∷ []) 191 1 (Checkpoint ∷ [])) (only 2 ∷ [])
+    ∷ case unmarked (seenWord (block 0 ∷ []) 0 0x83040002 (Checkpoint ∷ [])) (only 2 ∷ [])
+    ∷ case unmarked (seenWord (block 0 ∷ []) 0 0x83040000 (Checkpoint ∷ [])) (only 2 ∷ [])
+    ∷ []
+
 unfoldable pub cases : List Case
-cases = benchCases ++ (fileCases ++ (sumCases ++ capCases))
+cases = benchCases ++ (fileCases ++ (sumCases ++ (capCases ++ (holderCases ++ countCases))))
 
 -- what the definitions give: where this unfolds, they compute
 unfoldable pub given : List Case → List Shown
@@ -323,6 +337,13 @@ unfolding Rattle.laws.specs.Every.all Rattle.laws.specs.Every.any Rattle.laws
     Rattle.bufmodel.specs.Books.emptyAt Rattle.bufmodel.specs.Books.soundWords
     Rattle.bufmodel.specs.Books.soundBlanks Rattle.bufmodel.specs.Books.soundFree
     Rattle.bufmodel.specs.Books.soundNames Rattle.bufmodel.specs.Books.soundPages
+    Rattle.bufmodel.specs.Counts.countAt Rattle.bufmodel.specs.Counts.setCount
+    Rattle.bufmodel.specs.Counts.hasPin Rattle.bufmodel.specs.Counts.holdersOf
+    Rattle.bufmodel.specs.Books.soundCounts Rattle.bufmodel.specs.Pin.holderPlace
+    Rattle.bufmodel.specs.Pin.heldWord Rattle.bufmodel.specs.Calls.lessWord
+    Rattle.bufmodel.specs.Calls.unpinAt Rattle.bufmodel.specs.Calls.givenWord
+    Rattle.bufmodel.specs.Calls.giveAt Rattle.bufmodel.specs.Calls.giveUpTo
+    Rattle.bufmodel.specs.Calls.giveBack
     Rattle.bufmodel.specs.Books.sound Rattle.bufmodel.specs.Sweep.next Rattle.bufmodel.specs.Sweep.sweep
     Rattle.bufmodel.specs.Sweep.sweepAll Rattle.bufmodel.specs.Moves.putAt Rattle.bufmodel.specs.Moves.writeBack
     Rattle.bufmodel.specs.Moves.writeUpTo Rattle.bufmodel.specs.Moves.release Rattle.bufmodel.specs.Moves.ofFile
@@ -348,8 +369,12 @@ unfolding Rattle.laws.specs.Every.all Rattle.laws.specs.Every.any Rattle.laws
     Rattle.bufmodel.specs.Lent.topOf Rattle.bufmodel.specs.Lent.topWord Rattle.bufmodel.specs.Lent.controlOf
     Rattle.bufmodel.specs.Lent.wordsOf Rattle.bufmodel.specs.Lent.opened Rattle.bufmodel.specs.Lent.closed
     Rattle.bufmodel.specs.Lent.ended Rattle.bufmodel.specs.Lent.called Rattle.bufmodel.specs.Bench.bench
-    Rattle.bufmodel.specs.Bench.twoFiles Rattle.bufmodel.specs.Bench.damaged after warmed seen seenAt bytes blocks results
-    told linksAfter
+    Rattle.bufmodel.specs.Bench.twoFiles Rattle.bufmodel.specs.Bench.damaged
+    Rattle.bufmodel.specs.Seen.after Rattle.bufmodel.specs.Seen.warmed Rattle.bufmodel.specs.Seen.seen
+    Rattle.bufmodel.specs.Seen.seenAt Rattle.bufmodel.specs.Seen.bytes Rattle.bufmodel.specs.Seen.blocks
+    Rattle.bufmodel.specs.Seen.results Rattle.bufmodel.specs.Seen.told Rattle.bufmodel.specs.Seen.linksAfter
+    Rattle.bufmodel.specs.Seen.seenCounts Rattle.bufmodel.specs.Seen.seenCount
+    Rattle.bufmodel.specs.Seen.seenWord Rattle.bufmodel.specs.Seen.countsFrom Rattle.bufmodel.specs.Seen.countsOf
 given [] = []
 given (c ∷ cs) = c .gives ∷ given cs
 
@@ -374,6 +399,14 @@ cap-hold : given capCases ≡ said capCases
 unfolding capCases given said
 cap-hold = refl
 
+holder-hold : given holderCases ≡ said holderCases
+unfolding holderCases given said
+holder-hold = refl
+
+count-hold : given countCases ≡ said countCases
+unfolding countCases given said
+count-hold = refl
+
 given-append : (xs ys : List Case) → given (xs ++ ys) ≡ given xs ++ given ys
 unfolding given
 given-append [] ys = refl
@@ -390,4 +423,6 @@ joined xs ys h k = given-append xs ys ∙ ap₂ (λ (a b : List Shown). a ++ b) 
 pub cases-hold : given cases ≡ said cases
 unfolding cases
 cases-hold =
-    joined benchCases _ bench-hold (joined fileCases _ file-hold (joined sumCases capCases sum-hold cap-hold))
+    joined benchCases _ bench-hold
+    (joined fileCases _ file-hold
+    (joined sumCases _ sum-hold (joined capCases _ cap-hold (joined holderCases countCases holder-hold count-hold))))

@@ -20,6 +20,7 @@ pub record Lent : Type 0 where
   pub chain : List ℤ
   pub rows : List ℕ
   pub store : List ℕ
+  pub counts : List ℕ
 
 -- ---- the control record as 64-bit words in the order P, hand, top of the free list, inserted, flushed, cap; −1 as 64 one bits
 abbrev pub controlWords : ℕ
@@ -62,6 +63,7 @@ opened m =
       chain = m .chain;
       rows = m .rows;
       store = m .store;
+      counts = m .counts;
     }
 
 unfoldable pub closed : Memory → Lent
@@ -76,6 +78,7 @@ closed m =
       chain = m .chain;
       rows = m .rows;
       store = m .store;
+      counts = m .counts;
     }
 
 -- ---- a call: the result, the answer slice, the caller's own bytes and the lent memory, afterwards

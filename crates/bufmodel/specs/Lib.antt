@@ -3,6 +3,7 @@ pub mod Position
 pub mod Checksum
 pub mod Rows
 pub mod Memory
+pub mod Counts
 pub mod Sizes
 pub mod Books
 pub mod Sweep
@@ -14,4 +15,5 @@ pub mod Calls
 pub mod Step
 pub mod Lent
 pub mod Bench
+pub mod Seen
 pub mod Cases

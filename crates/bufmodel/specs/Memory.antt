@@ -1,6 +1,6 @@
 -- The lent memory, with the control record taken apart, and what is read off it.
 use Prim.Native.Nat.{ℕ}
-use mathlib.Core.List.{List}
+use mathlib.Core.List.{List, []}
 use lib.ListN.{length, getD}
 use lib.IntN.{ℤ}
 use Rattle.laws.specs.Block.{block}
@@ -18,8 +18,9 @@ pub record Memory : Type 0 where
   pub chain : List ℤ
   pub rows : List ℕ
   pub store : List ℕ
+  pub counts : List ℕ
 
--- the memory of its parts, in the order in which they are lent
+-- the memory of document 01's parts, in the order in which they are lent: what a change lends beside them is added by `withCounts`
 abbrev pub memory : Control → List ℕ → List ℕ → List ℕ → List ℤ → List ℤ → List ℤ → List ℕ → List ℕ → Memory
 memory control states names pool free heads chain rows store =
     record {
@@ -32,6 +33,7 @@ memory control states names pool free heads chain rows store =
       chain = chain;
       rows = rows;
       store = store;
+      counts = [];
     }
 
 -- N, the number of buffers, and P, the block size
@@ -68,6 +70,7 @@ withControl x m =
       chain = m .chain;
       rows = m .rows;
       store = m .store;
+      counts = m .counts;
     }
 
 abbrev pub withStates : List ℕ → Memory → Memory
@@ -82,6 +85,7 @@ withStates x m =
       chain = m .chain;
       rows = m .rows;
       store = m .store;
+      counts = m .counts;
     }
 
 abbrev pub withNames : List ℕ → Memory → Memory
@@ -96,6 +100,7 @@ withNames x m =
       chain = m .chain;
       rows = m .rows;
       store = m .store;
+      counts = m .counts;
     }
 
 abbrev pub withPool : List ℕ → Memory → Memory
@@ -110,6 +115,7 @@ withPool x m =
       chain = m .chain;
       rows = m .rows;
       store = m .store;
+      counts = m .counts;
     }
 
 abbrev pub withFree : List ℤ → Memory → Memory
@@ -124,6 +130,7 @@ withFree x m =
       chain = m .chain;
       rows = m .rows;
       store = m .store;
+      counts = m .counts;
     }
 
 abbrev pub withHeads : List ℤ → Memory → Memory
@@ -138,6 +145,7 @@ withHeads x m =
       chain = m .chain;
       rows = m .rows;
       store = m .store;
+      counts = m .counts;
     }
 
 abbrev pub withChain : List ℤ → Memory → Memory
@@ -152,6 +160,7 @@ withChain x m =
       chain = x;
       rows = m .rows;
       store = m .store;
+      counts = m .counts;
     }
 
 abbrev pub withRows : List ℕ → Memory → Memory
@@ -166,6 +175,7 @@ withRows x m =
       chain = m .chain;
       rows = x;
       store = m .store;
+      counts = m .counts;
     }
 
 abbrev pub withStore : List ℕ → Memory → Memory
@@ -180,6 +190,22 @@ withStore x m =
       chain = m .chain;
       rows = m .rows;
       store = x;
+      counts = m .counts;
+    }
+
+abbrev pub withCounts : List ℕ → Memory → Memory
+withCounts x m =
+    record {
+      control = m .control;
+      states = m .states;
+      names = m .names;
+      pool = m .pool;
+      free = m .free;
+      heads = m .heads;
+      chain = m .chain;
+      rows = m .rows;
+      store = m .store;
+      counts = x;
     }
 
 abbrev pub withHand : ℕ → Memory → Memory

@@ -11,6 +11,7 @@ use Rattle.buftag.specs.Name.{sameFile, isFork}
 use Rattle.buftag.specs.Names.{nameWords}
 use Rattle.bufmodel.specs.Rows.{rowWords, files, fileAt, blocksAt, capacityAt, storeBlocks}
 use Rattle.bufmodel.specs.Memory.{Memory, buffers, size}
+use Rattle.bufmodel.specs.Counts.{maxHolders}
 
 -- the permitted block sizes
 abbrev pub blockSizes : List ℕ
@@ -65,6 +66,7 @@ sizedFor p m =
     && eqb (length (m .chain)) (buffers m)
     && soundRows (m .rows)
     && eqb (length (m .store)) (storeBlocks (m .rows) * p)
+    && eqb (length (m .counts)) (buffers m * maxHolders)
 
 -- in every call but set up, P is the control record's
 unfoldable pub sized : Memory → Bool
@@ -85,3 +87,5 @@ pub record SizedFor (p : ℕ) (m : Memory) : Type 0 where
   pub rows : RowsSound (m .rows)
   -- P × (sum of capacities) bytes
   pub store : length (m .store) ≡ storeBlocks (m .rows) * p
+  -- N × 64 private counts
+  pub counts : length (m .counts) ≡ buffers m * maxHolders

@@ -6,16 +6,33 @@ use Rattle.buftag.specs.declared.name.PageName.{PageName}
 use Rattle.bufmodel.specs.Memory.{Memory}
 use Rattle.bufmodel.specs.Outcome.{Outcome}
 use Rattle.bufmodel.specs.Pin.{pin}
-use Rattle.bufmodel.specs.Calls.{unpin, read, write, flush, checkpoint, peek, extend, dropFile, logInserted, logFlushed}
+use Rattle.bufmodel.specs.Calls.{
+  unpin,
+  read,
+  write,
+  flush,
+  giveBack,
+  checkpoint,
+  peek,
+  extend,
+  dropFile,
+  logInserted,
+  logFlushed,
+}
 
 pub data Call : Type 0 where
-  Pin : PageName → Call
-  Unpin : ℕ → Call
-  -- buffer, from, out
-  Read : ℕ → ℕ → List ℕ → Call
-  -- buffer, from, bytes, position
-  Write : ℕ → ℕ → List ℕ → ℕ → Call
-  Flush : ℕ → Call
+  -- holder, page
+  Pin : ℕ → PageName → Call
+  -- holder, buffer
+  Unpin : ℕ → ℕ → Call
+  -- holder, buffer, from, out
+  Read : ℕ → ℕ → ℕ → List ℕ → Call
+  -- holder, buffer, from, bytes, position
+  Write : ℕ → ℕ → ℕ → List ℕ → ℕ → Call
+  -- holder, buffer
+  Flush : ℕ → ℕ → Call
+  -- holder
+  GiveBack : ℕ → Call
   Checkpoint : Call
   Peek : PageName → Call
   Extend : FileName → Call
@@ -24,11 +41,12 @@ pub data Call : Type 0 where
   LogFlushed : ℕ → Call
 
 unfoldable pub step : Memory → Call → Outcome
-step m (Pin n) = pin m n
-step m (Unpin i) = unpin m i
-step m (Read i from out) = read m i from out
-step m (Write i from bytes at) = write m i from bytes at
-step m (Flush i) = flush m i
+step m (Pin h n) = pin m h n
+step m (Unpin h i) = unpin m h i
+step m (Read h i from out) = read m h i from out
+step m (Write h i from bytes at) = write m h i from bytes at
+step m (Flush h i) = flush m h i
+step m (GiveBack h) = giveBack m h
 step m Checkpoint = checkpoint m
 step m (Peek n) = peek m n
 step m (Extend f) = extend m f

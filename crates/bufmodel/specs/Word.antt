@@ -11,10 +11,6 @@ maxCap = 15
 unfoldable pub soundCap : ℕ → Bool
 soundCap cap = leb 1 cap && leb cap maxCap
 
--- the greatest pin count
-abbrev pub maxPins : ℕ
-maxPins = 262143
-
 -- ---- the fields of a word, and the word of its fields
 unfoldable pub pins : ℕ → ℕ
 pins w = w % 2 ^ 18
