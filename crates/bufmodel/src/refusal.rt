@@ -1,4 +1,4 @@
-// The refusal numbers. A cap, 18, is checked behind 1, a page's checksum, 17, behind 4; the others in their order.
+// The refusal numbers. A cap, 18, is checked behind 1, a holder, 19, behind 2, a page's checksum, 17, behind 4; the others in their order.
 
 // Sizes or rows break a rule.
 pub const SIZES: u32 = 1;
@@ -9,6 +9,9 @@ pub const CAP: u32 = 18;
 // The books are not sound.
 pub const BOOKS: u32 = 2;
 
+// There is no such holder.
+pub const NO_HOLDER: u32 = 19;
+
 // No row has the file's four numbers.
 pub const NO_FILE: u32 = 3;
 
@@ -18,7 +21,7 @@ pub const NO_BLOCK: u32 = 4;
 // The block's checksum differs.
 pub const CHECKSUM: u32 = 17;
 
-// The pin count is the greatest.
+// The holder's count of the page is the greatest.
 pub const PIN_COUNT: u32 = 5;
 
 // Every buffer is pinned.
@@ -27,7 +30,7 @@ pub const ALL_PINNED: u32 = 6;
 // There is no such buffer.
 pub const NO_BUFFER: u32 = 7;
 
-// The buffer is not pinned.
+// The holder has no pin on the buffer.
 pub const NOT_PINNED: u32 = 8;
 
 // The bytes are not within the page, or a write's begin in its log position.
