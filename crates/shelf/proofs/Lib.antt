@@ -40,6 +40,7 @@ pub mod StepPeek
 -- unpin and write: one buffer's word and page change
 pub mod TurnKept
 pub mod StepUnpin
+pub mod StepGive
 pub mod WriteKept
 pub mod StepWrite
 -- flush and checkpoint: pages are written back
