@@ -2,15 +2,17 @@
 use Prim.Native.Nat.{ℕ, _-_, _^_, _≤_, _<_}
 use mathlib.Core.Path.{_≡_, refl, sym, ap, _∙_}
 use mathlib.Core.Bool.{Bool, true, false, _&&_, _||_, cond}
-use mathlib.Core.Logic.{⊎-elim}
+use mathlib.Core.Logic.{_≢_, ⊎-elim}
 use native.Mathlib.Omega.{arith}
-use lib.Dec.{leb, ltb}
-use borrow.Author.Tests.{eqb-true, eqb-false, leb-true}
-use Rattle.laws.proofs.Tests.{true-or-false, and-left}
+use lib.Dec.{eqb, leb, ltb}
+use borrow.Author.Tests.{eq-eqb, ne-eqb, eqb-true, eqb-false, leb-true}
+use Rattle.laws.proofs.Tests.{eq-or-ne, true-or-false, and-left}
 use Rattle.bufmodel.specs.Word.{pins, usage, flags, pack, cleanFlags, dirtyFlags, dirty, empty, soundFlags, soundWord}
 use Rattle.bufmodel.specs.Word.{pinMore, pinLess, makeDirty, makeClean, loaded}
 use Rattle.bufmodel.specs.Memory.{Memory, buffers, capOf, wordOf}
 use Rattle.bufmodel.specs.Books.{emptyAt, BooksSound}
+use Rattle.bufmodel.specs.Pin.{heldWord}
+use Rattle.bufmodel.specs.Calls.{lessWord, givenWord}
 use Rattle.bufmodel.proofs.WordLaws.{pack-fields, empty-zero, Held, sound-held, dirty-is}
 use Rattle.bufmodel.proofs.HeldLaws.{dirty-full}
 use Rattle.shelf.specs.Published.{morePins, dirtied, cleaned, justLoaded}
@@ -24,6 +26,21 @@ more-pins cap w =
 pub less-pins : (w : ℕ) → 0 < pins w → pinLess w ≡ w - 1
 unfolding pinLess pack
 less-pins w h = omega (arith, pack-fields w)
+
+-- what they are by a holder's count: at its first pin, its last one, and all that it has
+pub held-word-is : (cap c w : ℕ) → heldWord cap c w ≡ cond (eqb c 0) (morePins cap w) w
+unfolding heldWord
+held-word-is cap c w = ap (λ (x : ℕ). cond (eqb c 0) x w) (more-pins cap w)
+
+module _ (c w : ℕ) (some : c ≢ 0 → 0 < pins w) where
+  pub less-word-is : lessWord c w ≡ cond (eqb c 1) (w - 1) w
+  unfolding lessWord
+  less-word-is =
+      ⊎-elim (λ e. rw (eq-eqb c 1 e) (less-pins w (some (λ z. omega arith)))) (λ ne. rw (ne-eqb c 1 ne) refl) (eq-or-ne c 1)
+
+  pub given-word-is : givenWord c w ≡ cond (eqb c 0) w (w - 1)
+  unfolding givenWord
+  given-word-is = ⊎-elim (λ e. rw (eq-eqb c 0 e) refl) (λ ne. rw (ne-eqb c 0 ne) (less-pins w (some ne))) (eq-or-ne c 0)
 
 -- ---- the flags: a word in use has one of two
 module _ {cap w : ℕ} (k : Held cap w) where
