@@ -13,7 +13,7 @@ use Rattle.bufmodel.specs.Memory.{Memory, buffers, capOf, wordOf}
 use Rattle.bufmodel.specs.Books.{emptyAt, BooksSound}
 use Rattle.bufmodel.specs.Pin.{heldWord}
 use Rattle.bufmodel.specs.Calls.{lessWord, givenWord}
-use Rattle.bufmodel.proofs.WordLaws.{pack-fields, empty-zero, Held, sound-held, dirty-is}
+use Rattle.bufmodel.proofs.WordLaws.{pack-fields, empty-zero, Held, sound-held, held-lt, dirty-is}
 use Rattle.bufmodel.proofs.HeldLaws.{dirty-full}
 use Rattle.shelf.specs.Published.{morePins, dirtied, cleaned, justLoaded}
 
@@ -94,6 +94,12 @@ module _ (m : Memory) where
   pub held-words : BooksSound m → ((i : ℕ) → i < buffers m → wordOf m i < 2 ^ 32) → HeldWords m
   unfolding emptyAt
   held-words b narrow i l f = sound-held (narrow i l) (b .words i l) f
+
+  -- and those have 32 bits
+  pub narrow-words : HeldWords m → (i : ℕ) → i < buffers m → wordOf m i < 2 ^ 32
+  unfolding emptyAt
+  narrow-words held i l =
+      ⊎-elim (λ e. omega (arith, empty-zero (wordOf m i) e)) (λ f. held-lt (held i l f)) (true-or-false (empty (wordOf m i)))
 
   pub dirty-held : HeldWords m → (i : ℕ) → i < buffers m → dirty (wordOf m i) ≡ true → Held (capOf m) (wordOf m i)
   dirty-held held i l d = held i l (dirty-full m i d)
