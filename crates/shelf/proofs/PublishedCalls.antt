@@ -47,7 +47,7 @@ Says m c = step m c .refusal ≡ 0 → Accepts m c (step m c)
 
 -- ---- calls on a buffer
 -- a buffer on which a holder has pins counts one at least
-pub some-pins : (m : Memory) → Good m → (h i : ℕ) → h < 64 → i < buffers m → countAt (m .counts) i h ≢ 0 → 0 < pins (wordOf m i)
+some-pins : (m : Memory) → Good m → (h i : ℕ) → h < 64 → i < buffers m → countAt (m .counts) i h ≢ 0 → 0 < pins (wordOf m i)
 some-pins m k h i few l ne = omega (arith, pin-some (m .counts) i h few ne, k .books .counts i l)
 
 module _ (m : Memory) (h i : ℕ) where

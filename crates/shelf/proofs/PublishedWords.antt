@@ -18,12 +18,12 @@ use Rattle.bufmodel.proofs.HeldLaws.{dirty-full}
 use Rattle.shelf.specs.Published.{morePins, dirtied, cleaned, justLoaded}
 
 -- ---- the counts: any word, since its fields are packed by sums
-pub more-pins : (cap w : ℕ) → pinMore cap w ≡ morePins cap w
+more-pins : (cap w : ℕ) → pinMore cap w ≡ morePins cap w
 unfolding pinMore morePins pack
 more-pins cap w =
     ⊎-elim (λ e. rw e (omega (arith, pack-fields w))) (λ e. rw e (omega (arith, pack-fields w))) (true-or-false (ltb (usage w) cap))
 
-pub less-pins : (w : ℕ) → 0 < pins w → pinLess w ≡ w - 1
+less-pins : (w : ℕ) → 0 < pins w → pinLess w ≡ w - 1
 unfolding pinLess pack
 less-pins w h = omega (arith, pack-fields w)
 
