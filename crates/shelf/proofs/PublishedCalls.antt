@@ -58,7 +58,7 @@ module _ (m : Memory) (h i : ℕ) where
       (λ e.
       let p = number-passed m h i [] e in
       let c = countsBy m h i in
-      pins-set m zeros h k (p .0) i (c - 1) (p .1) (less-word-is c (wordOf m i) (some-pins m k h i (p .0) (p .1))))
+      pins-set m zeros h k (p .3) i (c - 1) (p .0) (less-word-is c (wordOf m i) (some-pins m k h i (p .3) (p .0))))
 
   pub read-says : (from : ℕ) (out : List ℕ) → Says m (Read h i from out)
   unfolding step read
@@ -72,8 +72,8 @@ module _ (m : Memory) (h i : ℕ) where
       call-done m (bufferPlaces m h i []) [] (done _ [] (writeBack m i)) refl (Accepts m (Flush h i))
       (λ e.
       let p = number-passed m h i [] e in (
-        stays-set m _ refl refl (p .1) (cleaned-is (wordOf m i) (dirty-held m held i (p .1))) refl (λ j l. refl)
-            (λ g l. back-blocks m i k (p .1) (m .store) (k .sizes .store) g),
+        stays-set m _ refl refl (p .0) (cleaned-is (wordOf m i) (dirty-held m held i (p .0))) refl (λ j l. refl)
+            (λ g l. back-blocks m i k (p .0) (m .store) (k .sizes .store) g),
         ap one (ind-cond (dirty (wordOf m i))),
       ))
 
@@ -105,9 +105,9 @@ module _ (m : Memory) (k : Good m) (held : HeldWords m) (h i from : ℕ) (bytes 
       (Accepts m (Write h i from bytes at))
       (λ e.
       let p = number-passed m h i _ e in
-      let full = pinned-full m i (pins-pinned (wordOf m i) (some-pins m k h i (p .0) (p .1) (p .2))) in
-      stays-set m _ refl refl (p .1) (dirtied-is (held i (p .1) full)) refl
-      (write-pages (p .1) (refusal-passed 9 _ _ (omega arith) (p .3) .0)) (λ g l. refl))
+      let full = pinned-full m i (pins-pinned (wordOf m i) (some-pins m k h i (p .3) (p .0) (p .1))) in
+      stays-set m _ refl refl (p .0) (dirtied-is (held i (p .0) full)) refl
+      (write-pages (p .0) (refusal-passed 9 _ _ (omega arith) (p .2) .0)) (λ g l. refl))
 
 -- ---- give back
 module _ (m : Memory) (k : Good m) (held : HeldWords m) (h : ℕ) where

@@ -7,7 +7,6 @@ use mathlib.Core.List.{List, [], _∷_}
 use native.Mathlib.Omega.{arith}
 use lib.ListN.{length, getD, length-set}
 use lib.Seq.{getD-set-other}
-use borrow.Author.Tests.{leb-false}
 use Rattle.laws.specs.Sum.{ind}
 use Rattle.laws.specs.First.{Found, found}
 use Rattle.laws.specs.Block.{block}
@@ -30,11 +29,11 @@ use Rattle.bufmodel.specs.Books.{BooksSound}
 use Rattle.bufmodel.specs.Sweep.{Swept, Sweeps, sweepAll}
 use Rattle.bufmodel.specs.Moves.{writeBack, release, loadAt, load}
 use Rattle.bufmodel.specs.Outcome.{refusalOf, checked, done, refused}
-use Rattle.bufmodel.specs.Pin.{holderPlace, heldIn, pinPlaces, pinHeld, pinFree, pinVictim, pinSwept, pinNew, pinTo, pin}
+use Rattle.bufmodel.specs.Pin.{heldIn, pinPlaces, pinHeld, pinFree, pinVictim, pinSwept, pinNew, pinTo, pin}
 use Rattle.bufmodel.specs.Step.{Pin, step}
 use Rattle.bufmodel.proofs.RowsLaws.{place-in, place-same}
 use Rattle.bufmodel.proofs.GoodLaws.{Good, checked-good}
-use Rattle.bufmodel.proofs.OutcomeLaws.{outcome-done, outcome-refused, refusal-passed}
+use Rattle.bufmodel.proofs.OutcomeLaws.{outcome-done, outcome-refused}
 use Rattle.bufmodel.proofs.HeldLaws.{pinned-full, dirty-full, held-none, held-at}
 use Rattle.bufmodel.proofs.FreeListLaws.{top-none, top-empty, top-full}
 use Rattle.bufmodel.proofs.LoadLaws.{load-is, load-buffers, loadedFor}
@@ -45,7 +44,7 @@ use Rattle.bufmodel.proofs.SweepEnds.{sweepAll-relates, sweep-stuck}
 use Rattle.shelf.specs.Shelf.{with}
 use Rattle.shelf.specs.Published.{marksOf, withWords, emptied, Alike, blocksOf, backed, Leaves, countsBy, loaded, Sought}
 use Rattle.shelf.specs.Published.{hit, free, early, taken, stuck}
-use Rattle.shelf.proofs.MemoryPlaces.{pin-stuck, pin-place, pin-victim}
+use Rattle.shelf.proofs.MemoryPlaces.{pin-stuck, pin-holder, pin-place, pin-victim}
 use Rattle.shelf.proofs.PublishedWords.{held-word-is, few-used}
 use Rattle.shelf.proofs.PublishedMarks.{alike-same, alike-then, emptied-past, loaded-alike, Shape, good-shape}
 use Rattle.shelf.proofs.PublishedMarks.{release-shape, release-marks, load-wide, load-marks}
@@ -256,10 +255,6 @@ module _ (m : Memory) (k : Good m) (h : ℕ) (n : PageName) where
 
   -- ---- accepted
   module _ (z : refusalOf (pinPlaces m h n) ≡ 0) where
-    holder : h < 64
-    unfolding pinPlaces holderPlace
-    holder = leb-false 64 h (refusal-passed 19 _ _ (omega arith) z .0)
-
     abbrev page : (g : ℕ) × (placeOf (m .rows) n ≡ found g)
     page = pin-place m h n z
 
@@ -273,7 +268,7 @@ module _ (m : Memory) (k : Good m) (h : ℕ) (n : PageName) where
           subst
           (λ (x : Found). Sought m h n (capOf m) (buffers m) (pinVictim m h n (sweepAll (capOf m) (m .states) (m .control .hand)) x))
           (sym (f .1))
-          (taken-sought holder new (page .0) (page .1) top (f .0) (f .1))
+          (taken-sought (pin-holder m h n z) new (page .0) (page .1) top (f .0) (f .1))
 
       new-sought : Sought m h n (capOf m) (buffers m) (pinNew m h n (linkOf (m .control .top)))
       unfolding pinNew
@@ -282,7 +277,7 @@ module _ (m : Memory) (k : Good m) (h : ℕ) (n : PageName) where
           (λ top. subst (λ (l : Link). Sought m h n (capOf m) (buffers m) (pinNew m h n l)) (sym top) (swept-sought top))
           (λ t.
           subst (λ (l : Link). Sought m h n (capOf m) (buffers m) (pinNew m h n l)) (sym (t .1))
-          (free-sought holder new (page .0) (page .1) (t .0) (t .1)))
+          (free-sought (pin-holder m h n z) new (page .0) (page .1) (t .0) (t .1)))
           (top-none m k)
 
     accepted-sought : Sought m h n (capOf m) (buffers m) (pinTo m h n (heldIn m n))
@@ -290,7 +285,7 @@ module _ (m : Memory) (k : Good m) (h : ℕ) (n : PageName) where
     accepted-sought = go (heldIn m n) refl
       where
         go : (x : Held) → heldIn m n ≡ x → Sought m h n (capOf m) (buffers m) (pinTo m h n x)
-        go (At b) e = hit-sought holder b e
+        go (At b) e = hit-sought (pin-holder m h n z) b e
         go Nowhere e = new-sought e
 
   -- ---- refused or accepted
@@ -304,5 +299,6 @@ module _ (m : Memory) (k : Good m) (h : ℕ) (n : PageName) where
       (λ z. subst (Sought m h n (capOf m) (buffers m)) (sym (outcome-done [] m o (e ∙ z))) (accepted-sought z))
       (λ ne.
       let f : checked m own ≢ 0 = λ z. ne (sym e ∙ z) in
-      subst (Sought m h n (capOf m) (buffers m)) (sym (outcome-refused [] m o (checked m own) f)) (refused-sought (checked m own) f (sym e)))
+      subst (Sought m h n (capOf m) (buffers m)) (sym (outcome-refused [] m o (checked m own) f))
+      (refused-sought (checked m own) f (sym e)))
       (eq-or-ne (refusalOf own) 0)
