@@ -1,4 +1,4 @@
--- What the calls on one buffer, peek, extend and the log calls leave, where they are accepted.
+-- What the calls on one buffer, give back, peek, extend and the log calls leave, where they are accepted.
 use Prim.Native.Nat.{ℕ, _+_, _-_, _≤_, _<_}
 use mathlib.Core.Path.{_≡_, refl, sym, ap, _∙_, subst}
 use mathlib.Core.Logic.{_≢_, ⊎-elim}

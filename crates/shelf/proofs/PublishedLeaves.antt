@@ -1,4 +1,4 @@
--- What a call leaves: calls that change one word or none, and how a call is accepted.
+-- What a call leaves: calls that change one word or none, or words and one holder's counts, and how a call is accepted.
 use Prim.Native.Nat.{ℕ, _<_}
 use native.Mathlib.Omega.{arith}
 use mathlib.Core.Path.{_≡_, refl, sym, ap, _∙_, subst}

@@ -1,4 +1,4 @@
--- The pool's changes of a state word are document 01's, and the words of a sound memory.
+-- The pool's changes of a state word are document 01's, and by a holder's pins document 02's; the words of a sound memory.
 use Prim.Native.Nat.{ℕ, _-_, _^_, _≤_, _<_}
 use mathlib.Core.Path.{_≡_, refl, sym, ap, _∙_}
 use mathlib.Core.Bool.{Bool, true, false, _&&_, _||_, cond}
