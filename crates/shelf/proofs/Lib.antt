@@ -13,6 +13,7 @@ pub mod GuardsTable
 pub mod SetUpSays
 pub mod Guards
 -- demand 2: what each call leaves, and the theorem
+pub mod PublishedCounts
 pub mod PublishedMarks
 pub mod PublishedStore
 pub mod PublishedLeaves
