@@ -45,6 +45,9 @@ uint32_t random_below(uint32_t n);
 uint32_t some_cap(void);
 uint64_t bad_cap(void);
 
+/* A private count that is not 0: mostly a small one, now and then the greatest, or one with zeros for its low bits. */
+uint16_t some_count(void);
+
 /* The hash of a page name. */
 uint32_t name_hash(const uint32_t *name);
 
@@ -62,7 +65,7 @@ struct shape memory_shape(void);
 
 /* The number of kinds of damage, and one of them done: it may leave the memory sound. After the last kind, which changes a length, no
    other is done. */
-#define DAMAGES 32
+#define DAMAGES 40
 void memory_damage(struct memory *m, unsigned kind);
 
 /* Nothing done, one kind or, now and then, two. */
