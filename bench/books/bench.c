@@ -6,7 +6,7 @@
 
 /* a shape that is not usual takes fewer rounds */
 enum { ROUNDS = 401, OTHER_ROUNDS = 201, WORK = 200000, OTHER_WORK = 100000, CROWDED_WORK = 10000 };
-static const double MOST = 1.00, MOST_OF_COUNTS = 1.35;
+static const double MOST = 1.00;
 
 check_fn plain_check;
 
@@ -68,7 +68,7 @@ static int bench_counts(const struct bench_shape *s, size_t calls)
     double counts = median(proved, ROUNDS), simple = median(plain, ROUNDS);
     shape_print(s);
     printf(", %-25s %6.2f us, plain C %6.2f us, ", s->words, counts / 1000, simple / 1000);
-    int above = print_ratio(counts / simple, MOST_OF_COUNTS);
+    int above = print_ratio(counts / simple, MOST);
     printf("\n");
     fflush(stdout);
     return above;

@@ -36,7 +36,7 @@ uint64_t bad_cap(void)
 
 uint16_t some_count(void)
 {
-    static const uint16_t counts[] = {1, 1, 1, 2, 3, 255, 256, 32768, MOST_COUNT - 1, MOST_COUNT};
+    static const uint16_t counts[] = {1, 1, 2, 3, 255, 256, 32768, MOST_COUNT - 1, MOST_COUNT, MOST_COUNT};
     return counts[random_below(sizeof counts / sizeof *counts)];
 }
 
