@@ -11,7 +11,8 @@ struct memory {
     uint32_t *states, *names, *rows;
     int32_t *free, *heads, *chain;
     uint8_t *pool, *store;
-    size_t control_len, answer_len, states_len, names_len, rows_len, free_len, heads_len, chain_len, pool_len, store_len;
+    uint16_t *counts;
+    size_t control_len, answer_len, states_len, names_len, rows_len, free_len, heads_len, chain_len, pool_len, store_len, counts_len;
 };
 
 /* Room for a control record that is too long, in words. */
@@ -31,11 +32,11 @@ struct shape {
 #define LENT(m)                                                                                                          \
     (m)->control, (m)->control_len, (m)->states, (m)->states_len, (m)->names, (m)->names_len, (m)->pool, (m)->pool_len, \
         (m)->free, (m)->free_len, (m)->heads, (m)->heads_len, (m)->chain, (m)->chain_len, (m)->rows, (m)->rows_len,     \
-        (m)->store, (m)->store_len, (m)->answer, (m)->answer_len
+        (m)->store, (m)->store_len, (m)->counts, (m)->counts_len, (m)->answer, (m)->answer_len
 
 typedef uint32_t check_fn(const uint64_t *, size_t, const uint32_t *, size_t, const uint32_t *, size_t, const uint8_t *, size_t,
                           const int32_t *, size_t, const int32_t *, size_t, const int32_t *, size_t, const uint32_t *, size_t,
-                          const uint8_t *, size_t, const uint64_t *, size_t);
+                          const uint8_t *, size_t, const uint16_t *, size_t, const uint64_t *, size_t);
 
 void seed_random(uint64_t seed);
 uint32_t random_below(uint32_t n);
