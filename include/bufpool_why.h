@@ -179,8 +179,8 @@ BUFPOOL_INLINE uint32_t bufpool_why_4_15(const struct bufpool_why_look *l, bufpo
     if (holders == 0)
         return bufpool_why_say(l, BUFPOOL_BOOKS, "rule 4.15: the pin count of buffer %llu is %u, and no holder has a pin on it", i, pins);
     return bufpool_why_say(l, BUFPOOL_BOOKS,
-                           "rule 4.15: the pin count of buffer %llu is %u, and %u holders have pins on it, the first is holder %u", i, pins,
-                           holders, first);
+                           "rule 4.15: the pin count of buffer %llu is %u, and %u holder%s pins on it, the first is holder %u", i, pins,
+                           holders, holders == 1 ? " has" : "s have", first);
 }
 
 BUFPOOL_INLINE uint32_t bufpool_why_books(const struct bufpool_why_look *l)
