@@ -29,6 +29,11 @@ void unused_helpers(struct bufpool *m, struct bufpool_file f, struct bufpool_nam
     bufpool_drop_file(m, f);                       /* unused */
     bufpool_log_inserted_to(m, 100);               /* unused */
     bufpool_log_flushed_to(m, 100);                /* unused */
+}
+
+void unused_words(struct bufpool *m, struct bufpool_file f, struct bufpool_holder h, struct bufpool_buffer b, uint8_t *bytes);
+void unused_words(struct bufpool *m, struct bufpool_file f, struct bufpool_holder h, struct bufpool_buffer b, uint8_t *bytes)
+{
     bufpool_holder_of(0);                          /* unused */
     bufpool_count_of(m, h, b);                     /* unused */
     bufpool_name_of(f, 0);                         /* unused */
