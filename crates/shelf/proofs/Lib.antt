@@ -72,6 +72,8 @@ pub mod FirstBad
 pub mod Start
 pub mod Lift
 pub mod Demand
+-- isolation, of every pool that meets it
+pub mod Isolation
 -- the calls of the theorem are the exports' calls
 pub mod Made
 -- one pool is left: lists by their places, books alike, two ends of one call, of set up and of a list
