@@ -19,7 +19,7 @@ use Rattle.bufmodel.proofs.BooksLaws.{books-say}
 use Rattle.shelf.specs.Published.{Demand2For}
 use Rattle.shelf.specs.Statement.{Pool, calling}
 use Rattle.shelf.specs.Guards.{Demand1For}
-use Rattle.shelf.specs.Trial.{size, log, cap, bench, sales, pin, slice, allBelow}
+use Rattle.shelf.specs.Trial.{size, log, cap, bench, sales, pinBy, pin, slice, allBelow}
 use Rattle.shelf.specs.Changes.{Change, ifAccepted, stepping, leaving, withControlWords, lends}
 use Rattle.shelf.specs.WrongCaps.{withCap}
 use Rattle.shelf.proofs.Computes.{computes}
@@ -41,7 +41,7 @@ greatest (w ∷ ws) = max (usage w) (greatest ws)
 abbrev pub raises : Pool
 raises = lends (λ m. capWord (max (greatest (m .states))) m)
 
--- a memory of one buffer with this cap: set up, and with a page pinned twice
+-- a memory of one buffer with this cap: set up, and with a page pinned by two holders
 abbrev begun : Lent
 begun = calling step .setsUp size log cap (bench 1) slice .lent
 
@@ -51,7 +51,7 @@ capped k = capWord (λ w. k) begun
 abbrev usedTwice : ℕ → Lent
 usedTwice k =
     let once = calling step .calls (pin sales 0) begun [] slice .lent in
-    capWord (λ w. k) (calling step .calls (pin sales 0) once [] slice .lent)
+    capWord (λ w. k) (calling step .calls (pinBy 1 sales 0) once [] slice .lent)
 
 -- a checkpoint that is accepted over books that are not sound
 record Trusts (pool : Pool) (m : Lent) : Type 0 where

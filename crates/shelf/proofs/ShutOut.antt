@@ -21,7 +21,22 @@ use Rattle.bufmodel.specs.Sizes.{sizedFor}
 use Rattle.bufmodel.specs.Books.{sound}
 use Rattle.bufmodel.specs.Outcome.{Outcome, refused}
 use Rattle.bufmodel.specs.Pin.{sumDiffers}
-use Rattle.bufmodel.specs.Step.{Call, Pin, Unpin, Read, Write, Flush, Checkpoint, Peek, Extend, Drop, LogInserted, LogFlushed, step}
+use Rattle.bufmodel.specs.Step.{
+  Call,
+  Pin,
+  Unpin,
+  Read,
+  Write,
+  Flush,
+  GiveBack,
+  Checkpoint,
+  Peek,
+  Extend,
+  Drop,
+  LogInserted,
+  LogFlushed,
+  step,
+}
 use Rattle.bufmodel.specs.Lent.{Lent, opened, closed, ended, called}
 use Rattle.bufmodel.proofs.SizesLaws.{sizes-say}
 use Rattle.bufmodel.proofs.BooksLaws.{books-say}
@@ -38,6 +53,7 @@ use Rattle.shelf.specs.Trial.{
   unsummed,
   stock,
   pin,
+  unpin,
   slice,
   Wrong,
   made,
@@ -95,6 +111,7 @@ fits-lent m h =
       chain = signed _ (test 6);
       rows = below _ _ (test 7);
       store = below _ _ (test 8);
+      counts = below _ _ (test 9);
     }
 
 fits-file : (f : FileName) → fitsFile f ≡ true → FitsFile f
@@ -114,13 +131,16 @@ fits-name n h = let test = each _ h in record { file = fits-file (n .file) (test
 
 fits-call : (c : Call) → fitsCall c ≡ true → FitsCall c
 unfolding fitsCall
-fits-call (Pin n) h = fits-name n h
-fits-call (Unpin b) h = ltb-true _ _ h
-fits-call (Read b from out) h = let test = each _ h in (ltb-true _ _ (test 0), ltb-true _ _ (test 1), below _ _ (test 2))
-fits-call (Write b from bytes at) h =
+fits-call (Pin w n) h = let test = each _ h in (ltb-true _ _ (test 0), fits-name n (test 1))
+fits-call (Unpin w b) h = let test = each _ h in (ltb-true _ _ (test 0), ltb-true _ _ (test 1))
+fits-call (Read w b from out) h =
     let test = each _ h in
-    (ltb-true _ _ (test 0), ltb-true _ _ (test 1), below _ _ (test 2), ltb-true _ _ (test 3))
-fits-call (Flush b) h = ltb-true _ _ h
+    (ltb-true _ _ (test 0), ltb-true _ _ (test 1), ltb-true _ _ (test 2), below _ _ (test 3))
+fits-call (Write w b from bytes at) h =
+    let test = each _ h in
+    (ltb-true _ _ (test 0), ltb-true _ _ (test 1), ltb-true _ _ (test 2), below _ _ (test 3), ltb-true _ _ (test 4))
+fits-call (Flush w b) h = let test = each _ h in (ltb-true _ _ (test 0), ltb-true _ _ (test 1))
+fits-call (GiveBack w) h = ltb-true _ _ h
 fits-call Checkpoint h = tt
 fits-call (Peek n) h = fits-name n h
 fits-call (Extend f) h = fits-file f h
@@ -313,17 +333,17 @@ begun-hand : begun .control .hand ≡ 0
 unfolding computes
 begun-hand = refl
 
-moved-refusal : stepping moves begun (Unpin 0) .refusal ≡ 8
+moved-refusal : stepping moves begun (unpin 0) .refusal ≡ 8
 unfolding computes
 moved-refusal = refl
 
-moved-hand : stepping moves begun (Unpin 0) .after .control .hand ≡ 1
+moved-hand : stepping moves begun (unpin 0) .after .control .hand ≡ 1
 unfolding computes
 moved-hand = refl
 
 pub moves-shut : Demand2For (stepping moves) → ⊥
 moves-shut d =
-    let h = d begun (Unpin 0) (below _ _ begun-words) (sizes-say _ begun .holds begun-sized) (books-say begun .holds begun-sound) in
+    let h = d begun (unpin 0) (below _ _ begun-words) (sizes-say _ begun .holds begun-sized) (books-say begun .holds begun-sound) in
     let same = h .same (λ z. omega (arith, moved-refusal)) in
     omega (arith, moved-hand, begun-hand, ap (λ (k : Memory). k .control .hand) same)
 
