@@ -109,5 +109,8 @@ unfolding Rattle.laws.specs.Every.all Rattle.laws.specs.Every.any Rattle.laws
     Rattle.shelf.specs.WrongSums.wrongBytes Rattle.shelf.specs.WrongSums.wrongVerified
     Rattle.shelf.specs.WrongSums.wrongRefused Rattle.shelf.specs.WrongLent.wrongLent
     Rattle.shelf.specs.WrongLent.wrongSetUps Rattle.shelf.specs.WrongCaps.wrongRises
-    Rattle.shelf.specs.WrongCaps.wrongCaps Rattle.shelf.specs.WrongPools.wrongPools
+    Rattle.shelf.specs.WrongCaps.wrongCaps Rattle.shelf.specs.WrongHolders.unpinnedBy
+    Rattle.shelf.specs.WrongHolders.wrongHolders Rattle.shelf.specs.WrongHolders.wrongOwners
+    Rattle.shelf.specs.WrongHolders.wrongGiven Rattle.shelf.specs.WrongHolders.wrongPrivate
+    Rattle.shelf.specs.WrongPools.wrongPools
 computes = tt

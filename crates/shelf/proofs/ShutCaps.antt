@@ -23,7 +23,7 @@ use Rattle.shelf.specs.Trial.{size, log, cap, bench, sales, pinBy, pin, 
 use Rattle.shelf.specs.Changes.{Change, ifAccepted, stepping, leaving, withControlWords, lends}
 use Rattle.shelf.specs.WrongCaps.{withCap}
 use Rattle.shelf.proofs.Computes.{computes}
-use Rattle.shelf.proofs.ShutOut.{below}
+use Rattle.shelf.proofs.Trials.{below}
 
 -- ---- calls that take another cap
 -- the right pool's calls over a memory with another cap word
@@ -42,7 +42,7 @@ abbrev pub raises : Pool
 raises = lends (λ m. capWord (max (greatest (m .states))) m)
 
 -- a memory of one buffer with this cap: set up, and with a page pinned by two holders
-abbrev begun : Lent
+abbrev pub begun : Lent
 begun = calling step .setsUp size log cap (bench 1) slice .lent
 
 abbrev capped : ℕ → Lent
@@ -54,13 +54,13 @@ usedTwice k =
     capWord (λ w. k) (calling step .calls (pinBy 1 sales 0) once [] slice .lent)
 
 -- a checkpoint that is accepted over books that are not sound
-record Trusts (pool : Pool) (m : Lent) : Type 0 where
-  sized : sizedFor (opened m .control .size) (opened m) ≡ true
-  long : length (m .control) ≡ 6
-  unsound : sound (opened m) ≡ false
-  accepted : pool .calls Checkpoint m [] slice .result ≡ 0
+pub record Trusts (pool : Pool) (m : Lent) : Type 0 where
+  pub sized : sizedFor (opened m .control .size) (opened m) ≡ true
+  pub long : length (m .control) ≡ 6
+  pub unsound : sound (opened m) ≡ false
+  pub accepted : pool .calls Checkpoint m [] slice .result ≡ 0
 
-shut : (pool : Pool) (m : Lent) → Trusts pool m → Demand1For pool → ⊥
+pub shut : (pool : Pool) (m : Lent) → Trusts pool m → Demand1For pool → ⊥
 shut pool m t d =
     let h = d .calls Checkpoint m slice .books refl (sizes-say _ (opened m) .holds (t .sized), t .long)
     (λ b. never (books-say (opened m) .shown b) (t .unsound)) in
