@@ -88,7 +88,7 @@ def tokens(subject):
 
 def machine_types(count):
     """The type of so many machine values."""
-    return product(['List Val'] * count)
+    return 'Machines %d' % count
 
 
 def machine_values(values):
