@@ -25,7 +25,7 @@ use Rattle.bufmodel.specs.Answer.{pinnedNumber, pinnedWords, pinnedAt, p
 use Rattle.bufmodel.specs.Sweep.{Swept}
 use Rattle.bufmodel.specs.Rows.{rowOf}
 use Rattle.bufmodel.specs.Pin.{heldIn, pinHeld, pinFree, pinVictim, pinSwept, pinNew, pinTo, pin}
-use Rattle.bufmodel.specs.Calls.{setUp, unpin, read, write, flush, checkpoint, partOf, peek}
+use Rattle.bufmodel.specs.Calls.{setUp, unpin, read, write, flush, giveBack, checkpoint, partOf, peek}
 use Rattle.bufmodel.specs.Calls.{extendAt, extend, dropAt, dropFile, logInserted, logFlushed}
 
 -- ---- an outcome, and the case that it means
@@ -107,25 +107,30 @@ pub set-up-answers : (p at cap : ℕ) (m : Memory) → AcceptedIs [] m (setUp m 
 unfolding setUp acceptedNumber acceptedWords acceptedAt
 set-up-answers p at cap m = accepted-is _ m _ (yes refl refl)
 
--- ---- calls on a buffer
-module _ (i : ℕ) where
-  pub unpin-answers : (m : Memory) → AcceptedIs [] m (unpin m i)
+-- ---- calls of a holder on a buffer
+module _ (h i : ℕ) where
+  pub unpin-answers : (m : Memory) → AcceptedIs [] m (unpin m h i)
   unfolding unpin acceptedNumber acceptedWords acceptedAt
   unpin-answers m = accepted-is _ m _ (yes refl refl)
 
-  pub flush-answers : (m : Memory) → WrittenIs m (flush m i)
+  pub flush-answers : (m : Memory) → WrittenIs m (flush m h i)
   unfolding flush writtenNumber writtenWords writtenAt
   flush-answers m = written-is _ m _ (yes refl refl)
 
   module _ (from : ℕ) (bytes : List ℕ) where
     -- out is what the call says
-    pub read-answers : (m : Memory) → AcceptedIs (read m i from bytes .bytes) m (read m i from bytes)
+    pub read-answers : (m : Memory) → AcceptedIs (read m h i from bytes .bytes) m (read m h i from bytes)
     unfolding read acceptedNumber acceptedWords acceptedAt
     read-answers m = by-case (λ o. AcceptedIs (o .bytes) m o) _ bytes m _ (yes refl refl) (λ j. no refl refl)
 
-    pub write-answers : (at : ℕ) (m : Memory) → AcceptedIs bytes m (write m i from bytes at)
+    pub write-answers : (at : ℕ) (m : Memory) → AcceptedIs bytes m (write m h i from bytes at)
     unfolding write acceptedNumber acceptedWords acceptedAt
     write-answers at m = by-case (AcceptedIs bytes m) _ bytes m _ (yes refl refl) (λ j. no refl refl)
+
+-- ---- give back
+pub give-answers : (h : ℕ) (m : Memory) → AcceptedIs [] m (giveBack m h)
+unfolding giveBack acceptedNumber acceptedWords acceptedAt
+give-answers h m = accepted-is _ m _ (yes refl refl)
 
 -- ---- checkpoint
 pub checkpoint-answers : (m : Memory) → WrittenIs m (checkpoint m)
@@ -173,6 +178,8 @@ module _ (n : PageName) where
   unfolding peek
   peek-answers m = peeked-is _ m _ (peek-done m (heldIn m n))
 
+-- ---- pin
+module _ (h : ℕ) (n : PageName) where
   pin-words : (m after : Memory) (i : ℕ) (hit wrote : Bool) (probes : ℕ)
       → PinnedIs m (done (i ∷ ind hit ∷ ind wrote ∷ probes ∷ []) [] after)
   unfolding pinnedNumber pinnedWords pinnedAt
@@ -181,27 +188,27 @@ module _ (n : PageName) where
   pin-words m after i false true probes = yes refl refl
   pin-words m after i false false probes = yes refl refl
 
-  pin-victim : (m : Memory) (s : Swept) (v : Found) → PinnedIs m (pinVictim m n s v)
+  pin-victim : (m : Memory) (s : Swept) (v : Found) → PinnedIs m (pinVictim m h n s v)
   unfolding pinVictim pinnedNumber pinnedWords pinnedAt
   pin-victim m s (found v) = pin-words m _ v false (dirty (wordOf m v)) (s .probes)
   pin-victim m s missing = no refl refl
 
-  pin-swept : (m : Memory) (s : Swept) → PinnedIs m (pinSwept m n s)
+  pin-swept : (m : Memory) (s : Swept) → PinnedIs m (pinSwept m h n s)
   unfolding pinSwept
   pin-swept m s = pin-victim m s (s .victim)
 
-  pin-new : (m : Memory) (l : Link) → PinnedIs m (pinNew m n l)
+  pin-new : (m : Memory) (l : Link) → PinnedIs m (pinNew m h n l)
   unfolding pinNew pinFree
   pin-new m (To i) = pin-words m _ i false false 0
   pin-new m End = pin-swept m _
   pin-new m Off = pin-swept m _
   pin-new m Bad = pin-swept m _
 
-  pin-done : (m : Memory) (h : Held) → PinnedIs m (pinTo m n h)
+  pin-done : (m : Memory) (b : Held) → PinnedIs m (pinTo m h n b)
   unfolding pinTo pinHeld
   pin-done m (At b) = pin-words m _ (b .0) true false 0
   pin-done m Nowhere = pin-new m (linkOf (m .control .top))
 
-  pub pin-answers : (m : Memory) → PinnedIs m (pin m n)
+  pub pin-answers : (m : Memory) → PinnedIs m (pin m h n)
   unfolding pin
   pin-answers m = pinned-is _ m _ (pin-done m (heldIn m n))

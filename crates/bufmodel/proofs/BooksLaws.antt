@@ -4,7 +4,7 @@ use mathlib.Core.Path.{_≡_, refl}
 use mathlib.Core.Bool.{true, false, false≢true}
 use Rattle.laws.specs.First.{Found, found, missing}
 use Rattle.laws.specs.Says.{Says}
-use Rattle.laws.proofs.Says.{says-it, says-le, says-lt, says-and, says-all, says-else, says-if, says-as}
+use Rattle.laws.proofs.Says.{says-it, says-eq, says-le, says-lt, says-and, says-all, says-else, says-if, says-as}
 use Rattle.buftag.specs.declared.link.Link.{Link}
 use Rattle.buftag.specs.declared.link.Link.the-variants.{To, End, Off, Bad}
 use Rattle.buftag.specs.Names.{noName}
@@ -16,7 +16,7 @@ use Rattle.bufmodel.specs.Word.{dirty, soundCap}
 use Rattle.bufmodel.specs.Rows.{placeOf}
 use Rattle.bufmodel.specs.Memory.{Memory, buffers, wordOf, nameOf}
 use Rattle.bufmodel.specs.Books.{isFound, isOff, emptyAt, sound, BooksSound}
-use Rattle.bufmodel.specs.Books.{soundWords, soundBlanks, soundFree, soundNames, soundPages}
+use Rattle.bufmodel.specs.Books.{soundWords, soundBlanks, soundFree, soundNames, soundPages, soundCounts}
 
 isOff-true : (l : Link) → isOff l ≡ true → l ≡ Off
 isOff-true (To i) e = absurd (false≢true e)
@@ -52,25 +52,27 @@ module _ (m : Memory) where
   names-say = says-all (buffers m) _ _ (λ i l. says-else (emptyAt m i) (says-found (placeOf (m .rows) (nameOf m i))))
 
   pub books-say : Says (sound m) (BooksSound m)
-  unfolding sound soundCap soundWords soundPages
+  unfolding sound soundCap soundWords soundPages soundCounts
   books-say =
       says-as
       (λ s.
       record {
-        cap = s .0 .0 .0 .0 .0 .0 .0 .0;
-        hand = s .0 .0 .0 .0 .0 .0 .0 .1;
-        log = s .0 .0 .0 .0 .0 .0 .1;
-        words = s .0 .0 .0 .0 .0 .1;
-        blank = s .0 .0 .0 .0 .1;
-        free = s .0 .0 .0 .1 .0;
-        off = s .0 .0 .0 .1 .1;
-        page = s .0 .0 .1;
-        chains = s .0 .1 .0;
-        distinct = s .0 .1 .1;
-        low = s .1;
+        cap = s .0 .0 .0 .0 .0 .0 .0 .0 .0;
+        hand = s .0 .0 .0 .0 .0 .0 .0 .0 .1;
+        log = s .0 .0 .0 .0 .0 .0 .0 .1;
+        words = s .0 .0 .0 .0 .0 .0 .1;
+        blank = s .0 .0 .0 .0 .0 .1;
+        free = s .0 .0 .0 .0 .1 .0;
+        off = s .0 .0 .0 .0 .1 .1;
+        page = s .0 .0 .0 .1;
+        chains = s .0 .0 .1 .0;
+        distinct = s .0 .0 .1 .1;
+        low = s .0 .1;
+        counts = s .1;
       })
       (λ k.
-      ((((((((k .cap, k .hand), k .log), k .words), k .blank), (k .free, k .off)), k .page), (k .chains, k .distinct)), k .low))
+      (((((((((k .cap, k .hand), k .log), k .words), k .blank), (k .free, k .off)), k .page), (k .chains, k .distinct)), k .low), k .counts))
+      (says-and
       (says-and
       (says-and
       (says-and
@@ -81,3 +83,4 @@ module _ (m : Memory) where
       (says-all (buffers m) _ _ (λ i l. says-it _))) blanks-say) free-says) names-say)
       (chains-say (m .states) (m .names) (m .heads) (m .chain)))
       (says-all (buffers m) _ _ (λ i l. says-if (dirty (wordOf m i)) (says-le _ _))))
+      (says-all (buffers m) _ _ (λ i l. says-eq _ _)))

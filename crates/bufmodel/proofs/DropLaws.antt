@@ -13,7 +13,7 @@ use Rattle.buftag.specs.declared.name.FileName.{FileName}
 use Rattle.buftag.specs.declared.name.PageName.{PageName}
 use Rattle.buftag.specs.Name.{sameFile}
 use Rattle.buftag.proofs.NameLaws.{says-same-file}
-use Rattle.bufmodel.specs.Word.{empty, pinned}
+use Rattle.bufmodel.specs.Word.{pins, empty, pinned}
 use Rattle.bufmodel.specs.Rows.{setBlocks, rowOf}
 use Rattle.bufmodel.specs.Memory.{Memory, buffers, wordOf, nameOf, withRows}
 use Rattle.bufmodel.specs.Books.{emptyAt}
@@ -21,6 +21,7 @@ use Rattle.bufmodel.specs.Moves.{release, ofFile, releaseIf, releaseUpTo
 use Rattle.bufmodel.specs.Calls.{filePinned}
 use Rattle.bufmodel.proofs.GoodLaws.{Good}
 use Rattle.bufmodel.proofs.RowsLaws.{row-found}
+use Rattle.bufmodel.proofs.WordLaws.{unpinned-none}
 use Rattle.bufmodel.proofs.FilesLaws.{clear-good}
 use Rattle.bufmodel.proofs.ReleaseLaws.{release-buffers, release-word, release-name, release-own, release-good}
 
@@ -67,6 +68,7 @@ onto m d =
       chain = d .chain;
       rows = m .rows;
       store = m .store;
+      counts = m .counts;
     }
 
 -- a release changes nothing else
@@ -96,8 +98,8 @@ module _ (m : Memory) (f : FileName) where
         name = λ i h. refl;
       }
 
-  -- the next buffer, by whether it is of the file
-  module _ (k : ℕ) (d : Memory) (x : Released m f k d) where
+  -- the next buffer, by whether it is of the file; none of those that are is pinned
+  module _ (free : filePinned m f ≡ false) (k : ℕ) (d : Memory) (x : Released m f k d) where
     -- it is as it was
     next-same : ofFile d f k ≡ ofFile m f k
     next-same = of-same m d f k (x .word k (λ l. absurd (omega arith))) (x .name k (λ l. absurd (omega arith)))
@@ -117,8 +119,10 @@ module _ (m : Memory) (f : FileName) where
     released-here : k < buffers m → ofFile m f k ≡ true → Released m f (suc k) (release d k)
     released-here l e =
         let b : k < buffers d = omega (arith, x .many) in
+        let idle : pins (wordOf d k) ≡ 0 =
+        ap pins (x .word k (λ z. absurd (omega arith))) ∙ unpinned-none (wordOf m k) (none-pinned m f free k l e) in
         record {
-          good = release-good d (x .good) k b (of-says d f k .holds (next-same ∙ e) .0);
+          good = release-good d (x .good) k b (of-says d f k .holds (next-same ∙ e) .0) idle;
           many = release-buffers d k ∙ x .many;
           rest = onto-release m d k (x .rest);
           gone = λ i h o.
@@ -140,14 +144,14 @@ module _ (m : Memory) (f : FileName) where
         (λ e. let q : ofFile d f k ≡ false = next-same ∙ e in rw q (released-past e))
         (true-or-false (ofFile m f k))
 
-  released-up-to : Good m → (k : ℕ) → k ≤ buffers m → Released m f k (releaseUpTo f k m)
+  released-up-to : filePinned m f ≡ false → Good m → (k : ℕ) → k ≤ buffers m → Released m f k (releaseUpTo f k m)
   unfolding releaseUpTo
-  released-up-to g zero l = released-none g
-  released-up-to g (suc k) l = released-more k (releaseUpTo f k m) (released-up-to g k (omega arith)) l
+  released-up-to free g zero l = released-none g
+  released-up-to free g (suc k) l = released-more free k (releaseUpTo f k m) (released-up-to free g k (omega arith)) l
 
   -- ---- all of them
-  pub released-all : Good m → Released m f (buffers m) (releaseUpTo f (buffers m) m)
-  released-all g = released-up-to g (buffers m) (omega arith)
+  pub released-all : filePinned m f ≡ false → Good m → Released m f (buffers m) (releaseUpTo f (buffers m) m)
+  released-all free g = released-up-to free g (buffers m) (omega arith)
 
 module _ (m d : Memory) (f : FileName) (x : Released m f (buffers m) d) where
   -- the same, with all that was not changed shared by computation

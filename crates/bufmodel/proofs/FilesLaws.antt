@@ -36,6 +36,7 @@ module _ (m : Memory) (k : Good m) where
           chain = s .chain;
           rows = sound;
           store = e;
+          counts = s .counts;
         };
         books = record {
           cap = b .cap;
@@ -49,6 +50,7 @@ module _ (m : Memory) (k : Good m) where
           page = pages;
           chains = b .chains;
           low = b .low;
+          counts = b .counts;
         };
       }
 

@@ -17,8 +17,8 @@ use Rattle.bufmodel.specs.Sweep.{Swept}
 use Rattle.bufmodel.specs.Moves.{writeBack, writeUpTo, ofFile, release, releaseIf, releaseUpTo, loadAt, loadTop, load}
 use Rattle.bufmodel.specs.Outcome.{Outcome, outcome}
 use Rattle.bufmodel.specs.Pin.{heldIn, pinHeld, pinFree, pinVictim, pinSwept, pinNew, pinTo, pin}
-use Rattle.bufmodel.specs.Calls.{unpin, read, writeTo, write, flush, checkpoint, peek, extendAt, extend, dropAt, dropFile}
-use Rattle.bufmodel.specs.Calls.{logInserted, logFlushed}
+use Rattle.bufmodel.specs.Calls.{unpinAt, unpin, read, writeTo, write, flush, checkpoint, peek, extendAt, extend, dropAt, dropFile}
+use Rattle.bufmodel.specs.Calls.{giveAt, giveUpTo, giveBack, logInserted, logFlushed}
 use Rattle.bufmodel.specs.Step.{
   Call,
   Pin,
@@ -26,6 +26,7 @@ use Rattle.bufmodel.specs.Step.{
   Read,
   Write,
   Flush,
+  GiveBack,
   Checkpoint,
   Peek,
   Extend,
@@ -67,9 +68,9 @@ unfolding writeUpTo
 all-fixed zero m = refl
 all-fixed (suc k) m = back-fixed (writeUpTo k m) k ∙ all-fixed k m
 
-pub flush-fixed : (m : Memory) (i : ℕ) → Keeps m (flush m i)
+pub flush-fixed : (m : Memory) (h i : ℕ) → Keeps m (flush m h i)
 unfolding flush
-flush-fixed m i = by-case _ _ m _ (back-fixed m i)
+flush-fixed m h i = by-case _ _ m _ (back-fixed m i)
 
 pub checkpoint-fixed : (m : Memory) → Keeps m (checkpoint m)
 unfolding checkpoint
@@ -92,29 +93,35 @@ load-fixed : (m : Memory) (n : PageName) → fixed (load m n) ≡ fixed m
 unfolding load
 load-fixed m n = top-fixed m n (linkOf (m .control .top)) (placeOf (m .rows) n)
 
-victim-fixed : (m : Memory) (n : PageName) (s : Swept) (v : Found) → Keeps m (pinVictim m n s v)
+victim-fixed : (m : Memory) (h : ℕ) (n : PageName) (s : Swept) (v : Found) → Keeps m (pinVictim m h n s v)
 unfolding pinVictim
-victim-fixed m n s (found v) =
+victim-fixed m h n s (found v) =
     load-fixed (release (writeBack (withHand (s .hand) (withStates (s .words) m)) v) v) n
     ∙ release-fixed (writeBack (withHand (s .hand) (withStates (s .words) m)) v) v
     ∙ back-fixed (withHand (s .hand) (withStates (s .words) m)) v
-victim-fixed m n s missing = refl
+victim-fixed m h n s missing = refl
 
-new-fixed : (m : Memory) (n : PageName) (l : Link) → Keeps m (pinNew m n l)
+new-fixed : (m : Memory) (h : ℕ) (n : PageName) (l : Link) → Keeps m (pinNew m h n l)
 unfolding pinNew pinFree pinSwept
-new-fixed m n (To i) = load-fixed m n
-new-fixed m n End = victim-fixed m n _ _
-new-fixed m n Off = victim-fixed m n _ _
-new-fixed m n Bad = victim-fixed m n _ _
+new-fixed m h n (To i) = load-fixed m n
+new-fixed m h n End = victim-fixed m h n _ _
+new-fixed m h n Off = victim-fixed m h n _ _
+new-fixed m h n Bad = victim-fixed m h n _ _
 
-to-fixed : (m : Memory) (n : PageName) (h : Held) → Keeps m (pinTo m n h)
+to-fixed : (m : Memory) (h : ℕ) (n : PageName) (b : Held) → Keeps m (pinTo m h n b)
 unfolding pinTo pinHeld
-to-fixed m n (At b) = refl
-to-fixed m n Nowhere = new-fixed m n (linkOf (m .control .top))
+to-fixed m h n (At b) = refl
+to-fixed m h n Nowhere = new-fixed m h n (linkOf (m .control .top))
 
-pub pin-fixed : (m : Memory) (n : PageName) → Keeps m (pin m n)
+pub pin-fixed : (m : Memory) (h : ℕ) (n : PageName) → Keeps m (pin m h n)
 unfolding pin
-pin-fixed m n = by-case _ _ m _ (to-fixed m n (heldIn m n))
+pin-fixed m h n = by-case _ _ m _ (to-fixed m h n (heldIn m n))
+
+-- ---- give back
+given-fixed : (h k : ℕ) (m : Memory) → fixed (giveUpTo h k m) ≡ fixed m
+unfolding giveUpTo giveAt
+given-fixed h zero m = refl
+given-fixed h (suc k) m = given-fixed h k m
 
 -- ---- extend and drop
 extend-fixed : (m : Memory) (r : Found) → Keeps m (extendAt m r)
@@ -139,12 +146,13 @@ drop-fixed m f missing = refl
 
 -- ---- every call
 pub step-fixed : (m : Memory) (c : Call) → Keeps m (step m c)
-unfolding step unpin read write writeTo peek extend dropFile
-step-fixed m (Pin n) = pin-fixed m n
-step-fixed m (Unpin i) = by-case _ _ m _ refl
-step-fixed m (Read i from out) = by-case _ _ m _ refl
-step-fixed m (Write i from bytes at) = by-case _ _ m _ refl
-step-fixed m (Flush i) = flush-fixed m i
+unfolding step unpin unpinAt read write writeTo giveBack peek extend dropFile
+step-fixed m (Pin h n) = pin-fixed m h n
+step-fixed m (Unpin h i) = by-case _ _ m _ refl
+step-fixed m (Read h i from out) = by-case _ _ m _ refl
+step-fixed m (Write h i from bytes at) = by-case _ _ m _ refl
+step-fixed m (Flush h i) = flush-fixed m h i
+step-fixed m (GiveBack h) = by-case _ _ m _ (given-fixed h (buffers m) m)
 step-fixed m Checkpoint = checkpoint-fixed m
 step-fixed m (Peek n) = by-case _ _ m _ refl
 step-fixed m (Extend f) = by-case _ _ m _ (extend-fixed m (rowOf (m .rows) f))

@@ -1,15 +1,17 @@
 -- Memory set up for use is good: all buffers are empty, and the free list is 0, 1, .. N − 1.
 use Prim.Native.Nat.{ℕ, zero, suc, _+_, _*_, _≤_, _<_}
-use mathlib.Core.Path.{_≡_, refl, ap, _∙_}
-use mathlib.Core.Bool.{true, false}
+use mathlib.Core.Path.{_≡_, refl, sym, ap, _∙_}
+use mathlib.Core.Bool.{true, false, not}
 use mathlib.Core.Logic.{⊎-elim}
 use mathlib.Core.List.{List, [], _∷_}
 use native.Mathlib.Omega.{arith}
 use lib.ListN.{length, length-replicate, getD-replicate}
 use lib.IntN.{pos}
+use borrow.Author.Tests.{eq-eqb}
 use Rattle.laws.specs.Times.{times}
 use Rattle.laws.proofs.Tests.{never, eq-or-ne}
 use Rattle.laws.proofs.Times.{times-here, times-later}
+use Rattle.laws.proofs.Sum.{count-nobody}
 use Rattle.laws.proofs.Lists.{getD-replicate-all}
 use Rattle.buftag.specs.declared.link.Link.the-variants.{To, End}
 use Rattle.buftag.specs.Names.{nameWords, noName}
@@ -17,12 +19,13 @@ use Rattle.buftag.specs.Link.{none, linkOf, linkAt, Links, done, step, Holds}
 use Rattle.buftag.specs.Lookup.{used}
 use Rattle.buftag.specs.Chain.{ChainsSound}
 use Rattle.buftag.proofs.LinkLaws.{links-once}
-use Rattle.bufmodel.specs.Word.{maxCap}
+use Rattle.bufmodel.specs.Word.{maxCap, pins}
 use Rattle.bufmodel.specs.Memory.{Memory, buffers, wordOf, nameOf}
+use Rattle.bufmodel.specs.Counts.{maxHolders, countPlace, countAt, hasPin, holdersOf}
 use Rattle.bufmodel.specs.Sizes.{SizedFor}
 use Rattle.bufmodel.specs.Books.{emptyAt, BooksSound}
 use Rattle.bufmodel.specs.Calls.{freeLinks, fresh}
-use Rattle.bufmodel.proofs.WordLaws.{zero-empty, zero-sound, zero-clean}
+use Rattle.bufmodel.proofs.WordLaws.{zero-empty, zero-sound, zero-clean, zero-pins}
 use Rattle.bufmodel.proofs.GoodLaws.{Good}
 
 -- ---- the free list
@@ -115,6 +118,7 @@ module _ (m : Memory) (p at cap : ℕ) where
         chain = rw n (length-replicate (length (m .chain)) none ∙ s .chain);
         rows = s .rows;
         store = s .store;
+        counts = rw n (length-replicate (length (m .counts)) 0 ∙ s .counts);
       }
 
   -- the free list holds all buffers
@@ -142,6 +146,15 @@ module _ (m : Memory) (p at cap : ℕ) where
         idle = λ i h e. ap linkOf (getD-replicate (length (m .chain)) i none (pos 0) (omega arith));
       }
 
+  -- no holder has a pin
+  fresh-count : (i h : ℕ) → countAt (fresh m p at cap .counts) i h ≡ 0
+  unfolding fresh countAt
+  fresh-count i h = getD-replicate-all (length (m .counts)) (countPlace i h) 0
+
+  fresh-holders : (i : ℕ) → holdersOf (fresh m p at cap .counts) i ≡ 0
+  unfolding holdersOf hasPin
+  fresh-holders i = count-nobody _ maxHolders (λ h l t. never t (ap not (eq-eqb _ 0 (fresh-count i h))))
+
   fresh-books : 1 ≤ buffers m → (1 ≤ cap) × (cap ≤ maxCap) → BooksSound (fresh m p at cap)
   unfolding fresh
   fresh-books l c =
@@ -157,6 +170,7 @@ module _ (m : Memory) (p at cap : ℕ) where
         page = λ i h e. never (fresh-empty i) e;
         chains = fresh-chains;
         low = λ i h e. never e (rw (fresh-word i) zero-clean);
+        counts = λ i h. ap pins (fresh-word i) ∙ zero-pins ∙ sym (fresh-holders i);
       }
 
 pub fresh-good : (m : Memory) (p at cap : ℕ) → SizedFor p m → (1 ≤ cap) × (cap ≤ maxCap) → Good (fresh m p at cap)

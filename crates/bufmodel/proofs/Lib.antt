@@ -6,6 +6,7 @@ pub mod ChecksumLaws
 pub mod WordsLaws
 pub mod RowsLaws
 pub mod WordLaws
+pub mod CountLaws
 -- memory that passes the places 1 and 2, and which buffer has a page there
 pub mod SizesLaws
 pub mod BooksLaws
@@ -21,6 +22,9 @@ pub mod ReleaseLaws
 pub mod FilesLaws
 pub mod DropLaws
 pub mod FreshLaws
+pub mod RecountLaws
+-- counts beside the other parts
+pub mod WithLaws
 -- what no call changes
 pub mod FixedLaws
 -- the sweep

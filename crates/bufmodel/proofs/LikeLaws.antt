@@ -1,6 +1,6 @@
 -- One law for all calls that leave names, lists of links and rows alone: such a change keeps the memory good.
 use Prim.Native.Nat.{ℕ, _≤_, _<_}
-use mathlib.Core.Path.{_≡_, sym, ap, _∙_}
+use mathlib.Core.Path.{_≡_, refl, sym, ap, _∙_}
 use mathlib.Core.Bool.{Bool, true, not, _&&_}
 use mathlib.Core.Logic.{⊎-elim}
 use mathlib.Core.List.{List}
@@ -14,16 +14,17 @@ use Rattle.buftag.specs.Lookup.{used}
 use Rattle.buftag.specs.Chain.{inBucketBy, ChainsBy, Distinct}
 use Rattle.buftag.proofs.LinkLaws.{holds-like}
 use Rattle.buftag.proofs.HoldsLaws.{used-out}
-use Rattle.bufmodel.specs.Word.{empty, dirty, soundWord}
+use Rattle.bufmodel.specs.Word.{pins, empty, dirty, soundWord}
 use Rattle.bufmodel.specs.Position.{position}
-use Rattle.bufmodel.specs.Memory.{Memory, buffers, size, capOf}
+use Rattle.bufmodel.specs.Memory.{Memory, buffers, size, capOf, wordOf}
+use Rattle.bufmodel.specs.Counts.{holdersOf}
 use Rattle.bufmodel.specs.Sizes.{SizedFor}
 use Rattle.bufmodel.specs.Books.{emptyAt, BooksSound}
 use Rattle.bufmodel.proofs.GoodLaws.{Good}
 
--- the memory with another hand, other log positions, words, pool and store
-abbrev pub like : Memory → ℕ → ℕ → ℕ → List ℕ → List ℕ → List ℕ → Memory
-like m hand inserted flushed words pool store =
+-- the memory with another hand, other log positions, words, pool, store and counts
+abbrev pub counted : Memory → ℕ → ℕ → ℕ → List ℕ → List ℕ → List ℕ → List ℕ → Memory
+counted m hand inserted flushed words pool store counts =
     record {
       control =
           let c = m .control in
@@ -36,7 +37,12 @@ like m hand inserted flushed words pool store =
       chain = m .chain;
       rows = m .rows;
       store = store;
+      counts = counts;
     }
+
+-- with the same counts
+abbrev pub like : Memory → ℕ → ℕ → ℕ → List ℕ → List ℕ → List ℕ → Memory
+like m hand inserted flushed words pool store = counted m hand inserted flushed words pool store (m .counts)
 
 -- ---- words with the same buffers in use
 module _ (words news : List ℕ) (many : length news ≡ length words) where
@@ -60,11 +66,11 @@ module _ (words news : List ℕ) (same : (i : ℕ) → used news i ≡ used word
       }
 
 -- ---- the change
-module _ (m : Memory) (k : Good m) (hand inserted flushed : ℕ) (words pool store : List ℕ) where
-  -- as many words, pool and store bytes as before
+module _ (m : Memory) (k : Good m) (hand inserted flushed : ℕ) (words pool store counts : List ℕ) where
+  -- as many words, pool and store bytes and counts as before
   like-sized : length words ≡ buffers m → length pool ≡ length (m .pool) → length store ≡ length (m .store)
-      → SizedFor (size m) (like m hand inserted flushed words pool store)
-  like-sized e f g =
+      → length counts ≡ length (m .counts) → SizedFor (size m) (counted m hand inserted flushed words pool store counts)
+  like-sized e f g c =
       let s = k .sizes in
       record {
         permitted = s .permitted;
@@ -78,16 +84,18 @@ module _ (m : Memory) (k : Good m) (hand inserted flushed : ℕ) (words pool sto
         chain = rw e (s .chain);
         rows = s .rows;
         store = g ∙ s .store;
+        counts = c ∙ rw e (s .counts);
       }
 
-  -- the same buffers empty, sound words, and no dirty page above the inserted position
+  -- the same buffers empty, sound words, no dirty page above the inserted position, and words that count the holders
   like-books : hand < buffers m → flushed ≤ inserted → length words ≡ buffers m
       → ((i : ℕ) → i < buffers m → empty (getD words i 0) ≡ emptyAt m i)
       → ((i : ℕ) → i < buffers m → soundWord (capOf m) (getD words i 0) ≡ true)
       → ((i : ℕ) → i < buffers m → dirty (getD words i 0) ≡ true → position (block (size m) i pool) ≤ inserted)
-      → BooksSound (like m hand inserted flushed words pool store)
+      → ((i : ℕ) → i < buffers m → pins (getD words i 0) ≡ holdersOf counts i)
+      → BooksSound (counted m hand inserted flushed words pool store counts)
   unfolding emptyAt
-  like-books h l e same sounds lows =
+  like-books h l e same sounds lows holders =
       let b = k .books in
       let u = used-like (m .states) words e same in
       record {
@@ -103,9 +111,28 @@ module _ (m : Memory) (k : Good m) (hand inserted flushed : ℕ) (words pool sto
         page = λ i n z. b .page i (rw e at n) (sym (same i (rw e at n)) ∙ z);
         chains = chains-like (m .states) words u (b .chains);
         low = λ i n d. lows i (rw e at n) d;
+        counts = λ i n. holders i (rw e at n);
       }
 
 -- the change keeps the memory good
+pub counted-good : (m : Memory) → Good m → (hand inserted flushed : ℕ) (words pool store counts : List ℕ) → hand < buffers m
+    → flushed ≤ inserted
+    → length words ≡ buffers m
+    → length pool ≡ length (m .pool)
+    → length store ≡ length (m .store)
+    → length counts ≡ length (m .counts)
+    → ((i : ℕ) → i < buffers m → empty (getD words i 0) ≡ emptyAt m i)
+    → ((i : ℕ) → i < buffers m → soundWord (capOf m) (getD words i 0) ≡ true)
+    → ((i : ℕ) → i < buffers m → dirty (getD words i 0) ≡ true → position (block (size m) i pool) ≤ inserted)
+    → ((i : ℕ) → i < buffers m → pins (getD words i 0) ≡ holdersOf counts i)
+    → Good (counted m hand inserted flushed words pool store counts)
+counted-good m k hand inserted flushed words pool store counts h l e f g c same sounds lows holders =
+    record {
+      sizes = like-sized m k hand inserted flushed words pool store counts e f g c;
+      books = like-books m k hand inserted flushed words pool store counts h l e same sounds lows holders;
+    }
+
+-- and so does one that leaves the counts, and each word's pins
 pub like-good : (m : Memory) → Good m → (hand inserted flushed : ℕ) (words pool store : List ℕ) → hand < buffers m → flushed ≤ inserted
     → length words ≡ buffers m
     → length pool ≡ length (m .pool)
@@ -113,9 +140,8 @@ pub like-good : (m : Memory) → Good m → (hand inserted flushed : ℕ) (words
     → ((i : ℕ) → i < buffers m → empty (getD words i 0) ≡ emptyAt m i)
     → ((i : ℕ) → i < buffers m → soundWord (capOf m) (getD words i 0) ≡ true)
     → ((i : ℕ) → i < buffers m → dirty (getD words i 0) ≡ true → position (block (size m) i pool) ≤ inserted)
+    → ((i : ℕ) → i < buffers m → pins (getD words i 0) ≡ pins (wordOf m i))
     → Good (like m hand inserted flushed words pool store)
-like-good m k hand inserted flushed words pool store h l e f g same sounds lows =
-    record {
-      sizes = like-sized m k hand inserted flushed words pool store e f g;
-      books = like-books m k hand inserted flushed words pool store h l e same sounds lows;
-    }
+like-good m k hand inserted flushed words pool store h l e f g same sounds lows pinned =
+    counted-good m k hand inserted flushed words pool store (m .counts) h l e f g refl same sounds lows
+    (λ i n. pinned i n ∙ k .books .counts i n)

@@ -1,5 +1,5 @@
--- Load: a page comes into the buffer on top of the free list. What it does, and that the books stay sound.
-use Prim.Native.Nat.{ℕ, _≤_, _<_}
+-- Load: a page comes into the buffer on top of the free list. What it does, and that the books are sound once a holder has a pin on it.
+use Prim.Native.Nat.{ℕ, _+_, _*_, _≤_, _<_}
 use mathlib.Core.Path.{_≡_, sym, ap, _∙_}
 use mathlib.Core.Bool.{true, false}
 use mathlib.Core.Logic.{_≢_, ⊎-elim}
@@ -20,14 +20,25 @@ use Rattle.buftag.specs.Link.{linkOf, Holds}
 use Rattle.buftag.specs.Chain.{enterHeads, enterChain}
 use Rattle.buftag.proofs.NamesLaws.{length-setName, name-put, name-kept, name-in}
 use Rattle.buftag.proofs.MoveLaws.{entered, distinct-entered}
-use Rattle.bufmodel.specs.Word.{empty, dirty, loaded, soundWord}
+use Rattle.bufmodel.specs.Word.{pins, empty, dirty, loaded, soundWord}
 use Rattle.bufmodel.specs.Rows.{placeOf, storeBlocks}
-use Rattle.bufmodel.specs.Memory.{Memory, buffers, size, capOf, wordOf, nameOf, pageOf}
+use Rattle.bufmodel.specs.Memory.{Memory, buffers, size, capOf, wordOf, nameOf, pageOf, withCounts}
+use Rattle.bufmodel.specs.Counts.{maxHolders, setCount, holdersOf}
 use Rattle.bufmodel.specs.Sizes.{SizedFor}
 use Rattle.bufmodel.specs.Books.{emptyAt, BooksSound}
 use Rattle.bufmodel.specs.Moves.{off, loadAt, loadTop, load}
 use Rattle.bufmodel.specs.Pin.{heldIn}
-use Rattle.bufmodel.proofs.WordLaws.{loaded-fields, loaded-full, loaded-clean, held-sound, held-lt}
+use Rattle.bufmodel.proofs.WordLaws.{
+  loaded-fields,
+  loaded-pins,
+  loaded-full,
+  loaded-clean,
+  held-sound,
+  held-lt,
+  empty-zero,
+  zero-pins,
+}
+use Rattle.bufmodel.proofs.CountLaws.{length-setCount, holders-change, holders-other, holders-none, pin-none}
 use Rattle.bufmodel.proofs.RowsLaws.{place-in}
 use Rattle.bufmodel.proofs.GoodLaws.{Good}
 use Rattle.bufmodel.proofs.FreeListLaws.{holds-pop, top-empty, free-from}
@@ -89,7 +100,10 @@ module _ (m : Memory) (n : PageName) (i g : ℕ) where
     unfolding loadAt
     load-pool = length-putBlock (size m) (buffers m) page (m .pool) (k .sizes .pool) whole i l
 
--- ---- the sizes and the books afterwards
+-- ---- the sizes and the books afterwards, once holder o has its pin
+abbrev pub loadedFor : Memory → ℕ → PageName → ℕ → ℕ → Memory
+loadedFor m o n i g = withCounts (setCount (m .counts) i o 1) (loadAt m n i g)
+
 loaded-sound : (cap : ℕ) → 1 ≤ cap → soundWord cap loaded ≡ true
 loaded-sound cap c = let f = loaded-fields c in held-sound (held-lt (f .held)) (f .held) .0
 
@@ -105,8 +119,27 @@ module _ (m : Memory) (k : Good m) (n : PageName) (i g : ℕ) (l : i < buffers m
   load-dirty : (j : ℕ) → dirty (wordOf (loadAt m n i g) j) ≡ true → j ≢ i
   load-dirty j d e = never (rw e at d) (ap dirty (load-own m n i g l) ∙ loaded-clean)
 
-  module _ (h : g < storeBlocks (m .rows)) where
-    load-sizes : SizedFor (size (loadAt m n i g)) (loadAt m n i g)
+  module _ (o : ℕ) (few : o < maxHolders) where
+    -- its holders: one more than none; other buffers have as many as before
+    load-room : i * maxHolders + maxHolders ≤ length (m .counts)
+    load-room = omega (arith, k .sizes .counts)
+
+    load-holder : emptyAt m i ≡ true → holdersOf (setCount (m .counts) i o 1) i ≡ 1
+    unfolding emptyAt
+    load-holder e =
+        let z : holdersOf (m .counts) i ≡ 0 = sym (k .books .counts i l) ∙ ap pins (empty-zero (wordOf m i) e) ∙ zero-pins in
+        omega (
+          arith,
+          z,
+          holders-change (m .counts) i o 1 load-room few,
+          pin-none (m .counts) i o (holders-none (m .counts) i o few z),
+        )
+
+    load-holders : (j : ℕ) → j ≢ i → holdersOf (setCount (m .counts) i o 1) j ≡ holdersOf (m .counts) j
+    load-holders j ne = holders-other (m .counts) i o 1 load-room few j ne
+
+  module _ (o : ℕ) (few : o < maxHolders) (h : g < storeBlocks (m .rows)) where
+    load-sizes : SizedFor (size (loadAt m n i g)) (loadedFor m o n i g)
     unfolding loadAt enterHeads enterChain
     load-sizes =
         let s = k .sizes in
@@ -123,6 +156,7 @@ module _ (m : Memory) (k : Good m) (n : PageName) (i g : ℕ) (l : i < buffers m
           chain = simp length-set (s .chain);
           rows = s .rows;
           store = s .store;
+          counts = rw b (length-setCount (m .counts) i o 1 ∙ s .counts);
         }
 
     module _ (top : linkOf (m .control .top) ≡ To i) (place : placeOf (m .rows) n ≡ found g) (new : heldIn m n ≡ Nowhere) where
@@ -130,8 +164,8 @@ module _ (m : Memory) (k : Good m) (n : PageName) (i g : ℕ) (l : i < buffers m
       unfolding loadAt
       load-free = holds-pop i off (free-from m k top) (load-full m n i g l) (load-kept m n i g)
 
-      load-books : BooksSound (loadAt m n i g)
-      unfolding loadAt heldIn
+      load-books : BooksSound (loadedFor m o n i g)
+      unfolding loadAt heldIn emptyAt
       load-books =
           let b = k .books in
           let s = load-buffers m n i g in
@@ -163,11 +197,19 @@ module _ (m : Memory) (k : Good m) (n : PageName) (i g : ℕ) (l : i < buffers m
             low = λ j q d.
                 let ne = load-dirty j d in
                 rw (load-page m n i g k l h j ne) (b .low j (rw s at q) (rw (load-word m n i g j ne) at d));
+            counts = λ j q.
+                ⊎-elim
+                (λ e. rw e (ap pins (load-own m n i g l) ∙ loaded-pins ∙ sym (load-holder o few (top-empty m k i top .1))))
+                (λ ne. ap pins (load-word m n i g j ne) ∙ b .counts j (rw s at q) ∙ sym (load-holders o few j ne))
+                (eq-or-ne j i);
           }
 
-pub load-good : (m : Memory) → Good m → (n : PageName) (i g : ℕ) → linkOf (m .control .top) ≡ To i → placeOf (m .rows) n ≡ found g
-    → heldIn m n ≡ Nowhere → Good (loadAt m n i g)
-load-good m k n i g top place new =
+pub load-good : (m : Memory) → Good m → (o : ℕ) → o < maxHolders → (n : PageName) (i g : ℕ) → linkOf (m .control .top) ≡ To i
+    → placeOf (m .rows) n ≡ found g
+    → heldIn m n ≡ Nowhere
+    → Good (loadedFor m o n i g)
+unfolding loadAt
+load-good m k o few n i g top place new =
     let l = top-empty m k i top .0 in
     let h = place-in (m .rows) (k .sizes .rows) n place in
-    record { sizes = load-sizes m k n i g l h; books = load-books m k n i g l h top place new }
+    record { sizes = load-sizes m k n i g l o few h; books = load-books m k n i g l o few h top place new }

@@ -14,12 +14,12 @@ use Rattle.buftag.specs.Link.{linkOf, Holds}
 use Rattle.buftag.proofs.NamesLaws.{length-setName, name-put, name-kept, name-in}
 use Rattle.buftag.proofs.UnchainLaws.{length-unchain, length-unchain-heads}
 use Rattle.buftag.proofs.MoveLaws.{left, distinct-left}
-use Rattle.bufmodel.specs.Word.{empty, dirty, soundWord}
+use Rattle.bufmodel.specs.Word.{pins, empty, dirty, soundWord}
 use Rattle.bufmodel.specs.Memory.{Memory, buffers, size, capOf, wordOf, nameOf}
 use Rattle.bufmodel.specs.Sizes.{SizedFor}
 use Rattle.bufmodel.specs.Books.{emptyAt, BooksSound}
 use Rattle.bufmodel.specs.Moves.{release}
-use Rattle.bufmodel.proofs.WordLaws.{zero-sound, zero-clean}
+use Rattle.bufmodel.proofs.WordLaws.{zero-sound, zero-clean, zero-pins}
 use Rattle.bufmodel.proofs.GoodLaws.{Good}
 use Rattle.bufmodel.proofs.FreeListLaws.{holds-push}
 use Rattle.bufmodel.proofs.HeldLaws.{full-used, empty-same}
@@ -79,6 +79,7 @@ module _ (m : Memory) (k : Good m) (i : ℕ) (l : i < buffers m) where
         chain = rw n (length-unchain (m .chain) i ∙ s .chain);
         rows = s .rows;
         store = s .store;
+        counts = rw n (s .counts);
       }
 
   -- only other buffers are in use, or dirty
@@ -88,7 +89,8 @@ module _ (m : Memory) (k : Good m) (i : ℕ) (l : i < buffers m) where
   release-dirty : (j : ℕ) → dirty (wordOf (release m i) j) ≡ true → j ≢ i
   release-dirty j d e = never (rw e at d) (ap dirty (release-own m i l) ∙ zero-clean)
 
-  module _ (full : emptyAt m i ≡ false) where
+  -- an unpinned buffer has no holders
+  module _ (full : emptyAt m i ≡ false) (idle : pins (wordOf m i) ≡ 0) where
     release-free : Holds (release m i .free) (linkOf (release m i .control .top)) (emptyAt (release m i))
     unfolding release
     release-free =
@@ -125,7 +127,11 @@ module _ (m : Memory) (k : Good m) (i : ℕ) (l : i < buffers m) where
           low = λ j h d.
               let ne = release-dirty j d in
               b .low j (rw n at h) (rw (release-word m i j ne) at d);
+          counts = λ j h.
+              ⊎-elim (λ e. rw e (ap pins (release-own m i l) ∙ zero-pins ∙ sym idle ∙ b .counts i l))
+              (λ ne. ap pins (release-word m i j ne) ∙ b .counts j (rw n at h))
+              (eq-or-ne j i);
         }
 
-pub release-good : (m : Memory) → Good m → (i : ℕ) → i < buffers m → emptyAt m i ≡ false → Good (release m i)
-release-good m k i l full = record { sizes = release-sizes m k i l; books = release-books m k i l full }
+pub release-good : (m : Memory) → Good m → (i : ℕ) → i < buffers m → emptyAt m i ≡ false → pins (wordOf m i) ≡ 0 → Good (release m i)
+release-good m k i l full idle = record { sizes = release-sizes m k i l; books = release-books m k i l full idle }

@@ -48,20 +48,22 @@ sizes-say p m =
     says-as
     (λ s.
     record {
-      permitted = s .0 .0 .0 .0 .0 .0 .0 .0 .0 .0;
-      least = s .0 .0 .0 .0 .0 .0 .0 .0 .0 .1;
-      most = s .0 .0 .0 .0 .0 .0 .0 .0 .1;
-      wide = s .0 .0 .0 .0 .0 .0 .0 .1;
-      heads = s .0 .0 .0 .0 .0 .0 .1;
-      names = s .0 .0 .0 .0 .0 .1;
-      pool = s .0 .0 .0 .0 .1;
-      free = s .0 .0 .0 .1;
-      chain = s .0 .0 .1;
-      rows = s .0 .1;
-      store = s .1;
+      permitted = s .0 .0 .0 .0 .0 .0 .0 .0 .0 .0 .0;
+      least = s .0 .0 .0 .0 .0 .0 .0 .0 .0 .0 .1;
+      most = s .0 .0 .0 .0 .0 .0 .0 .0 .0 .1;
+      wide = s .0 .0 .0 .0 .0 .0 .0 .0 .1;
+      heads = s .0 .0 .0 .0 .0 .0 .0 .1;
+      names = s .0 .0 .0 .0 .0 .0 .1;
+      pool = s .0 .0 .0 .0 .0 .1;
+      free = s .0 .0 .0 .0 .1;
+      chain = s .0 .0 .0 .1;
+      rows = s .0 .0 .1;
+      store = s .0 .1;
+      counts = s .1;
     })
     (λ k.
-    ((((((((((k .permitted, k .least), k .most), k .wide), k .heads), k .names), k .pool), k .free), k .chain), k .rows), k .store))
+    (((((((((((k .permitted, k .least), k .most), k .wide), k .heads), k .names), k .pool), k .free), k .chain), k .rows), k .store), k .counts))
+    (says-and
     (says-and
     (says-and
     (says-and
@@ -74,6 +76,7 @@ sizes-say p m =
     (says-eq _ _))
     (says-eq _ _))
     (rows-say (m .rows)))
+    (says-eq _ _))
     (says-eq _ _))
 
 -- ---- block sizes

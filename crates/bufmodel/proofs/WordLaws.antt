@@ -1,5 +1,5 @@
 -- Laws of state words: the fields of a word, the words of buffers in use, and what the changes do to them.
-use Prim.Native.Nat.{ℕ, _+_, _-_, _/_, _%_, _^_, _≤_, _<_}
+use Prim.Native.Nat.{ℕ, suc, _+_, _-_, _/_, _%_, _^_, _≤_, _<_}
 use mathlib.Core.Path.{_≡_, refl, sym, ap, _∙_}
 use mathlib.Core.Bool.{Bool, true, false, not, _&&_, _||_, cond, Bool·beq}
 use mathlib.Core.Logic.{_⊎_, inl, inr, ⊎-elim}
@@ -12,7 +12,7 @@ use Rattle.laws.specs.Says.{Says}
 use Rattle.laws.proofs.Tests.{true-or-false, beq-true}
 use Rattle.laws.proofs.Every.{all-at}
 use Rattle.laws.proofs.Says.{says-eq, says-le, says-and, says-or, says-else, says-as}
-use Rattle.bufmodel.specs.Word.{maxCap, maxPins, pins, usage, flags, pack, cleanFlags, dirtyFlags, pinned}
+use Rattle.bufmodel.specs.Word.{maxCap, pins, usage, flags, pack, cleanFlags, dirtyFlags, pinned}
 use Rattle.bufmodel.specs.Word.{bit, dirty, valid, tagValid, justDirtied, permanent, noOther, empty, soundFlags, soundWord}
 use Rattle.bufmodel.specs.Word.{pinMore, pinLess, useLess, makeDirty, makeClean, loaded}
 
@@ -62,6 +62,10 @@ zero-sound cap = refl
 pub zero-clean : dirty 0 ≡ false
 unfolding dirty bit
 zero-clean = refl
+
+pub zero-pins : pins 0 ≡ 0
+unfolding pins
+zero-pins = refl
 
 pub zero-unpinned : pinned 0 ≡ false
 unfolding pinned pins
@@ -179,7 +183,7 @@ module _ {cap w : ℕ} (k : Held cap w) where
   counted p u hp hu few = rw (dirty-is k) (packed cap p u (flags w) hp hu few (k .flag))
 
   -- a cap that four bits hold: no use more is carried into the flags
-  pub pin-more : cap ≤ maxCap → pins w < maxPins
+  pub pin-more : cap ≤ maxCap → suc (pins w) < 2 ^ 18
       → Fields cap (pinMore cap w) (pins w + 1) (cond (ltb (usage w) cap) (usage w + 1) (usage w)) (flags w) (dirty w)
   unfolding pinMore
   pin-more c h =
@@ -206,6 +210,9 @@ module _ {cap w : ℕ} (k : Held cap w) where
 pub loaded-fields : {cap : ℕ} → 1 ≤ cap → Fields cap loaded 1 1 cleanFlags false
 unfolding loaded
 loaded-fields {cap} c = packed cap 1 1 cleanFlags (omega arith) (omega arith) c (inl refl)
+
+pub loaded-pins : pins loaded ≡ 1
+loaded-pins = loaded-fields {cap = 1} (omega arith) .pins
 
 pub loaded-full : empty loaded ≡ false
 loaded-full = loaded-fields {cap = 1} (omega arith) .held .full

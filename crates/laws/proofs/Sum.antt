@@ -8,11 +8,11 @@ use mathlib.Core.Bool.{Bool, true, false, not, _&&_, cond}
 use mathlib.Core.Logic.{_↔_, _≢_, ⊎-elim}
 use lib.Dec.{eqb}
 use borrow.Author.Count.{below-more}
-use borrow.Author.Tests.{eq-eqb, ne-eqb, eqb-true}
-use Rattle.laws.specs.Every.{all}
+use borrow.Author.Tests.{eq-eqb, ne-eqb, eqb-true, not-true, not-false}
+use Rattle.laws.specs.Every.{all, any}
 use Rattle.laws.specs.Sum.{sum, ind, count}
 use Rattle.laws.proofs.Tests.{at-end, eq-or-ne, lt-or-le, never, same-tests, true-or-false}
-use Rattle.laws.proofs.Every.{all-at, all-of}
+use Rattle.laws.proofs.Every.{all-at, all-of, all-false-at}
 
 module _ (f : ℕ → ℕ) where
   pub sum-none : sum 0 f ≡ 0
@@ -243,3 +243,42 @@ module _ (p : ℕ → Bool) (n : ℕ) where
         sum-below (λ k. ind (eqb k i) + ind (eqb k j)) (λ k. ind (p k)) n (λ k h. two-le i j k ne t u),
       )))
       (eq-or-ne i j)
+
+-- ---- two tests that differ at one index
+module _ (p q : ℕ → Bool) (k : ℕ) (other : (i : ℕ) → i ≢ k → q i ≡ p i) where
+  count-apart : (n : ℕ) → n ≤ k → count n q ≡ count n p
+  unfolding count
+  count-apart n l = sum-same (λ i. ind (q i)) (λ i. ind (p i)) n (λ i h. ap ind (other i (λ e. omega arith)))
+
+  pub count-change : (n : ℕ) → k < n → count n q + ind (p k) ≡ count n p + ind (q k)
+  unfolding count sum
+  count-change zero l = absurd (not-suc-le-zero l)
+  count-change (suc n) l =
+      ⊎-elim (λ h. omega (arith, count-change n h, ap ind (other n (λ e. omega arith))))
+      (λ h. omega (arith, count-apart n h, ap (λ (i : ℕ). ind (p i)) (n-is h), ap (λ (i : ℕ). ind (q i)) (n-is h)))
+      (lt-or-le k n)
+    where
+      n-is : n ≤ k → n ≡ k
+      n-is h = omega arith
+
+-- ---- some index passes exactly where the count of those that do is not 0
+any-none : (p : ℕ → Bool) (n : ℕ) → any n p ≡ false → all n (λ k. not (p k)) ≡ true
+unfolding any
+any-none p n e = not-false _ e
+
+any-at : (p : ℕ → Bool) (n : ℕ) → any n p ≡ true → (i : ℕ) × (i < n) × (not (p i) ≡ false)
+unfolding any
+any-at p n t = all-false-at (λ k. not (p k)) n (not-true _ t)
+
+pub any-count : (p : ℕ → Bool) (n : ℕ) → any n p ≡ not (eqb (count n p) 0)
+any-count p n =
+    same-tests (any n p) (not (eqb (count n p) 0))
+    (λ t. let w = any-at p n t in ap not (ne-eqb (count n p) 0 (λ z. omega (arith, z, count-some p n (w .0) (w .1) (not-false _ (w .2))))))
+    (λ t.
+    ⊎-elim (λ q. q)
+    (λ q.
+    never t
+    (ap not
+    (eq-eqb (count n p) 0
+    (count-nobody p n (λ i l h. never h (not-true (p i) (all-at (λ k. not (p k)) n (any-none p n q) i l)))))))
+    (true-or-false (any n p)))
