@@ -7,7 +7,7 @@ ghost use lib.ListN.{length, getD};
 ghost use Rattle.laws.specs.First.{found};
 ghost use Rattle.buftag.specs.declared.link.Link.the-variants.{End};
 ghost use Rattle.buftag.specs.Link.{linkOf};
-ghost use Rattle.bufmodel.specs.Word.{dirty, empty};
+ghost use Rattle.bufmodel.specs.Word.{pinned, dirty, empty};
 ghost use Rattle.bufmodel.specs.Rows.{placeOf};
 ghost use Rattle.bufmodel.specs.Memory.{memory, withCounts};
 ghost use Rattle.bufmodel.specs.Counts.{maxHolders, setCount};
@@ -62,6 +62,7 @@ fn pin_victim(
         (memory control (now states) (now names) (now pool) (now free) (now heads) (now chain) (now rows) (now store))) ≡ true)
         × (victim .0 < length (now states))
         × (empty (getD (now states) (victim .0) 0) ≡ false)
+        × (pinned (getD (now states) (victim .0) 0) ≡ false)
         × (placeOf (now rows) name ≡ found g)
         × (holder .0 < maxHolders) ⌝ }
     ensures { λ r. ⌜ r .answer ≡ loadedAt (victim .0) (dirty (getD (now (states .entry)) (victim .0) 0)) probes ⌝ }
