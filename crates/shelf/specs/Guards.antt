@@ -1,11 +1,11 @@
 -- Demand 1: every call is accepted exactly under the conditions of document 01's table, for every input and every state of the lent memory.
 -- A refused call gives its number and changes nothing in the pool, the store or the caller's buffer.
-use Prim.Native.Nat.{ℕ, _+_, _%_}
+use Prim.Native.Nat.{ℕ, _+_, _*_, _%_}
 use mathlib.Core.Path.{_≡_}
 use mathlib.Core.Logic.{_≢_}
 use mathlib.Core.Bool.{Bool, false, not, _&&_, _||_}
 use mathlib.Core.List.{List, [], _∷_}
-use lib.ListN.{length}
+use lib.ListN.{length, getD}
 use lib.Dec.{eqb, leb, ltb}
 use Rattle.laws.specs.Every.{all, any}
 use Rattle.laws.specs.First.{Found, found, missing}
@@ -19,7 +19,22 @@ use Rattle.bufmodel.specs.Memory.{Memory, buffers, size, wordOf, pageOf}
 use Rattle.bufmodel.specs.Books.{BooksSound}
 use Rattle.bufmodel.specs.Outcome.{Place, place, zeros}
 use Rattle.bufmodel.specs.Pin.{heldIn}
-use Rattle.bufmodel.specs.Step.{Call, Pin, Unpin, Read, Write, Flush, Checkpoint, Peek, Extend, Drop, LogInserted, LogFlushed, step}
+use Rattle.bufmodel.specs.Step.{
+  Call,
+  Pin,
+  Unpin,
+  Read,
+  Write,
+  Flush,
+  GiveBack,
+  Checkpoint,
+  Peek,
+  Extend,
+  Drop,
+  LogInserted,
+  LogFlushed,
+  step,
+}
 use Rattle.bufmodel.specs.Lent.{Lent, Called, opened}
 use Rattle.shelf.specs.Sums.{fails}
 use Rattle.shelf.specs.Shelf.{firstOf, noFile}
@@ -32,6 +47,10 @@ module _ (m : Memory) where
   abbrev pub pinCount : ℕ → ℕ
   pinCount i = wordOf m i % 262144
 
+  -- holder h's private count of buffer i
+  abbrev pub privateCount : ℕ → ℕ → ℕ
+  privateCount i h = getD (m .counts) (i * 64 + h) 0
+
   -- 4, block ≥ blocks
   unfoldable pub blockPast : ℕ → Found → Bool
   blockPast b (found r) = leb (blocksAt (m .rows) r) b
@@ -43,10 +62,10 @@ module _ (m : Memory) where
   sumWrong n (found g) (At b) = false
   sumWrong n missing h = false
 
-  -- 5, held, pin count 262143; 6, not held, every buffer pinned
-  unfoldable pub pinsFull : Held → Bool
-  pinsFull (At b) = eqb (pinCount (b .0)) 262143
-  pinsFull Nowhere = false
+  -- 5, held, this holder's count is full; 6, not held, every buffer pinned
+  unfoldable pub pinsFull : ℕ → Held → Bool
+  pinsFull h (At b) = eqb (privateCount (b .0) h) 65535
+  pinsFull h Nowhere = false
 
   unfoldable pub allPinned : Held → Bool
   allPinned (At b) = false
@@ -65,21 +84,25 @@ module _ (m : Memory) where
       ∷ place 17 (sumWrong n (placeOf (m .rows) n) (heldIn m n))
       ∷ later
 
-  unfoldable pub bufferChecks : ℕ → List Place → List Place
-  bufferChecks b later = place 7 (leb (buffers m) b) ∷ place 8 (eqb (pinCount b) 0) ∷ later
+  -- 19, holder 64 or above; 7, ≥ N; 8, this holder has no pin on the buffer
+  unfoldable pub bufferChecks : ℕ → ℕ → List Place → List Place
+  bufferChecks h b later = place 19 (leb 64 h) ∷ place 7 (leb (buffers m) b) ∷ place 8 (eqb (privateCount b h) 0) ∷ later
 
   unfoldable pub table : Call → List Place
-  table (Pin n) = let h = heldIn m n in pageChecks n (place 5 (pinsFull h) ∷ place 6 (allPinned h) ∷ [])
-  table (Unpin b) = bufferChecks b []
-  table (Read b from out) = bufferChecks b (place 9 (ltb (size m) (from + length out)) ∷ [])
-  table (Write b from bytes at) =
-      bufferChecks b
+  table (Pin h n) =
+      let b = heldIn m n in
+      place 19 (leb 64 h) ∷ pageChecks n (place 5 (pinsFull h b) ∷ place 6 (allPinned b) ∷ [])
+  table (Unpin h b) = bufferChecks h b []
+  table (Read h b from out) = bufferChecks h b (place 9 (ltb (size m) (from + length out)) ∷ [])
+  table (Write h b from bytes at) =
+      bufferChecks h b
       (place 9 (ltb (size m) (from + length bytes) || ltb from 8)
       ∷ place 10 (eqb (length bytes) 0)
       ∷ place 11 (ltb (m .control .inserted) at)
       ∷ place 12 (ltb at (position (pageOf m b)))
       ∷ [])
-  table (Flush b) = bufferChecks b []
+  table (Flush h b) = bufferChecks h b []
+  table (GiveBack h) = place 19 (leb 64 h) ∷ []
   table Checkpoint = []
   table (Peek n) = pageChecks n []
   table (Extend f) = let r = rowOf (m .rows) f in place 3 (noFile r) ∷ place 13 (rowFull r) ∷ []
@@ -104,7 +127,7 @@ pub record Guards (c : Call) (m : Lent) (answer : List ℕ) (r : Called) : Type 
   -- 1, sizes or rows break a rule; 2, not sound
   pub sizes : length answer ≡ 4 → (Fitting m → ⊥) → Refuses 1 (own c) m zeros r
   pub books : length answer ≡ 4 → Fitting m → (BooksSound (opened m) → ⊥) → Refuses 2 (own c) m zeros r
-  -- 3 to 17, checked downwards in the table's order, and 0 where none refuses
+  -- 3 to 17 and 19, checked downwards in the table's order, and 0 where none refuses
   pub number : length answer ≡ 4 → Fitting m → BooksSound (opened m) → r .result ≡ firstOf (table (opened m) c)
   pub refused : length answer ≡ 4 → r .result ≢ 0 → Refuses (r .result) (own c) m zeros r
 

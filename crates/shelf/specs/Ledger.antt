@@ -9,7 +9,21 @@ use Rattle.laws.specs.First.{Found, found, missing}
 use Rattle.bufmodel.specs.Position.{position}
 use Rattle.bufmodel.specs.Rows.{rowOf, storeBlocks, placeOf}
 use Rattle.bufmodel.specs.Memory.{Memory}
-use Rattle.bufmodel.specs.Step.{Call, Pin, Unpin, Read, Write, Flush, Checkpoint, Peek, Extend, Drop, LogInserted, LogFlushed}
+use Rattle.bufmodel.specs.Step.{
+  Call,
+  Pin,
+  Unpin,
+  Read,
+  Write,
+  Flush,
+  GiveBack,
+  Checkpoint,
+  Peek,
+  Extend,
+  Drop,
+  LogInserted,
+  LogFlushed,
+}
 use Rattle.shelf.specs.Shelf.{Shelf, with, inRow, firstShelf, nextBlock, shelfAfter}
 
 pub record Ledger : Type 0 where
@@ -45,11 +59,12 @@ module _ (l : Ledger) where
   -- Written back are the dirty page whose buffer an accepted flush names, every dirty page at an accepted checkpoint, and,
   -- at a pin that answers wrote, the page that an earlier pin last got at the number answered
   unfoldable pub backBy : Call → List ℕ → ℕ → Bool
-  backBy (Pin n) answer g = wroteIn answer && isPlace (l .last (bufferIn answer)) g
-  backBy (Unpin i) answer g = false
-  backBy (Read i from out) answer g = false
-  backBy (Write i from bytes at) answer g = false
-  backBy (Flush i) answer g = isPlace (l .shelf .holds i) g && l .dirty g
+  backBy (Pin h n) answer g = wroteIn answer && isPlace (l .last (bufferIn answer)) g
+  backBy (Unpin h i) answer g = false
+  backBy (Read h i from out) answer g = false
+  backBy (Write h i from bytes at) answer g = false
+  backBy (Flush h i) answer g = isPlace (l .shelf .holds i) g && l .dirty g
+  backBy (GiveBack h) answer g = false
   backBy Checkpoint answer g = l .dirty g
   backBy (Peek n) answer g = false
   backBy (Extend f) answer g = false
@@ -63,11 +78,12 @@ module _ (l : Ledger) where
   newAt missing g = false
 
   unfoldable pub newBy : Call → ℕ → Bool
-  newBy (Pin n) g = false
-  newBy (Unpin i) g = false
-  newBy (Read i from out) g = false
-  newBy (Write i from bytes at) g = false
-  newBy (Flush i) g = false
+  newBy (Pin h n) g = false
+  newBy (Unpin h i) g = false
+  newBy (Read h i from out) g = false
+  newBy (Write h i from bytes at) g = false
+  newBy (Flush h i) g = false
+  newBy (GiveBack h) g = false
   newBy Checkpoint g = false
   newBy (Peek n) g = false
   newBy (Extend f) g = newAt (rowOf (l .shelf .rows) f) g
@@ -81,11 +97,12 @@ module _ (l : Ledger) where
 
   -- a page is dirty from an accepted write until it is written back or its file is dropped
   unfoldable pub dirtiedBy : Call → ℕ → Bool
-  dirtiedBy (Pin n) g = l .dirty g
-  dirtiedBy (Unpin i) g = l .dirty g
-  dirtiedBy (Read i from out) g = l .dirty g
-  dirtiedBy (Write i from bytes at) g = isPlace (l .shelf .holds i) g || l .dirty g
-  dirtiedBy (Flush i) g = l .dirty g
+  dirtiedBy (Pin h n) g = l .dirty g
+  dirtiedBy (Unpin h i) g = l .dirty g
+  dirtiedBy (Read h i from out) g = l .dirty g
+  dirtiedBy (Write h i from bytes at) g = isPlace (l .shelf .holds i) g || l .dirty g
+  dirtiedBy (Flush h i) g = l .dirty g
+  dirtiedBy (GiveBack h) g = l .dirty g
   dirtiedBy Checkpoint g = l .dirty g
   dirtiedBy (Peek n) g = l .dirty g
   dirtiedBy (Extend f) g = l .dirty g
@@ -98,11 +115,12 @@ module _ (l : Ledger) where
 
   -- the page that a pin last got at a number
   unfoldable pub lastAfter : Call → List ℕ → ℕ → Found
-  lastAfter (Pin n) answer = with (bufferIn answer) (placeOf (l .shelf .rows) n) (l .last)
-  lastAfter (Unpin i) answer = l .last
-  lastAfter (Read i from out) answer = l .last
-  lastAfter (Write i from bytes at) answer = l .last
-  lastAfter (Flush i) answer = l .last
+  lastAfter (Pin h n) answer = with (bufferIn answer) (placeOf (l .shelf .rows) n) (l .last)
+  lastAfter (Unpin h i) answer = l .last
+  lastAfter (Read h i from out) answer = l .last
+  lastAfter (Write h i from bytes at) answer = l .last
+  lastAfter (Flush h i) answer = l .last
+  lastAfter (GiveBack h) answer = l .last
   lastAfter Checkpoint answer = l .last
   lastAfter (Peek n) answer = l .last
   lastAfter (Extend f) answer = l .last
@@ -117,11 +135,12 @@ module _ (l : Ledger) where
 
   -- the position of an accepted log flushed, or the largest so far
   unfoldable pub saidFlushed : Call → ℕ
-  saidFlushed (Pin n) = l .flushed
-  saidFlushed (Unpin i) = l .flushed
-  saidFlushed (Read i from out) = l .flushed
-  saidFlushed (Write i from bytes at) = l .flushed
-  saidFlushed (Flush i) = l .flushed
+  saidFlushed (Pin h n) = l .flushed
+  saidFlushed (Unpin h i) = l .flushed
+  saidFlushed (Read h i from out) = l .flushed
+  saidFlushed (Write h i from bytes at) = l .flushed
+  saidFlushed (Flush h i) = l .flushed
+  saidFlushed (GiveBack h) = l .flushed
   saidFlushed Checkpoint = l .flushed
   saidFlushed (Peek n) = l .flushed
   saidFlushed (Extend f) = l .flushed

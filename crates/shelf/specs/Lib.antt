@@ -3,6 +3,7 @@ pub mod Shelf
 pub mod Ledger
 pub mod Published
 pub mod Statement
+pub mod Isolation
 pub mod Guards
 pub mod Numbers
 pub mod HeaderSum

@@ -28,7 +28,22 @@ use Rattle.bufmodel.specs.Books.{BooksSound}
 use Rattle.bufmodel.specs.Sweep.{Swept, Sweeps}
 use Rattle.bufmodel.specs.Outcome.{Outcome, one, two}
 use Rattle.bufmodel.specs.Pin.{heldIn}
-use Rattle.bufmodel.specs.Step.{Call, Pin, Unpin, Read, Write, Flush, Checkpoint, Peek, Extend, Drop, LogInserted, LogFlushed, step}
+use Rattle.bufmodel.specs.Step.{
+  Call,
+  Pin,
+  Unpin,
+  Read,
+  Write,
+  Flush,
+  GiveBack,
+  Checkpoint,
+  Peek,
+  Extend,
+  Drop,
+  LogInserted,
+  LogFlushed,
+  step,
+}
 use Rattle.shelf.specs.Sums.{goesOut}
 use Rattle.shelf.specs.Shelf.{with, writtenPage}
 
@@ -48,13 +63,16 @@ cleaned w = cond (dirty w) (w - 0x10800000) w
 abbrev pub justLoaded : ℕ
 justLoaded = 0x83040001
 
--- ---- the books, place by place: each buffer's word, name, free link and chain link, each bucket's head, the hand, the free list's top
+-- ---- the books, place by place: each buffer's word, name, free link and chain link, each bucket's head, each holder's count of each
+-- buffer, the hand, the free list's top
 pub record Marks : Type 0 where
   pub word : ℕ → ℕ
   pub name : ℕ → PageName
   pub link : ℕ → ℤ
   pub chain : ℕ → ℤ
   pub head : ℕ → ℤ
+  -- buffer, holder
+  pub count : ℕ → ℕ → ℕ
   pub hand : ℕ
   pub top : ℤ
 
@@ -66,6 +84,7 @@ marksOf m =
       link = numberAt (m .free);
       chain = numberAt (m .chain);
       head = numberAt (m .heads);
+      count = λ i h. getD (m .counts) (i * 64 + h) 0;
       hand = m .control .hand;
       top = m .control .top;
     }
@@ -73,7 +92,30 @@ marksOf m =
 -- other words, and another hand
 abbrev pub withWords : (ℕ → ℕ) → ℕ → Marks → Marks
 withWords word hand k =
-    record { word = word; name = k .name; link = k .link; chain = k .chain; head = k .head; hand = hand; top = k .top }
+    record {
+      word = word;
+      name = k .name;
+      link = k .link;
+      chain = k .chain;
+      head = k .head;
+      count = k .count;
+      hand = hand;
+      top = k .top;
+    }
+
+-- another word and another count by holder h at each buffer
+abbrev pub withPins : (ℕ → ℕ) → ℕ → (ℕ → ℕ) → Marks → Marks
+withPins word h count k =
+    record {
+      word = word;
+      name = k .name;
+      link = k .link;
+      chain = k .chain;
+      head = k .head;
+      count = λ i. with h (count i) (k .count i);
+      hand = k .hand;
+      top = k .top;
+    }
 
 -- −1 ends a list, −2 means not in it
 abbrev pub listEnd : ℤ
@@ -95,19 +137,22 @@ emptied i k =
       link = with i (k .top) (k .link);
       chain = with i listEnd (λ j. ledPast i (k .chain i) (k .chain j));
       head = λ b. ledPast i (k .chain i) (k .head b);
+      count = k .count;
       hand = k .hand;
       top = pos i;
     }
 
--- page n comes into buffer i, the free list's top: the name enters at the head of bucket b; pin and usage counts are 1, clean
-unfoldable pub loadedInto : ℕ → PageName → ℕ → Marks → Marks
-loadedInto b n i k =
+-- page n comes into buffer i, the free list's top, for holder h: the name enters at the head of bucket b; pin and usage counts are 1,
+-- clean; the holder's count is 1
+unfoldable pub loadedInto : ℕ → ℕ → PageName → ℕ → Marks → Marks
+loadedInto b h n i k =
     record {
       word = with i justLoaded (k .word);
       name = with i n (k .name);
       link = with i unlisted (k .link);
       chain = with i (k .head b) (k .chain);
       head = with b (pos i) (k .head);
+      count = with i (with h 1 (k .count i)) (k .count);
       hand = k .hand;
       top = k .link i;
     }
@@ -119,6 +164,7 @@ pub record Alike (n b : ℕ) (k l : Marks) : Type 0 where
   pub links : (i : ℕ) → i < n → k .link i ≡ l .link i
   pub chains : (i : ℕ) → i < n → k .chain i ≡ l .chain i
   pub heads : (j : ℕ) → j < b → k .head j ≡ l .head j
+  pub counts : (i h : ℕ) → i < n → h < 64 → k .count i h ≡ l .count i h
   pub hand : k .hand ≡ l .hand
   pub top : k .top ≡ l .top
 
@@ -162,16 +208,30 @@ module _ (m : Memory) where
   abbrev pub Words : Outcome → (ℕ → ℕ) → (ℕ → List ℕ) → Type 0
   Words o word = Leaves o (withWords word (m .control .hand) (marksOf m)) (pageOf m)
 
+  -- other words, other counts by holder h, and nothing else
+  abbrev pub Pins : Outcome → (ℕ → ℕ) → ℕ → (ℕ → ℕ) → Type 0
+  Pins o word h count = Leaves o (withPins word h count (marksOf m)) (pageOf m) blocksOf
+
+  -- holder h's count of each buffer
+  abbrev pub countsBy : ℕ → ℕ → ℕ
+  countsBy h i = getD (m .counts) (i * 64 + h) 0
+
+  -- a hit of holder h on buffer i: its count rises, and with its first pin the word
+  abbrev pub Hits : ℕ → ℕ → ℕ → Outcome → Type 0
+  Hits cap h i o =
+      let c = countsBy h i in
+      Pins o (with i (cond (eqb c 0) (morePins cap (wordOf m i)) (wordOf m i)) (wordOf m)) h (with i (c + 1) (countsBy h))
+
   -- ---- A pin's probes are the buffers that its sweep looks at, each time counted
-  module _ (n : PageName) where
+  module _ (h : ℕ) (n : PageName) where
     -- page n comes into buffer i
     abbrev pub loaded : ℕ → Marks → Marks
-    loaded = loadedInto (bucketOf n buckets) n
+    loaded = loadedInto (bucketOf n buckets) h n
 
     pub data Probes (cap : ℕ) (o : Outcome) : ℕ → Type 0 where
       -- none on a hit: the buffer that has the page; hit, nothing written
       hit : {b : BufferNumber} → heldIn m n ≡ At b → o .refusal ≡ 0 → o .answer ≡ b .0 ∷ 1 ∷ 0 ∷ 0 ∷ []
-          → Words o (with (b .0) (morePins cap (wordOf m (b .0))) (wordOf m)) blocksOf
+          → Hits cap h (b .0) o
           → Probes cap o 0
       -- or from the free list: its top; loaded from the store, nothing written
       free : {i g : ℕ} → heldIn m n ≡ Nowhere → linkOf (m .control .top) ≡ To i → o .refusal ≡ 0 → o .answer ≡ i ∷ 0 ∷ 0 ∷ 0 ∷ []
@@ -204,6 +264,7 @@ module _ (m : Memory) where
       pub atSix : o .refusal ≡ 6 → probes ≡ many
       pub answered : o .refusal ≡ 0 → getD (o .answer) 3 0 ≡ probes
 
+  module _ (n : PageName) where
     -- ---- peek: 1 for the pool's page if held, 0 for the store's block, and a byte offset
     pub record Peeks (o : Outcome) : Type 0 where
       pub inPool : (b : BufferNumber) → heldIn m n ≡ At b → o .answer ≡ two 1 (b .0 * size m)
@@ -221,14 +282,17 @@ module _ (m : Memory) where
   -- ---- what each call leaves where it is accepted; the bytes that a read fills, 8 and 9 among them; the count that flush and checkpoint
   -- wrote; a pin's is above
   abbrev pub Accepts : Call → Outcome → Type 0
-  Accepts (Pin n) o = Unit {0}
-  Accepts (Unpin b) o = Words o (with b (wordOf m b - 1) (wordOf m)) blocksOf
-  Accepts (Read b from out) o = Words o (wordOf m) blocksOf × (o .bytes ≡ take (length out) (drop from (pageOf m b)))
-  Accepts (Write b from bytes at) o =
+  Accepts (Pin h n) o = Unit {0}
+  Accepts (Unpin h b) o =
+      let c = countsBy h b in
+      Pins o (with b (cond (eqb c 1) (wordOf m b - 1) (wordOf m b)) (wordOf m)) h (with b (c - 1) (countsBy h))
+  Accepts (Read h b from out) o = Words o (wordOf m) blocksOf × (o .bytes ≡ take (length out) (drop from (pageOf m b)))
+  Accepts (Write h b from bytes at) o =
       Leaves o (withWords (with b (dirtied (wordOf m b)) (wordOf m)) (m .control .hand) (marksOf m))
       (with b (writtenPage at from bytes (pageOf m b)) (pageOf m)) blocksOf
-  Accepts (Flush b) o =
+  Accepts (Flush h b) o =
       Words o (with b (cleaned (wordOf m b)) (wordOf m)) (backed b blocksOf) × (o .answer ≡ one (cond (dirty (wordOf m b)) 1 0))
+  Accepts (GiveBack h) o = Pins o (λ i. cond (eqb (countsBy h i) 0) (wordOf m i) (wordOf m i - 1)) h (λ i. 0)
   Accepts Checkpoint o =
       Words o (λ i. cleaned (wordOf m i)) (backedTo (buffers m))
       × (o .answer ≡ one (count (buffers m) (λ i. dirty (wordOf m i))))
@@ -240,7 +304,7 @@ module _ (m : Memory) where
 
   -- the cap and the number of buffers: in demand 2, below, the memory's, in demand 3 those given at set up
   pub record Published (cap many : ℕ) (c : Call) (o : Outcome) : Type 0 where
-    pub sought : (n : PageName) → c ≡ Pin n → Sought n cap many o
+    pub sought : (h : ℕ) (n : PageName) → c ≡ Pin h n → Sought h n cap many o
     pub accepts : o .refusal ≡ 0 → Accepts c o
     -- no call changes the cap
     pub stays : capOf (o .after) ≡ capOf m

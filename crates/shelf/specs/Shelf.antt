@@ -14,20 +14,34 @@ use Rattle.buftag.specs.declared.name.PageName.{PageName}
 use Rattle.bufmodel.specs.Position.{position, positionBytes}
 use Rattle.bufmodel.specs.Rows.{files, blocksAt, capacityAt, setBlocks, rowOf, startOf, storeBlocks, placeOf}
 use Rattle.bufmodel.specs.Memory.{Memory, buffers}
-use Rattle.bufmodel.specs.Books.{isFound}
 use Rattle.bufmodel.specs.Outcome.{Place, place}
-use Rattle.bufmodel.specs.Step.{Call, Pin, Unpin, Read, Write, Flush, Checkpoint, Peek, Extend, Drop, LogInserted, LogFlushed}
+use Rattle.bufmodel.specs.Step.{
+  Call,
+  Pin,
+  Unpin,
+  Read,
+  Write,
+  Flush,
+  GiveBack,
+  Checkpoint,
+  Peek,
+  Extend,
+  Drop,
+  LogInserted,
+  LogFlushed,
+}
 use Rattle.shelf.specs.Sums.{fails}
 
--- N, P, inserted, rows; for each block its P bytes, and whether it counts as bad; for each page a pin count; for some buffer numbers the
--- page held there
+-- N, P, inserted, rows; for each block its P bytes, and whether it counts as bad; for each holder and page a pin count; for some buffer
+-- numbers the page held there. A holder is document 02's word for who pins: one of 64
 pub record Shelf : Type 0 where
   pub buffers : ℕ
   pub size : ℕ
   pub inserted : ℕ
   pub rows : List ℕ
   pub bytes : ℕ → List ℕ
-  pub counts : ℕ → ℕ
+  -- holder, page
+  pub counts : ℕ → ℕ → ℕ
   pub holds : ℕ → Found
   pub bad : ℕ → Bool
 
@@ -59,7 +73,7 @@ firstShelf m p at =
       inserted = at;
       rows = m .rows;
       bytes = λ g. block p g (m .store);
-      counts = λ g. 0;
+      counts = λ h g. 0;
       holds = λ b. missing;
       bad = λ g. badIn p (m .rows) (m .store) g (fileWith (m .rows) g);
     }
@@ -74,10 +88,13 @@ unfoldable pub noFile : Found → Bool
 noFile (found r) = false
 noFile missing = true
 
+-- a page is pinned, or has pins, while any holder's count isn't 0
+unfoldable pub pinsIn : (ℕ → ℕ → ℕ) → ℕ → Bool
+pinsIn counts g = any 64 (λ h. not (eqb (counts h g) 0))
+
 module _ (s : Shelf) where
-  -- a page is pinned, or has pins, while its count isn't 0
   unfoldable pub hasPins : ℕ → Bool
-  hasPins g = not (eqb (s .counts g) 0)
+  hasPins g = pinsIn (s .counts) g
 
   -- how many pages have pins
   unfoldable pub pinnedPages : ℕ
@@ -94,18 +111,23 @@ module _ (s : Shelf) where
   isBad (found g) = s .bad g
   isBad missing = false
 
-  -- 5 if the count is 262143; 6 if the count is 0 and N pages have pins
-  unfoldable pub countFull : Found → Bool
-  countFull (found g) = eqb (s .counts g) 262143
-  countFull missing = false
+  -- 5 if this holder's count is full; 6 if the page has no pins and N pages have
+  unfoldable pub countFull : ℕ → Found → Bool
+  countFull h (found g) = eqb (s .counts h g) 65535
+  countFull h missing = false
 
   unfoldable pub noBuffer : Found → Bool
   noBuffer (found g) = not (hasPins g) && eqb pinnedPages (s .buffers)
   noBuffer missing = false
 
-  -- 7, ≥ N; a number that holds none gives 8
-  unfoldable pub numberPlaces : ℕ → List Place → List Place
-  numberPlaces b later = place 7 (leb (s .buffers) b) ∷ place 8 (not (isFound (s .holds b))) ∷ later
+  -- 8, the number holds none, or this holder has no pin on the page that it holds
+  unfoldable pub noPin : ℕ → Found → Bool
+  noPin h (found g) = eqb (s .counts h g) 0
+  noPin h missing = true
+
+  -- 19, holder 64 or above; 7, ≥ N; 8
+  unfoldable pub numberPlaces : ℕ → ℕ → List Place → List Place
+  numberPlaces h b later = place 19 (leb 64 h) ∷ place 7 (leb (s .buffers) b) ∷ place 8 (noPin h (s .holds b)) ∷ later
 
   -- 12, position below the page's own
   unfoldable pub tooLow : ℕ → Found → Bool
@@ -128,21 +150,22 @@ module _ (s : Shelf) where
       let r = rowOf (s .rows) (n .file) in
       place 3 (noFile r) ∷ place 4 (noPage (n .block .0) r) ∷ place 17 (isBad (placeOf (s .rows) n)) ∷ later
 
-  unfoldable pub above : PageName → List Place
-  above n = pageFirst n (place 5 (countFull (placeOf (s .rows) n)) ∷ [])
+  unfoldable pub above : ℕ → PageName → List Place
+  above h n = place 19 (leb 64 h) ∷ pageFirst n (place 5 (countFull h (placeOf (s .rows) n)) ∷ [])
 
   unfoldable pub places : Call → List Place
-  places (Pin n) = above n ++ (place 6 (noBuffer (placeOf (s .rows) n)) ∷ [])
-  places (Unpin b) = numberPlaces b []
-  places (Read b from out) = numberPlaces b (place 9 (ltb (s .size) (from + length out)) ∷ [])
-  places (Write b from bytes at) =
-      numberPlaces b
+  places (Pin h n) = above h n ++ (place 6 (noBuffer (placeOf (s .rows) n)) ∷ [])
+  places (Unpin h b) = numberPlaces h b []
+  places (Read h b from out) = numberPlaces h b (place 9 (ltb (s .size) (from + length out)) ∷ [])
+  places (Write h b from bytes at) =
+      numberPlaces h b
       (place 9 (ltb (s .size) (from + length bytes) || ltb from 8)
       ∷ place 10 (eqb (length bytes) 0)
       ∷ place 11 (ltb (s .inserted) at)
       ∷ place 12 (tooLow at (s .holds b))
       ∷ [])
-  places (Flush b) = numberPlaces b []
+  places (Flush h b) = numberPlaces h b []
+  places (GiveBack h) = place 19 (leb 64 h) ∷ []
   places Checkpoint = []
   places (Peek n) = pageFirst n []
   places (Extend f) = let r = rowOf (s .rows) f in place 3 (noFile r) ∷ place 13 (noRoom r) ∷ []
@@ -156,7 +179,7 @@ module _ (s : Shelf) where
 
 -- ---- what an accepted call does
 -- the shelf with other counts and held pages, with other bytes, with other rows, with another position, with other bad blocks
-abbrev pub withPins : (ℕ → ℕ) → (ℕ → Found) → Shelf → Shelf
+abbrev pub withPins : (ℕ → ℕ → ℕ) → (ℕ → Found) → Shelf → Shelf
 withPins c h s =
     record {
       buffers = s .buffers;
@@ -221,16 +244,32 @@ withBad x s =
       bad = x;
     }
 
--- a pin that got buffer number b: count + 1, and b holds the page
-unfoldable pub pinnedAt : Shelf → ℕ → Found → Shelf
-pinnedAt s b (found g) = withPins (with g (s .counts g + 1) (s .counts)) (with b (found g) (s .holds)) s
-pinnedAt s b missing = s
+-- other pins of holder h on page g
+unfoldable pub countWith : ℕ → ℕ → ℕ → (ℕ → ℕ → ℕ) → ℕ → ℕ → ℕ
+countWith h g c counts = with h (with g c (counts h)) counts
 
--- unpin lowers; at 0 the number holds none
-unfoldable pub unpinnedAt : Shelf → ℕ → Found → Shelf
-unpinnedAt s b (found g) =
-    withPins (with g (s .counts g - 1) (s .counts)) (with b (cond (eqb (s .counts g) 1) missing (found g)) (s .holds)) s
-unpinnedAt s b missing = s
+-- a pin of holder h that got buffer number b: its count + 1, and b holds the page
+unfoldable pub pinnedAt : Shelf → ℕ → ℕ → Found → Shelf
+pinnedAt s h b (found g) = withPins (countWith h g (s .counts h g + 1) (s .counts)) (with b (found g) (s .holds)) s
+pinnedAt s h b missing = s
+
+-- a number holds its page while that has pins
+unfoldable pub stillHeld : (ℕ → ℕ → ℕ) → Found → Found
+stillHeld counts (found g) = cond (pinsIn counts g) (found g) missing
+stillHeld counts missing = missing
+
+-- unpin lowers this holder's count; where no holder has a pin left, the number holds none
+unfoldable pub unpinnedAt : Shelf → ℕ → ℕ → Found → Shelf
+unpinnedAt s h b (found g) =
+    let now = countWith h g (s .counts h g - 1) (s .counts) in
+    withPins now (with b (stillHeld now (found g)) (s .holds)) s
+unpinnedAt s h b missing = s
+
+-- give back: holder h has no pins; numbers whose pages have none then hold none
+unfoldable pub givenBack : Shelf → ℕ → Shelf
+givenBack s h =
+    let now = with h (λ g. 0) (s .counts) in
+    withPins now (λ b. stillHeld now (s .holds b)) s
 
 -- a page with a position and bytes written: the position, what stood between it and the bytes, the bytes, what stands behind them
 unfoldable pub writtenPage : ℕ → ℕ → List ℕ → List ℕ → List ℕ
@@ -256,11 +295,12 @@ droppedAt s missing = s
 
 -- the shelf after an accepted call; at a pin, b is the buffer number that the program answered
 unfoldable pub shelfAfter : Shelf → Call → ℕ → Shelf
-shelfAfter s (Pin n) b = pinnedAt s b (placeOf (s .rows) n)
-shelfAfter s (Unpin i) b = unpinnedAt s i (s .holds i)
-shelfAfter s (Read i from out) b = s
-shelfAfter s (Write i from bytes at) b = writtenAt s from bytes at (s .holds i)
-shelfAfter s (Flush i) b = s
+shelfAfter s (Pin h n) b = pinnedAt s h b (placeOf (s .rows) n)
+shelfAfter s (Unpin h i) b = unpinnedAt s h i (s .holds i)
+shelfAfter s (Read h i from out) b = s
+shelfAfter s (Write h i from bytes at) b = writtenAt s from bytes at (s .holds i)
+shelfAfter s (Flush h i) b = s
+shelfAfter s (GiveBack h) b = givenBack s h
 shelfAfter s Checkpoint b = s
 shelfAfter s (Peek n) b = s
 shelfAfter s (Extend f) b = extendedAt s (rowOf (s .rows) f)

@@ -1,6 +1,6 @@
 -- Demand 3: one claim about a whole list of calls after one accepted set-up, as the till program makes them. Each clause stands under
 -- the sentence that it is, of document 01 or of the demand.
-use Prim.Native.Nat.{ℕ, zero, suc, _+_, _^_, _≤_, _<_}
+use Prim.Native.Nat.{ℕ, zero, suc, _+_, _*_, _^_, _≤_, _<_}
 use mathlib.Core.Path.{_≡_}
 use mathlib.Core.Logic.{_≢_, _⊎_, _↔_}
 use mathlib.Core.Bool.{true, false, cond}
@@ -22,7 +22,22 @@ use Rattle.bufmodel.specs.Sizes.{SizedFor}
 use Rattle.bufmodel.specs.Books.{BooksSound}
 use Rattle.bufmodel.specs.Outcome.{Outcome, zeros, one, two}
 use Rattle.bufmodel.specs.Calls.{setUp, part}
-use Rattle.bufmodel.specs.Step.{Call, Pin, Unpin, Read, Write, Flush, Checkpoint, Peek, Extend, Drop, LogInserted, LogFlushed, step}
+use Rattle.bufmodel.specs.Step.{
+  Call,
+  Pin,
+  Unpin,
+  Read,
+  Write,
+  Flush,
+  GiveBack,
+  Checkpoint,
+  Peek,
+  Extend,
+  Drop,
+  LogInserted,
+  LogFlushed,
+  step,
+}
 use Rattle.bufmodel.specs.Lent.{Lent, Called, answerWords, opened, called}
 use Rattle.shelf.specs.Sums.{fails}
 use Rattle.shelf.specs.Shelf.{Shelf, firstOf, hasPins, pinnedPages, above, refuses}
@@ -46,13 +61,15 @@ pub record FitsLent (m : Lent) : Type 0 where
   pub chain : Signed (m .chain)
   pub rows : Below (2 ^ 32) (m .rows)
   pub store : Below (2 ^ 8) (m .store)
+  pub counts : Below (2 ^ 16) (m .counts)
 
 abbrev pub FitsCall : Call → Type 0
-FitsCall (Pin n) = Fits n
-FitsCall (Unpin b) = b < 2 ^ 64
-FitsCall (Read b from out) = (b < 2 ^ 64) × (from < 2 ^ 64) × Below (2 ^ 8) out
-FitsCall (Write b from bytes at) = (b < 2 ^ 64) × (from < 2 ^ 64) × Below (2 ^ 8) bytes × (at < 2 ^ 64)
-FitsCall (Flush b) = b < 2 ^ 64
+FitsCall (Pin h n) = (h < 2 ^ 64) × Fits n
+FitsCall (Unpin h b) = (h < 2 ^ 64) × (b < 2 ^ 64)
+FitsCall (Read h b from out) = (h < 2 ^ 64) × (b < 2 ^ 64) × (from < 2 ^ 64) × Below (2 ^ 8) out
+FitsCall (Write h b from bytes at) = (h < 2 ^ 64) × (b < 2 ^ 64) × (from < 2 ^ 64) × Below (2 ^ 8) bytes × (at < 2 ^ 64)
+FitsCall (Flush h b) = (h < 2 ^ 64) × (b < 2 ^ 64)
+FitsCall (GiveBack h) = h < 2 ^ 64
 FitsCall Checkpoint = Unit {0}
 FitsCall (Peek n) = Fits n
 FitsCall (Extend f) = FitsFile f
@@ -62,11 +79,12 @@ FitsCall (LogFlushed p) = p < 2 ^ 64
 
 -- ---- a read's out and a write's bytes are each call's own
 abbrev pub own : Call → List ℕ
-own (Pin n) = []
-own (Unpin b) = []
-own (Read b from out) = out
-own (Write b from bytes at) = bytes
-own (Flush b) = []
+own (Pin h n) = []
+own (Unpin h b) = []
+own (Read h b from out) = out
+own (Write h b from bytes at) = bytes
+own (Flush h b) = []
+own (GiveBack h) = []
 own Checkpoint = []
 own (Peek n) = []
 own (Extend f) = []
@@ -76,11 +94,12 @@ own (LogFlushed p) = []
 
 -- ---- the answer's parts, in the order named, in four words, unused ones 0; calls with no answer named answer only done
 abbrev pub Answers : Outcome → Call → Type 0
-Answers o (Pin n) = (b hit wrote probes : ℕ) × (o .answer ≡ b ∷ hit ∷ wrote ∷ probes ∷ [])
-Answers o (Unpin b) = o .answer ≡ zeros
-Answers o (Read b from out) = o .answer ≡ zeros
-Answers o (Write b from bytes at) = o .answer ≡ zeros
-Answers o (Flush b) = (count : ℕ) × (o .answer ≡ one count)
+Answers o (Pin h n) = (b hit wrote probes : ℕ) × (o .answer ≡ b ∷ hit ∷ wrote ∷ probes ∷ [])
+Answers o (Unpin h b) = o .answer ≡ zeros
+Answers o (Read h b from out) = o .answer ≡ zeros
+Answers o (Write h b from bytes at) = o .answer ≡ zeros
+Answers o (Flush h b) = (count : ℕ) × (o .answer ≡ one count)
+Answers o (GiveBack h) = o .answer ≡ zeros
 Answers o Checkpoint = (count : ℕ) × (o .answer ≡ one count)
 Answers o (Peek n) = (which offset : ℕ) × (o .answer ≡ two which offset)
 Answers o (Extend f) = (b : ℕ) × (o .answer ≡ one b)
@@ -98,13 +117,14 @@ module _ (s : Shelf) (o : Outcome) where
     pub fresh : hasPins s g ≡ false → s .holds (bufferIn (o .answer)) ≡ missing
 
   abbrev pub Shows : Call → Type 0
-  Shows (Pin n) = (g : ℕ) × (placeOf (s .rows) n ≡ found g) × PinRule g × (o .bytes ≡ [])
-  Shows (Unpin b) = o .bytes ≡ []
+  Shows (Pin h n) = (g : ℕ) × (placeOf (s .rows) n ≡ found g) × PinRule g × (o .bytes ≡ [])
+  Shows (Unpin h b) = o .bytes ≡ []
   -- the bytes that a read fills
-  Shows (Read b from out) =
+  Shows (Read h b from out) =
       (g : ℕ) × (s .holds b ≡ found g) × (bareFrom from (o .bytes) ≡ take (length out) (drop from (bare (s .bytes g))))
-  Shows (Write b from bytes at) = o .bytes ≡ bytes
-  Shows (Flush b) = o .bytes ≡ []
+  Shows (Write h b from bytes at) = o .bytes ≡ bytes
+  Shows (Flush h b) = o .bytes ≡ []
+  Shows (GiveBack h) = o .bytes ≡ []
   Shows Checkpoint = o .bytes ≡ []
   -- or a peek hands back
   Shows (Peek n) = (g : ℕ) × (placeOf (s .rows) n ≡ found g) × (bare (part o) ≡ bare (s .bytes g)) × (o .bytes ≡ [])
@@ -135,7 +155,7 @@ pub record Agrees (m : Memory) (l : Ledger) (c : Call) (o : Outcome) (l′ : Led
   -- the cap is the one given at set up
   pub cap : o .after .control .cap ≡ l′ .cap
   -- so 6 exactly when N pages have pins and the wanted one is not among them, at a pin that no place above the victim's refuses
-  pub six : (n : PageName) → c ≡ Pin n → firstOf (above (l .shelf) n) ≡ 0 → (g : ℕ) → placeOf (l .shelf .rows) n ≡ found g
+  pub six : (h : ℕ) (n : PageName) → c ≡ Pin h n → firstOf (above (l .shelf) h n) ≡ 0 → (g : ℕ) → placeOf (l .shelf .rows) n ≡ found g
       → (o .refusal ≡ 6) ↔ ((pinnedPages (l .shelf) ≡ l .shelf .buffers) × (hasPins (l .shelf) g ≡ false))
   -- flushed is the largest of the set-up's, accepted log flushed calls' and written-back pages' positions
   pub flushed : o .after .control .flushed ≡ l′ .flushed
@@ -150,6 +170,10 @@ pub record Agrees (m : Memory) (l : Ledger) (c : Call) (o : Outcome) (l′ : Led
       → bare (block (l .shelf .size) g (o .after .store)) ≡ bare (l′ .shelf .bytes g)
   pub held : (i g : ℕ) → i < buffers (o .after) → wordOf (o .after) i ≢ 0 → placeOf (o .after .rows) (nameOf (o .after) i) ≡ found g
       → bare (pageOf (o .after) i) ≡ bare (l′ .shelf .bytes g)
+  -- and each holder's count of that buffer is the shelf's of the page
+  pub counts : (h i g : ℕ) → h < 64 → i < buffers (o .after) → wordOf (o .after) i ≢ 0
+      → placeOf (o .after .rows) (nameOf (o .after) i) ≡ found g
+      → getD (o .after .counts) (i * 64 + h) 0 ≡ l′ .shelf .counts h g
   -- a block of the store below its file's block count fails its checksum exactly if the shelf counts it as bad
   pub sums : (n : PageName) (g : ℕ) → placeOf (o .after .rows) n ≡ found g
       → fails (n .block .0) (block (l .shelf .size) g (o .after .store)) ≡ l′ .shelf .bad g
@@ -176,7 +200,7 @@ pub record Left (m : Lent) (r : Called) (l′ : Ledger) : Type 0 where
       r .lent .control ≡ l′ .shelf .size ∷ k .hand ∷ topWord (k .top) ∷ l′ .shelf .inserted ∷ l′ .flushed ∷ l′ .cap ∷ []
 
 -- ---- set up, before the list
--- the books of n empty buffers: free list 0, 1, .. n − 1; hand 0; all chains empty
+-- the books of n empty buffers: free list 0, 1, .. n − 1; hand 0; all chains empty; all counts 0
 abbrev pub freshMarks : ℕ → Marks
 freshMarks n =
     record {
@@ -185,6 +209,7 @@ freshMarks n =
       link = λ i. cond (eqb (suc i) n) listEnd (pos (suc i));
       chain = λ i. listEnd;
       head = λ b. listEnd;
+      count = λ i h. 0;
       hand = 0;
       top = pos 0;
     }
