@@ -27,7 +27,8 @@ returns : tie.Need-returns
 unfolding heldWord
 returns c =
     let s = c .before .before .before .before .before .before .before .before .before in
-    let raised = c .before .before .before .pin-more .ensures ∙ ap (pinMore (s .args .cap)) (c .before .before .before .before .before .state-of .ensures) in
+    let raised = c .before .before .before .pin-more .ensures ∙ ap (pinMore (s .args .cap)) (c .before .before .before .before
+    .before .state-of .ensures) in
     rw (eq-eqb (s .args .count) 0 (c .before .before .before .before .before .before .before .if1 .taken))
     (c .before .before .put-state .ensures ∙ ap (set (now (s .args .states)) (s .args .buffer .0)) raised)
 

@@ -50,16 +50,18 @@ same-length-3 c = search needs
 returns-2 : tie.Need-returns-2
 unfolding heldAt heldWords heldCounts
 returns-2 c =
-    let at-count-of = c .before .before .before .before .before .before .before .before .before .before in
-    let s = c .before .before .before .before .before .before .before .before .before .before .before .before .before .before in
+    let at-count-first = c .before .before .before .before .before .before in
+    let at-if1 = at-count-first .before .before .before in
+    let at-count-of = at-if1 .before in
+    let s = at-count-of .before .before .before .before in
     let b = s .args .buffer .0 in
     let words = now (s .args .states) in
     let counts = now (s .args .counts) in
     let read = at-count-of .count-of .ensures in
-    let e = ne-eqb (countAt counts b (s .args .holder .0)) maxCount (λ z. c .before .before .before .before .before .before .before .before .before .if1 .left (read ∙ z)) in
+    let e = ne-eqb (countAt counts b (s .args .holder .0)) maxCount (λ z. at-if1 .if1 .left (read ∙ z)) in
     let word = ap (λ x. set words b (heldWord (s .args .control .cap) x (getD words b 0))) read in
     let count = ap (λ x. setCount counts b (s .args .holder .0) (x + 1)) read in
-    (refl, (rw e, (rw e (c .before .before .before .before .before .before .count-first .ensures ∙ word), rw e (c .before .before .put-count .ensures ∙ count))))
+    (refl, (rw e, (rw e (at-count-first .count-first .ensures ∙ word), rw e (c .before .before .put-count .ensures ∙ count))))
 
 pub pin-held-spec : {M : Type 1} → statement M
 pin-held-spec =

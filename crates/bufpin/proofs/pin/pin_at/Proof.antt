@@ -87,7 +87,8 @@ returns c =
 pin-new-requires : tie.Need-pin-new-requires
 pin-new-requires c κs =
     let at-passes-block = c .before .before .before .before .before .before .before .before .before in
-    let s = at-passes-block .before .before .before .before .before .before .before .before .before .before .before .before .before .before in
+    let s = at-passes-block .before .before .before .before .before .before .before .before .before .before .before .before .before
+    .before in
     (s .pre .0, s .pre .1, name-at (now (s .args .rows)) (s .args .name) [] (s .pre .2) .0, s .pre .3)
 
 same-length-5 : tie.Need-same-length-5

@@ -103,7 +103,8 @@ load-page-requires c κs =
 
 put-count-requires : tie.Need-put-count-requires
 put-count-requires c κs =
-    let at-known-told = c .before .before .before .before .before .before .before .before .before .before .before .before .before .before .before .before .before .before in
+    let at-known-told = c .before .before .before .before .before .before .before .before .before .before .before .before .before .before
+    .before .before .before .before in
     let at-i = at-known-told .before in
     let s = at-i .before .before .before .before .before .before .before .before .before .before in
     let i = at-i .i .given .0 .0 in

@@ -21,18 +21,22 @@ whole c =
 
 -- it passes the places 1 and 2
 good : (c : tie.Else1)
-    → let s = c .before .before .before .before .before .before .before .before .before .before .before .before .before .before .before .before in
+    → let s = c .before .before .before .before .before .before .before .before .before .before .before .before .before .before .before
+    .before in
     Good (whole s)
 good c =
-    let s = c .before .before .before .before .before .before .before .before .before .before .before .before .before .before .before .before in
+    let s = c .before .before .before .before .before .before .before .before .before .before .before .before .before .before .before
+    .before in
     passed-good (whole s) (c .before .refusal .ensures) (c .if1 .left)
 
 -- and 19
 few : (c : tie.Else2)
-    → let s = c .before .before .before .before .before .before .before .before .before .before .before .before .before .before .before .before .before .before in
+    → let s = c .before .before .before .before .before .before .before .before .before .before .before .before .before .before .before
+    .before .before .before in
     s .args .holder .0 < maxHolders
 few c =
-    let s = c .before .before .before .before .before .before .before .before .before .before .before .before .before .before .before .before .before .before in
+    let s = c .before .before .before .before .before .before .before .before .before .before .before .before .before .before .before
+    .before .before .before in
     ltb-true (s .args .holder .0) maxHolders (sym (c .before .is-holder .ensures) ∙ not-false _ (c .if2 .left))
 
 refusal-requires : tie.Need-refusal-requires
@@ -68,7 +72,8 @@ same-length-8 c = search needs
 returns : tie.Need-returns
 returns c =
     let at-if1 = c .before in
-    let s = at-if1 .before .before .before .before .before .before .before .before .before .before .before .before .before .before .before .before in
+    let s = at-if1 .before .before .before .before .before .before .before .before .before .before .before .before .before .before .before
+    .before in
     rw (c .pin-refused .ensures)
     (promised (pin-answers _ _ _)
     (pin-early (whole s) (s .args .holder .0) (s .args .name) (at-if1 .if1 .taken) (at-if1 .before .refusal .ensures)))
@@ -106,7 +111,8 @@ same-length-16 c = search needs
 returns-2 : tie.Need-returns-2
 returns-2 c =
     let at-if1 = c .before .before .before in
-    let s = at-if1 .before .before .before .before .before .before .before .before .before .before .before .before .before .before .before .before in
+    let s = at-if1 .before .before .before .before .before .before .before .before .before .before .before .before .before .before .before
+    .before in
     let stranger = sym (c .before .before .is-holder .ensures) ∙ not-true _ (c .before .if2 .taken) in
     rw (c .pin-refused2 .ensures)
     (promised (pin-answers _ _ _) (pin-stranger (whole s) (s .args .holder .0) (s .args .name) (good at-if1) stranger))
@@ -114,7 +120,8 @@ returns-2 c =
 seek-requires : tie.Need-seek-requires
 seek-requires c κs =
     let at-if1 = c .before .before in
-    let s = at-if1 .before .before .before .before .before .before .before .before .before .before .before .before .before .before .before .before in
+    let s = at-if1 .before .before .before .before .before .before .before .before .before .before .before .before .before .before .before
+    .before in
     rows-say (now (s .args .rows)) .shown (good at-if1 .sizes .rows)
 
 enum-known-sought : tie.Need-enum-known-sought
@@ -128,12 +135,14 @@ enum-known-sought-2 c = search needs
 
 pin-at-requires : tie.Need-pin-at-requires
 pin-at-requires c κs =
-    let at-if2 = c .before .before .before .before .before .before .before .before .before .before .before .before in
+    let at-sought = c .before .before .before .before .before .before .before .before .before in
+    let at-if2 = at-sought .before .before .before in
     let at-if1 = at-if2 .before .before in
-    let s = at-if1 .before .before .before .before .before .before .before .before .before .before .before .before .before .before .before .before in
-    let m = whole s in
+    let s = at-if1 .before .before .before .before .before .before .before .before .before .before .before .before .before .before .before
+    .before in
     let k = good at-if1 in
-    (good-sized m k, good-sound m k, sym (c .before .before .before .before .before .before .before .before .before .before .before .seek .ensures) ∙ c .before .before .before .before .before .before .before .before .before .sought2 .given .1, few at-if2)
+    let at = sym (at-sought .before .before .seek .ensures) ∙ at-sought .sought2 .given .1 in
+    (good-sized (whole s) k, good-sound (whole s) k, at, few at-if2)
 
 same-length-17 : tie.Need-same-length-17
 same-length-17 c = search needs
@@ -163,7 +172,8 @@ returns-3 : tie.Need-returns-3
 returns-3 c =
     let at-if2 = c .before .before .before .before .before in
     let at-if1 = at-if2 .before .before in
-    let s = at-if1 .before .before .before .before .before .before .before .before .before .before .before .before .before .before .before .before in
+    let s = at-if1 .before .before .before .before .before .before .before .before .before .before .before .before .before .before .before
+    .before in
     let nameless = sym (c .before .before .before .before .seek .ensures) ∙ c .before .before .sought .given .1 in
     rw (c .pin-refused3 .ensures)
     (promised (pin-answers _ _ _)
@@ -195,7 +205,8 @@ same-length-32 c = search needs
 
 returns-4 : tie.Need-returns-4
 returns-4 c =
-    promised (pin-answers _ _ _) (c .before .before .before .before .before .before .before .before .before .before .before .before .before .pin-at .ensures)
+    let at-pin-at = c .before .before .before .before .before .before .before .before .before .before .before .before .before in
+    promised (pin-answers _ _ _) (at-pin-at .pin-at .ensures)
 
 pub pin-page-spec : {M : Type 1} → statement M
 pin-page-spec =

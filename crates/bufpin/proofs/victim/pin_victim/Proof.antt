@@ -48,7 +48,8 @@ release-buffer-requires c κs =
 
 load-page-requires : tie.Need-load-page-requires
 load-page-requires c κs =
-    let at-release-buffer = c .before .before .before .before .before .before .before .before .before .before .before .before .before .before in
+    let at-release-buffer = c .before .before .before .before .before .before .before .before .before .before .before .before .before
+    .before in
     let at-write-back = at-release-buffer .before .before .before .before .before .before .before .before .before .before in
     let s = at-write-back .before .before .before .before .before .before .before .before .before .before .before .before .before .before in
     let i = s .args .victim .0 in
@@ -61,7 +62,8 @@ load-page-requires c κs =
 put-count-requires : tie.Need-put-count-requires
 put-count-requires c κs =
     let at-load-page = c .before .before .before .before .before .before .before .before .before .before in
-    let at-write-back = at-load-page .before .before .before .before .before .before .before .before .before .before .before .before .before .before .before .before .before .before .before .before .before .before .before .before .before in
+    let at-write-back = at-load-page .before .before .before .before .before .before .before .before .before .before .before .before .before
+    .before .before .before .before .before .before .before .before .before .before .before .before in
     let s = at-write-back .before .before .before .before .before .before .before .before .before .before .before .before .before .before in
     let t = taken s in
     omega (arith, t .good .sizes .counts, t .below, s .pre .6)
@@ -69,7 +71,8 @@ put-count-requires c κs =
 same-length : tie.Need-same-length
 same-length c =
     let at-load-page = c .before .before .before .before .before .before .before .before .before .before .before .before .before in
-    let at-release-buffer = at-load-page .before .before .before .before .before .before .before .before .before .before .before .before .before .before .before in
+    let at-release-buffer = at-load-page .before .before .before .before .before .before .before .before .before .before .before .before
+    .before .before .before in
     let at-write-back = at-release-buffer .before .before .before .before .before .before .before .before .before .before in
     omega (arith, at-load-page .load-page .kept, at-release-buffer .release-buffer .kept, at-write-back .write-back .kept)
 
@@ -91,7 +94,8 @@ same-length-6 c = search needs
 same-length-7 : tie.Need-same-length-7
 same-length-7 c =
     let at-load-page = c .before .before .before .before .before .before .before .before .before .before .before .before .before in
-    let at-write-back = at-load-page .before .before .before .before .before .before .before .before .before .before .before .before .before .before .before .before .before .before .before .before .before .before .before .before .before in
+    let at-write-back = at-load-page .before .before .before .before .before .before .before .before .before .before .before .before .before
+    .before .before .before .before .before .before .before .before .before .before .before .before in
     omega (arith, at-write-back .write-back .kept)
 
 same-length-8 : tie.Need-same-length-8
@@ -100,7 +104,8 @@ same-length-8 c = search needs
 returns : tie.Need-returns
 returns c =
     let at-load-page = c .before .before .before .before .before .before .before .before .before .before .before .before .before in
-    let at-release-buffer = at-load-page .before .before .before .before .before .before .before .before .before .before .before .before .before .before .before in
+    let at-release-buffer = at-load-page .before .before .before .before .before .before .before .before .before .before .before .before
+    .before .before .before in
     let at-write-back = at-release-buffer .before .before .before .before .before .before .before .before .before .before in
     let at-is-dirty = at-write-back .before .before .before .before .before in
     let s = at-is-dirty .before .before .before .before .before .before .before .before .before in
