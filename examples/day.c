@@ -48,13 +48,15 @@ static void check_top(const struct shop *shop, uint32_t block, const uint8_t top
 static void read_page(struct shop *shop, const char *who, uint32_t block, struct line *lines, struct bufpool_pinned *pinned)
 {
     uint8_t top[LINE_BYTES];
+    const struct bufpool_holder reader = bufpool_holder_of(READER);
+    const uint64_t length = shop->page_lines * sizeof *lines;
     char call[32];
     snprintf(call, sizeof call, "pin of page %u", block);
-    must(shop, call, shop_pin(shop, who, bufpool_name_of(receipts_file, block), pinned));
-    must(shop, "read", bufpool_read_buffer(&shop->pool, pinned->buffer, 0, top, sizeof top));
-    must(shop, "read", bufpool_read_buffer(&shop->pool, pinned->buffer, LINE_BYTES, (uint8_t *)lines, shop->page_lines * sizeof *lines));
+    must(shop, call, shop_pin(shop, reader, who, bufpool_name_of(receipts_file, block), pinned));
+    must(shop, "read", bufpool_read_buffer(&shop->pool, reader, pinned->buffer, 0, top, sizeof top));
+    must(shop, "read", bufpool_read_buffer(&shop->pool, reader, pinned->buffer, LINE_BYTES, (uint8_t *)lines, length));
     check_top(shop, block, top, lines);
-    must(shop, "unpin", bufpool_unpin_buffer(&shop->pool, pinned->buffer));
+    must(shop, "unpin", bufpool_unpin_buffer(&shop->pool, reader, pinned->buffer));
     trail_note(shop, "%s gives page %u back", who, block);
 }
 

@@ -16,6 +16,11 @@ static void say_pinned(const struct till *till, uint32_t block, const struct buf
     printf("%s\n", pinned->wrote ? "; the page that was there is written back" : "");
 }
 
+static struct bufpool_holder holder_of(const struct till *till)
+{
+    return bufpool_holder_of(till->number);
+}
+
 /* The buffer of a page, pinned for this till's open receipt. */
 static uint32_t hold(struct shop *shop, struct till *till, uint32_t block, struct bufpool_buffer *buffer)
 {
@@ -30,7 +35,7 @@ static uint32_t hold(struct shop *shop, struct till *till, uint32_t block, struc
     }
     if (k == HELD_PAGES) stop("till %u: a receipt on more than %d pages", till->number, HELD_PAGES);
     snprintf(who, sizeof who, "till %u", till->number);
-    refusal = shop_pin(shop, who, bufpool_name_of(receipts_file, block), &pinned);
+    refusal = shop_pin(shop, holder_of(till), who, bufpool_name_of(receipts_file, block), &pinned);
     if (refusal == BUFPOOL_ALL_PINNED) return refusal;
     must(shop, "pin", refusal);
     say_pinned(till, block, &pinned);
@@ -48,9 +53,15 @@ static uint64_t log_line(struct shop *shop)
     return position;
 }
 
-static void write_line(struct shop *shop, struct bufpool_buffer buffer, uint64_t from, const struct line *line, uint64_t position)
+/* Where a till writes: a buffer that it has pinned, in its own name. */
+struct place {
+    struct bufpool_holder holder;
+    struct bufpool_buffer buffer;
+};
+
+static void write_bytes(struct shop *shop, struct place at, uint64_t from, const void *bytes, size_t length, uint64_t position)
 {
-    must(shop, "write", bufpool_write_buffer(&shop->pool, buffer, from, (const uint8_t *)line, sizeof *line, position));
+    must(shop, "write", bufpool_write_buffer(&shop->pool, at.holder, at.buffer, from, (const uint8_t *)bytes, length, position));
 }
 
 void sale_page_header(const struct shop *shop, uint8_t rest[BUFPOOL_HEADER_REST])
@@ -60,12 +71,12 @@ void sale_page_header(const struct shop *shop, uint8_t rest[BUFPOOL_HEADER_REST]
 }
 
 /* Line and header are one record of the log, and so one position. The page is pinned: neither comes to the card without the other. */
-static void write_first_line(struct shop *shop, struct bufpool_buffer buffer, const struct line *line, uint64_t position)
+static void write_first_line(struct shop *shop, struct place at, const struct line *line, uint64_t position)
 {
     uint8_t rest[BUFPOOL_HEADER_REST];
     sale_page_header(shop, rest);
-    must(shop, "write", bufpool_write_buffer(&shop->pool, buffer, BUFPOOL_POSITION_BYTES, rest, sizeof rest, position));
-    write_line(shop, buffer, LINE_BYTES, line, position);
+    write_bytes(shop, at, BUFPOOL_POSITION_BYTES, rest, sizeof rest, position);
+    write_bytes(shop, at, LINE_BYTES, line, sizeof *line, position);
 }
 
 static struct line line_of(uint32_t till, uint32_t receipt, const struct product *product)
@@ -91,11 +102,11 @@ static void new_page(struct shop *shop)
 
 uint32_t sale_press(struct shop *shop, struct till *till, const struct product *product)
 {
-    struct bufpool_buffer buffer;
+    struct place at = {holder_of(till), {BUFPOOL_BUFFER_NONE}};
     uint64_t position;
     uint32_t refusal;
     if (shop->last_lines == shop->page_lines) new_page(shop);
-    refusal = hold(shop, till, receipts_blocks(shop) - 1, &buffer);
+    refusal = hold(shop, till, receipts_blocks(shop) - 1, &at.buffer);
     if (refusal != BUFPOOL_DONE) return refusal;
     if (till->receipt == 0) {
         till->receipt = ++shop->receipts;
@@ -106,9 +117,9 @@ uint32_t sale_press(struct shop *shop, struct till *till, const struct product *
     till->pence += product->pence;
     position = log_line(shop);
     if (shop->last_lines == 1) {
-        write_first_line(shop, buffer, &till->last, position);
+        write_first_line(shop, at, &till->last, position);
     } else {
-        write_line(shop, buffer, till->last_from, &till->last, position);
+        write_bytes(shop, at, till->last_from, &till->last, sizeof till->last, position);
     }
     trail_note(shop, "till %u writes a line on page %u", till->number, receipts_blocks(shop) - 1);
     return BUFPOOL_DONE;
@@ -117,11 +128,14 @@ uint32_t sale_press(struct shop *shop, struct till *till, const struct product *
 void sale_void(struct shop *shop, struct till *till)
 {
     const struct held *held;
+    struct place at;
     if (till->held_pages == 0 || till->last.kind != LINE_SOLD) stop("till %u: there is no line to void", till->number);
     held = &till->held[till->held_pages - 1]; /* the line is on the page that the till pinned last */
     till->last.kind = LINE_VOID;
     till->pence -= till->last.pence;
-    write_line(shop, held->buffer, till->last_from, &till->last, log_line(shop));
+    at.holder = holder_of(till);
+    at.buffer = held->buffer;
+    write_bytes(shop, at, till->last_from, &till->last, sizeof till->last, log_line(shop));
     trail_note(shop, "till %u voids a line on page %u", till->number, held->block);
 }
 
@@ -133,10 +147,10 @@ void sale_pay(struct shop *shop, struct till *till, int by_card)
     for (k = 0; k < till->held_pages; k++) {
         const struct held *held = &till->held[k];
         if (by_card) {
-            must(shop, "flush", bufpool_flush_buffer(&shop->pool, held->buffer, &written));
+            must(shop, "flush", bufpool_flush_buffer(&shop->pool, holder_of(till), held->buffer, &written));
             trail_note(shop, "till %u flushes page %u", till->number, held->block);
         }
-        must(shop, "unpin", bufpool_unpin_buffer(&shop->pool, held->buffer));
+        must(shop, "unpin", bufpool_unpin_buffer(&shop->pool, holder_of(till), held->buffer));
         trail_note(shop, "till %u gives page %u back", till->number, held->block);
     }
     if (by_card) card_settle(shop);
@@ -144,19 +158,35 @@ void sale_pay(struct shop *shop, struct till *till, int by_card)
     till->receipt = 0;
 }
 
-void sale_practice(struct shop *shop, const struct product *product)
+/* Pins a new page of practice and writes a line to it. There it ends: nothing is unpinned. */
+static void begin_practice(struct shop *shop, const struct product *product)
 {
+    struct place at = {bufpool_holder_of(CLASS_TILL), {BUFPOOL_BUFFER_NONE}};
+    struct line line = line_of(CLASS_TILL, 0, product);
     struct bufpool_pinned pinned;
-    struct line line = line_of(1, 0, product);
+    char who[16];
     uint32_t block;
     must(shop, "extend", bufpool_extend_file(&shop->pool, practice_file, &block));
     trail_note(shop, "practice gets page %u", block);
-    must(shop, "pin", shop_pin(shop, "practice", bufpool_name_of(practice_file, block), &pinned));
-    write_first_line(shop, pinned.buffer, &line, log_line(shop));
-    trail_note(shop, "practice writes a line on page %u", block);
-    must(shop, "unpin", bufpool_unpin_buffer(&shop->pool, pinned.buffer));
-    trail_note(shop, "practice gives page %u back", block);
+    snprintf(who, sizeof who, "till %u", CLASS_TILL);
+    must(shop, "pin", shop_pin(shop, at.holder, who, bufpool_name_of(practice_file, block), &pinned));
+    at.buffer = pinned.buffer;
+    write_first_line(shop, at, &line, log_line(shop));
+    trail_note(shop, "till %u writes a line on page %u of practice", CLASS_TILL, block);
+    printf("practice: till %u dies in the midst of a receipt for the class\n", CLASS_TILL);
+}
+
+void sale_practice(struct shop *shop, const struct product *product)
+{
+    uint32_t refusal;
+    begin_practice(shop, product);
+    refusal = bufpool_drop_file(&shop->pool, practice_file);
+    trail_call(shop, "till 1 drops practice", refusal);
+    if (refusal != BUFPOOL_FILE_PINNED) stop("the page of a till that died is not kept: the drop gives %u", refusal);
+    printf("practice: till 1 drops it: refused, %u: %s\n", refusal, bufpool_refusal_words(refusal));
+    must(shop, "give back", bufpool_give_back_pins(&shop->pool, bufpool_holder_of(CLASS_TILL)));
+    trail_note(shop, "till 1 gives back what till %u had", CLASS_TILL);
     must(shop, "drop", bufpool_drop_file(&shop->pool, practice_file));
     trail_note(shop, "practice is dropped");
-    printf("practice: a receipt for the class, dropped\n");
+    printf("practice: till 1 gives back what till %u had, and drops it\n", CLASS_TILL);
 }

@@ -59,7 +59,8 @@ void sale_void(struct shop *shop, struct till *till);
 /* The receipt is closed and its pages are given back. A payment by bank card waits until they are on the shop's card. */
 void sale_pay(struct shop *shop, struct till *till, int by_card);
 
-/* A receipt for the class, in a file that is dropped: no trace of it is in the day. */
+/* A receipt for the class, in a file that is dropped: no trace of it is in the day. The class's till dies in the midst of it. Its pin keeps
+   the page, and the drop is refused with 14, until another till gives back everything that it has. */
 void sale_practice(struct shop *shop, const struct product *product);
 
 #endif

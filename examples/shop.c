@@ -177,11 +177,12 @@ void shop_force_log(struct shop *shop)
     trail_note(shop, "the log is on the card up to %llu", (unsigned long long)inserted);
 }
 
-uint32_t shop_pin(struct shop *shop, const char *who, struct bufpool_name name, struct bufpool_pinned *pinned)
+uint32_t shop_pin(struct shop *shop, struct bufpool_holder holder, const char *who, struct bufpool_name name,
+                  struct bufpool_pinned *pinned)
 {
     uint32_t refusal;
     if (!bufpool_has_free(&shop->pool)) shop_force_log(shop);
-    refusal = bufpool_pin_page(&shop->pool, name, pinned);
+    refusal = bufpool_pin_page(&shop->pool, holder, name, pinned);
     trail_pin(shop, who, name, refusal, pinned);
     return refusal;
 }

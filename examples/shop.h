@@ -13,6 +13,9 @@
 
 enum { FILES = 2, TILLS = 4 };
 
+/* Who has pins: a till as the holder of its own number; the class's, which is no till of the morning; and the shop where it reads. */
+enum { CLASS_TILL = TILLS + 1, READER = 0 };
+
 /* The shop's notes: the card's first block. */
 struct card {
     char mark[8];
@@ -57,7 +60,8 @@ void shop_start(struct shop *shop, int fd, const struct sizes *sizes);
 void shop_force_log(struct shop *shop);
 
 /* The log first, if a page may have to make room. Results in 0 or the number of the refusal. */
-uint32_t shop_pin(struct shop *shop, const char *who, struct bufpool_name name, struct bufpool_pinned *pinned);
+uint32_t shop_pin(struct shop *shop, struct bufpool_holder holder, const char *who, struct bufpool_name name,
+                  struct bufpool_pinned *pinned);
 
 /* The log first, then every dirty page. */
 void shop_checkpoint(struct shop *shop);

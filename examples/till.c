@@ -1,4 +1,5 @@
-/* A bakery's training morning: four tills over one pool, a checkpoint, and a second start that reads the day back from the card.
+/* A bakery's training morning: four tills over one pool, a checkpoint, and a second start that reads the day back from the card. Before it
+   the class's till dies with a page pinned, and another gives back what it had.
 
    Takeaway food that is sold cold has no tax in it, hot food has 20 % (as in the United Kingdom). At till 1 somebody learns: a pie
    that is warmed is pressed as cold, made void, and pressed as hot. The others sell bread, with lines on the same pages. With --mornings

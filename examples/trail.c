@@ -21,14 +21,19 @@ static void put(struct shop *shop, const struct bufpool_event *event)
 
 void trail_note(struct shop *shop, const char *format, ...)
 {
-    struct bufpool_event event;
     char text[BUFPOOL_EVENT_TEXT + 1];
     va_list rest;
-    if (shop->trail == NULL) return;
     va_start(rest, format);
     vsnprintf(text, sizeof text, format, rest);
     va_end(rest);
-    event = bufpool_event_of_call(text, BUFPOOL_DONE);
+    trail_call(shop, text, BUFPOOL_DONE);
+}
+
+void trail_call(struct shop *shop, const char *text, uint32_t refusal)
+{
+    struct bufpool_event event;
+    if (shop->trail == NULL) return;
+    event = bufpool_event_of_call(text, refusal);
     put(shop, &event);
 }
 

@@ -6,6 +6,7 @@
 #define plain_read bufpool_read
 #define plain_write bufpool_write
 #define plain_flush bufpool_flush
+#define plain_give_back bufpool_give_back
 #define plain_checkpoint bufpool_checkpoint
 #define plain_peek bufpool_peek
 #define plain_extend bufpool_extend

@@ -1,6 +1,6 @@
 /* A page pool over lent memory, for programs in C and C++. Link with libbufpool.a (x86-64 Linux).
 
-   struct bufpool holds the lent memory; a helper for each of the twelve calls takes it, and the call's answer apart. A helper results in
+   struct bufpool holds the lent memory; a helper for each of the thirteen calls takes it, and the call's answer apart. A helper results in
    0, or in the number of a refusal: then nothing has changed, and what it hands back is marked as none. docs/C-API.md has a program. */
 #ifndef BUFPOOL_H
 #define BUFPOOL_H
@@ -15,7 +15,7 @@ extern "C" {
 
 #define BUFPOOL_INLINE BUFPOOL_RESULT static inline
 
-/* The lent memory in one place: nine slices, each a pointer and its number of elements. */
+/* The lent memory in one place: ten slices, each a pointer and its number of elements. */
 struct bufpool {
     uint64_t *control;
     uint64_t control_len;
@@ -35,11 +35,18 @@ struct bufpool {
     uint64_t rows_len;
     uint8_t *store;
     uint64_t store_len;
+    uint16_t *counts;
+    uint64_t counts_len;
 };
 
 /* A type of its own, so that a block number is not taken for a buffer number. */
 struct bufpool_buffer {
     uint64_t number;
+};
+
+/* Who has a pin: a till, a program, a part of one. A type of its own too, so that a buffer number is not taken for a holder's. */
+struct bufpool_holder {
+    uint64_t number; /* 0 to 63 */
 };
 
 struct bufpool_file {
@@ -72,18 +79,24 @@ static inline void bufpool_meet_interface(void)
     (void)symbol;
 }
 
-/* The first eighteen arguments of each call: m points to a struct bufpool. */
+/* The first twenty arguments of each call: m points to a struct bufpool. */
 #define BUFPOOL_LENT(m)                                                                                                       \
     (bufpool_meet_interface(), (m)->control), (m)->control_len, (m)->states, (m)->states_len, (m)->names, (m)->names_len,    \
         (m)->pool, (m)->pool_len, (m)->free, (m)->free_len, (m)->heads, (m)->heads_len, (m)->chain, (m)->chain_len, (m)->rows, \
-        (m)->rows_len, (m)->store, (m)->store_len
+        (m)->rows_len, (m)->store, (m)->store_len, (m)->counts, (m)->counts_len
 
-/* ---- Names and file rows ---- */
+/* ---- Names, holders and file rows ---- */
 
 BUFPOOL_INLINE struct bufpool_name bufpool_name_of(struct bufpool_file file, uint32_t block)
 {
     struct bufpool_name name = {file, block};
     return name;
+}
+
+BUFPOOL_INLINE struct bufpool_holder bufpool_holder_of(uint64_t number)
+{
+    struct bufpool_holder holder = {number};
+    return holder;
 }
 
 static inline void bufpool_fill_row(uint32_t *row, struct bufpool_file file, uint32_t blocks, uint32_t capacity)
@@ -110,10 +123,11 @@ BUFPOOL_INLINE const uint32_t *bufpool_row_of(const struct bufpool *m, struct bu
 
 /* ---- Lending memory ---- */
 
-/* The bytes of control, states, names, pool, free, heads and chain together, as a constant for #if and for arrays: as
+/* The bytes of all slices but rows and store together, as a constant for #if and for arrays: as
    uint64_t memory[(BUFPOOL_BYTES(..) + 7) / 8] it begins at a multiple of 8. */
-#define BUFPOOL_BYTES(buffers, buckets, page_size) \
-    ((buffers) * (page_size) + 8 * BUFPOOL_CONTROL_WORDS + 4 * ((BUFPOOL_NAME_WORDS + 3) * (buffers) + (buckets)))
+#define BUFPOOL_BYTES(buffers, buckets, page_size)                                                                \
+    ((buffers) * (page_size) + 8 * BUFPOOL_CONTROL_WORDS + 4 * ((BUFPOOL_NAME_WORDS + 3) * (buffers) + (buckets)) \
+     + 2 * BUFPOOL_MAX_HOLDERS * (buffers))
 
 /* The same for sizes that are known later; 0 for sizes that no pool has. */
 BUFPOOL_INLINE uint64_t bufpool_bytes(uint64_t buffers, uint64_t buckets, uint64_t page_size)
@@ -135,11 +149,13 @@ static inline void bufpool_fit(struct bufpool *m, uint64_t buffers, uint64_t buc
     m->heads_len = buckets;
     m->rows_len = BUFPOOL_ROW_WORDS * files;
     m->store_len = blocks * page_size;
+    m->counts_len = BUFPOOL_MAX_HOLDERS * buffers;
 }
 
 /* Cuts one piece of memory into the slices, and sets every length; the rows are filled before. The pages come first, so that they lie as
-   the memory does. The store, of store_len bytes, is for the caller to put in. Refuses with 1, and changes nothing, if memory or rows is
-   a null pointer, if the memory does not begin at a multiple of 8 or has fewer bytes than bufpool_bytes says, or at more than 64 files. */
+   the memory does; then elements of 8 bytes, of 4 and of 2, so that each slice is aligned. The store, of store_len bytes, is for the
+   caller to put in. Refuses with 1, and changes nothing, if memory or rows is a null pointer, if the memory does not begin at a multiple
+   of 8 or has fewer bytes than bufpool_bytes says, or at more than 64 files. */
 BUFPOOL_INLINE uint32_t bufpool_lend(struct bufpool *m, void *memory, uint64_t memory_len, uint64_t buffers, uint64_t buckets,
                                      uint64_t page_size, uint32_t *rows, uint64_t files)
 {
@@ -155,6 +171,7 @@ BUFPOOL_INLINE uint32_t bufpool_lend(struct bufpool *m, void *memory, uint64_t m
     m->free = (int32_t *)(void *)(m->names + m->names_len);
     m->heads = m->free + m->free_len;
     m->chain = m->heads + m->heads_len;
+    m->counts = (uint16_t *)(void *)(m->chain + m->chain_len);
     m->store = NULL;
     return BUFPOOL_DONE;
 }
@@ -172,7 +189,13 @@ BUFPOOL_INLINE int bufpool_has_free(const struct bufpool *m)
     return m->control[BUFPOOL_CONTROL_AT_FREE_TOP] != BUFPOOL_BUFFER_NONE;
 }
 
-/* The parts of a state word. An empty buffer's is 0; any other has flags. */
+/* How many pins a holder has on a buffer: its private count. The holder is below 64, the buffer below N. */
+BUFPOOL_INLINE uint32_t bufpool_count_of(const struct bufpool *m, struct bufpool_holder holder, struct bufpool_buffer buffer)
+{
+    return m->counts[buffer.number * BUFPOOL_MAX_HOLDERS + holder.number];
+}
+
+/* The parts of a state word. Its pins are the holders that have some, each counted once. An empty buffer's is 0; any other has flags. */
 BUFPOOL_INLINE uint32_t bufpool_state_pins(uint32_t state) { return state & BUFPOOL_MAX_PINS; }
 BUFPOOL_INLINE uint32_t bufpool_state_usage(uint32_t state) { return state >> 18 & 15; }
 BUFPOOL_INLINE int bufpool_state_dirty(uint32_t state) { return (state >> 23 & 1) != 0; }
@@ -211,12 +234,13 @@ BUFPOOL_INLINE uint32_t bufpool_set_up_pool(struct bufpool *m, uint64_t page_siz
     return bufpool_set_up(BUFPOOL_LENT(m), page_size, position, cap, answer, BUFPOOL_ANSWER_WORDS);
 }
 
-BUFPOOL_INLINE uint32_t bufpool_pin_page(struct bufpool *m, struct bufpool_name name, struct bufpool_pinned *pinned)
+BUFPOOL_INLINE uint32_t bufpool_pin_page(struct bufpool *m, struct bufpool_holder holder, struct bufpool_name name,
+                                         struct bufpool_pinned *pinned)
 {
     uint64_t answer[BUFPOOL_ANSWER_WORDS];
     struct bufpool_file file = name.file;
-    uint32_t refusal = bufpool_pin(BUFPOOL_LENT(m), file.tablespace, file.database, file.relation, file.fork, name.block,
-                                   answer, BUFPOOL_ANSWER_WORDS);
+    uint32_t refusal = bufpool_pin(BUFPOOL_LENT(m), holder.number, file.tablespace, file.database, file.relation, file.fork,
+                                   name.block, answer, BUFPOOL_ANSWER_WORDS);
     pinned->buffer.number = refusal == BUFPOOL_DONE ? answer[0] : BUFPOOL_BUFFER_NONE;
     pinned->hit = answer[1] != 0;
     pinned->wrote = answer[2] != 0;
@@ -224,32 +248,41 @@ BUFPOOL_INLINE uint32_t bufpool_pin_page(struct bufpool *m, struct bufpool_name 
     return refusal;
 }
 
-BUFPOOL_INLINE uint32_t bufpool_unpin_buffer(struct bufpool *m, struct bufpool_buffer buffer)
+BUFPOOL_INLINE uint32_t bufpool_unpin_buffer(struct bufpool *m, struct bufpool_holder holder, struct bufpool_buffer buffer)
 {
     uint64_t answer[BUFPOOL_ANSWER_WORDS];
-    return bufpool_unpin(BUFPOOL_LENT(m), buffer.number, answer, BUFPOOL_ANSWER_WORDS);
+    return bufpool_unpin(BUFPOOL_LENT(m), holder.number, buffer.number, answer, BUFPOOL_ANSWER_WORDS);
 }
 
-BUFPOOL_INLINE uint32_t bufpool_read_buffer(const struct bufpool *m, struct bufpool_buffer buffer, uint64_t from,
-                                            uint8_t *out, uint64_t out_len)
+BUFPOOL_INLINE uint32_t bufpool_read_buffer(const struct bufpool *m, struct bufpool_holder holder, struct bufpool_buffer buffer,
+                                            uint64_t from, uint8_t *out, uint64_t out_len)
 {
     uint64_t answer[BUFPOOL_ANSWER_WORDS];
-    return bufpool_read(BUFPOOL_LENT(m), buffer.number, from, out, out_len, answer, BUFPOOL_ANSWER_WORDS);
+    return bufpool_read(BUFPOOL_LENT(m), holder.number, buffer.number, from, out, out_len, answer, BUFPOOL_ANSWER_WORDS);
 }
 
-BUFPOOL_INLINE uint32_t bufpool_write_buffer(struct bufpool *m, struct bufpool_buffer buffer, uint64_t from,
-                                             const uint8_t *bytes, uint64_t bytes_len, uint64_t position)
+BUFPOOL_INLINE uint32_t bufpool_write_buffer(struct bufpool *m, struct bufpool_holder holder, struct bufpool_buffer buffer,
+                                             uint64_t from, const uint8_t *bytes, uint64_t bytes_len, uint64_t position)
 {
     uint64_t answer[BUFPOOL_ANSWER_WORDS];
-    return bufpool_write(BUFPOOL_LENT(m), buffer.number, from, bytes, bytes_len, position, answer, BUFPOOL_ANSWER_WORDS);
+    return bufpool_write(BUFPOOL_LENT(m), holder.number, buffer.number, from, bytes, bytes_len, position, answer,
+                         BUFPOOL_ANSWER_WORDS);
 }
 
-BUFPOOL_INLINE uint32_t bufpool_flush_buffer(struct bufpool *m, struct bufpool_buffer buffer, uint64_t *written)
+BUFPOOL_INLINE uint32_t bufpool_flush_buffer(struct bufpool *m, struct bufpool_holder holder, struct bufpool_buffer buffer,
+                                             uint64_t *written)
 {
     uint64_t answer[BUFPOOL_ANSWER_WORDS];
-    uint32_t refusal = bufpool_flush(BUFPOOL_LENT(m), buffer.number, answer, BUFPOOL_ANSWER_WORDS);
+    uint32_t refusal = bufpool_flush(BUFPOOL_LENT(m), holder.number, buffer.number, answer, BUFPOOL_ANSWER_WORDS);
     *written = answer[0];
     return refusal;
+}
+
+/* Everything that a holder has, as of a till that has died. */
+BUFPOOL_INLINE uint32_t bufpool_give_back_pins(struct bufpool *m, struct bufpool_holder holder)
+{
+    uint64_t answer[BUFPOOL_ANSWER_WORDS];
+    return bufpool_give_back(BUFPOOL_LENT(m), holder.number, answer, BUFPOOL_ANSWER_WORDS);
 }
 
 BUFPOOL_INLINE uint32_t bufpool_checkpoint_pool(struct bufpool *m, uint64_t *written)

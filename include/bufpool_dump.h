@@ -72,10 +72,11 @@ BUFPOOL_INLINE struct bufpool_event bufpool_event_of_pin(const char *who, struct
 #define BUFPOOL_KEPT_HEADS 4
 #define BUFPOOL_KEPT_CHAIN 5
 #define BUFPOOL_KEPT_ROWS 6
-#define BUFPOOL_KEPT_POSITIONS 7
-#define BUFPOOL_KEPT_SLICES 8
+#define BUFPOOL_KEPT_COUNTS 7
+#define BUFPOOL_KEPT_POSITIONS 8
+#define BUFPOOL_KEPT_SLICES 9
 
-#define BUFPOOL_LENGTHS 9 /* of struct bufpool */
+#define BUFPOOL_LENGTHS 10 /* of struct bufpool */
 
 /* A file's name in a print. */
 struct bufpool_file_name {
@@ -96,7 +97,8 @@ BUFPOOL_INLINE uint64_t bufpool_most_kept(int slice)
 {
     static const uint64_t most[BUFPOOL_KEPT_SLICES] = {
         BUFPOOL_CONTROL_WORDS, BUFPOOL_MAX_BUFFERS, BUFPOOL_NAME_WORDS * BUFPOOL_MAX_BUFFERS, BUFPOOL_MAX_BUFFERS,
-        BUFPOOL_MAX_BUCKETS,   BUFPOOL_MAX_BUFFERS, BUFPOOL_ROW_WORDS * BUFPOOL_MAX_FILES,    BUFPOOL_MAX_BUFFERS};
+        BUFPOOL_MAX_BUCKETS,   BUFPOOL_MAX_BUFFERS, BUFPOOL_ROW_WORDS * BUFPOOL_MAX_FILES,    BUFPOOL_MAX_HOLDERS * BUFPOOL_MAX_BUFFERS,
+        BUFPOOL_MAX_BUFFERS};
     return most[slice];
 }
 
@@ -133,6 +135,7 @@ BUFPOOL_INLINE struct bufpool_view bufpool_view_of(const struct bufpool *m)
     bufpool_keep(&v, BUFPOOL_KEPT_HEADS, m->heads, m->heads_len);
     bufpool_keep(&v, BUFPOOL_KEPT_CHAIN, m->chain, m->chain_len);
     bufpool_keep(&v, BUFPOOL_KEPT_ROWS, m->rows, m->rows_len);
+    bufpool_keep(&v, BUFPOOL_KEPT_COUNTS, m->counts, m->counts_len);
     page_size = bufpool_view_page_size(&v);
     pages = page_size == 0 ? 0 : m->pool_len / page_size;
     bufpool_keep(&v, BUFPOOL_KEPT_POSITIONS, m->pool, pages < v.kept[BUFPOOL_KEPT_STATES] ? pages : v.kept[BUFPOOL_KEPT_STATES]);
@@ -145,6 +148,12 @@ BUFPOOL_INLINE uint64_t bufpool_view_position(const struct bufpool_view *v, uint
     if (v->positions != NULL) return v->positions[buffer];
     if (bufpool_state_empty(v->lent.states[buffer])) return 0;
     return bufpool_page_position(v->lent.pool + buffer * bufpool_view_page_size(v));
+}
+
+/* A buffer's 64 private counts, by holder; a null pointer where they are not all there. */
+BUFPOOL_INLINE const uint16_t *bufpool_view_counts(const struct bufpool_view *v, uint64_t buffer)
+{
+    return buffer < v->kept[BUFPOOL_KEPT_COUNTS] / BUFPOOL_MAX_HOLDERS ? v->lent.counts + BUFPOOL_MAX_HOLDERS * buffer : NULL;
 }
 
 /* ---- Snapshots ---- */
@@ -171,11 +180,13 @@ static inline void bufpool_dump_lengths(uint64_t *lengths, const struct bufpool 
     lengths[6] = m->chain_len;
     lengths[7] = m->rows_len;
     lengths[8] = m->store_len;
+    lengths[9] = m->counts_len;
 }
 
 BUFPOOL_INLINE uint64_t bufpool_dump_nulls(const struct bufpool *m)
 {
-    const void *const slices[BUFPOOL_LENGTHS] = {m->control, m->states, m->names, m->pool, m->free, m->heads, m->chain, m->rows, m->store};
+    const void *const slices[BUFPOOL_LENGTHS] = {m->control, m->states, m->names, m->pool,  m->free,
+                                                 m->heads,   m->chain,  m->rows,  m->store, m->counts};
     uint64_t nulls = 0;
     int k;
     for (k = 0; k < BUFPOOL_LENGTHS; k++) nulls |= (uint64_t)(slices[k] == NULL) << k;
@@ -223,7 +234,8 @@ BUFPOOL_INLINE int bufpool_dump(FILE *out, const struct bufpool *m, const struct
         || bufpool_dump_slice(out, m->free, 4, v.kept[BUFPOOL_KEPT_FREE]) != 0
         || bufpool_dump_slice(out, m->heads, 4, v.kept[BUFPOOL_KEPT_HEADS]) != 0
         || bufpool_dump_slice(out, m->chain, 4, v.kept[BUFPOOL_KEPT_CHAIN]) != 0
-        || bufpool_dump_slice(out, m->rows, 4, v.kept[BUFPOOL_KEPT_ROWS]) != 0 || bufpool_dump_positions(out, &v) != 0) return -1;
+        || bufpool_dump_slice(out, m->rows, 4, v.kept[BUFPOOL_KEPT_ROWS]) != 0
+        || bufpool_dump_slice(out, m->counts, 2, v.kept[BUFPOOL_KEPT_COUNTS]) != 0 || bufpool_dump_positions(out, &v) != 0) return -1;
     return fflush(out) == 0 ? 0 : -1;
 }
 

@@ -10,7 +10,7 @@ extern "C" {
 
 /* What a till does about a result. */
 #define BUFPOOL_KIND_DONE 0
-#define BUFPOOL_KIND_ASK_AGAIN 1 /* 5, 6, 14: others have pins; later, when some were given back, the same call may pass */
+#define BUFPOOL_KIND_ASK_AGAIN 1 /* 5, 6, 14: pins are in the way, at 5 the holder's own; when some were given back, the call may pass */
 #define BUFPOOL_KIND_MISTAKE 2   /* a mistake in the till program, or a file that is full: asking again changes nothing */
 #define BUFPOOL_KIND_DAMAGE 3    /* 1, 2: the lent memory is not a pool's; bufpool_why.h says what is wrong with it; 17: a block of the
                                     store is damaged, or has no checksum yet; the pool is sound, and goes on with other pages */
@@ -29,10 +29,10 @@ BUFPOOL_INLINE const struct bufpool_refusal *bufpool_refusal_of(uint32_t refusal
         {BUFPOOL_KIND_DAMAGE, "BUFPOOL_BOOKS", "the books are not sound"},
         {BUFPOOL_KIND_MISTAKE, "BUFPOOL_NO_FILE", "there is no such file"},
         {BUFPOOL_KIND_MISTAKE, "BUFPOOL_NO_BLOCK", "the file has not so many blocks"},
-        {BUFPOOL_KIND_ASK_AGAIN, "BUFPOOL_PIN_COUNT", "the page has as many pins as can be counted"},
+        {BUFPOOL_KIND_ASK_AGAIN, "BUFPOOL_PIN_COUNT", "this holder has as many pins on the page as can be counted"},
         {BUFPOOL_KIND_ASK_AGAIN, "BUFPOOL_ALL_PINNED", "every buffer is pinned"},
         {BUFPOOL_KIND_MISTAKE, "BUFPOOL_NO_BUFFER", "there are not so many buffers"},
-        {BUFPOOL_KIND_MISTAKE, "BUFPOOL_NOT_PINNED", "the buffer is not pinned"},
+        {BUFPOOL_KIND_MISTAKE, "BUFPOOL_NOT_PINNED", "this holder has no pin on the buffer"},
         {BUFPOOL_KIND_MISTAKE, "BUFPOOL_RANGE", "the bytes are not within the page, or are its log position"},
         {BUFPOOL_KIND_MISTAKE, "BUFPOOL_NO_BYTES", "there are no bytes to write"},
         {BUFPOOL_KIND_MISTAKE, "BUFPOOL_NOT_INSERTED", "the write's position is beyond the inserted log"},
@@ -43,6 +43,7 @@ BUFPOOL_INLINE const struct bufpool_refusal *bufpool_refusal_of(uint32_t refusal
         {BUFPOOL_KIND_MISTAKE, "BUFPOOL_FLUSHED_BEYOND", "the log cannot be flushed further than it is inserted"},
         {BUFPOOL_KIND_DAMAGE, "BUFPOOL_CHECKSUM", "the block in the store does not have its checksum"},
         {BUFPOOL_KIND_MISTAKE, "BUFPOOL_BAD_CAP", "the cap is not from 1 to 15"},
+        {BUFPOOL_KIND_MISTAKE, "BUFPOOL_NO_HOLDER", "the holder is not from 0 to 63"},
         {BUFPOOL_KIND_MISTAKE, "unknown", "not a result of these calls"},
     };
     const uint32_t known = sizeof all / sizeof *all - 1;

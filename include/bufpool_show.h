@@ -106,6 +106,21 @@ BUFPOOL_INLINE const char *bufpool_usage_text(const struct bufpool_view *v, uint
     return text;
 }
 
+/* Who holds a buffer, each holder with its pins: "1: 1, 2: 3". Nothing where nobody does, if the state word says so too. */
+static inline void bufpool_print_holders(FILE *out, const struct bufpool_view *v, uint64_t b)
+{
+    const uint16_t *counts = bufpool_view_counts(v, b);
+    const char *comma = "  ";
+    uint32_t h;
+    for (h = 0; counts != NULL && h < BUFPOOL_MAX_HOLDERS; h++) {
+        if (counts[h] == 0) continue;
+        fprintf(out, "%s%u: %u", comma, h, (unsigned)counts[h]);
+        comma = ", ";
+    }
+    if (counts == NULL) fputs("  ?", out);
+    else if (comma[0] == ' ' && bufpool_state_pins(v->lent.states[b]) > 0) fputs("  none", out);
+}
+
 static inline void bufpool_print_buffer(FILE *out, const struct bufpool_view *v, uint64_t b)
 {
     uint32_t state = v->lent.states[b];
@@ -118,6 +133,7 @@ static inline void bufpool_print_buffer(FILE *out, const struct bufpool_view *v,
     } else {
         fprintf(out, "  %12s", "?");
     }
+    bufpool_print_holders(out, v, b);
     fputc('\n', out);
 }
 
@@ -126,7 +142,7 @@ static inline void bufpool_print_buffers(FILE *out, const struct bufpool_view *v
 {
     uint64_t buffers = v->kept[BUFPOOL_KEPT_STATES], b;
     if (bufpool_view_empty(v) == buffers) return;
-    fprintf(out, "  buffer  %-24s  pins     usage  %-5s  log position\n", "page", "");
+    fprintf(out, "  buffer  %-24s  pins     usage  %-5s  log position  holder: its pins\n", "page", "");
     for (b = 0; b < buffers; b++) {
         if (!bufpool_state_empty(v->lent.states[b])) bufpool_print_buffer(out, v, b);
     }

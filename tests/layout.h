@@ -20,6 +20,9 @@ enum { ANSWER_WORDS = 4 };
 /* The cap, which is the greatest usage count: from the first to the second, on the bench the third. */
 enum { LEAST_CAP = 1, MOST_CAP = 15, DEFAULT_CAP = 5 };
 
+/* A buffer's private counts, one for each holder, and the greatest that one may be. */
+enum { HOLDERS = 64, MOST_COUNT = 65535 };
+
 /* A file, and a page, as arguments of a call, from the words of a name or, for a file, of a row. */
 #define FILE_OF(words) (words)[FILE_TABLESPACE], (words)[FILE_DATABASE], (words)[FILE_RELATION], (words)[FILE_FORK]
 #define NAME_OF(words) FILE_OF(words), (words)[NAME_BLOCK]

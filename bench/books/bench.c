@@ -1,5 +1,5 @@
-/* The whole check of lent memory, against plain C that answers the same: time for a call of each, and the ratio, in turn in one run.
-   Status 1 if the check takes more than the time of the plain C, for a shape of pool. */
+/* The whole check of lent memory, against plain C that answers the same: time for a call of each, and the ratio, in turn in one run. Then
+   what of it is the pass over the private counts. Status 1 if a ratio is above its bound, for a shape of pool. */
 #include "bufbooks.h"
 #include "shapes.h"
 #include "timing.h"
@@ -10,14 +10,14 @@ static const double MOST = 1.00;
 
 check_fn plain_check;
 
-/* nanoseconds for one of so many calls; every answer has to be 0 */
-static double time_of(check_fn *check, const struct memory *m, size_t calls)
+/* nanoseconds for one of so many calls; every answer has to be this one */
+static double time_of(check_fn *check, const struct memory *m, size_t calls, uint32_t answer)
 {
     uint32_t wrong = 0;
     double began = now();
-    for (size_t k = 0; k < calls; k++) wrong |= check(LENT(m));
+    for (size_t k = 0; k < calls; k++) wrong |= check(LENT(m)) ^ answer;
     if (wrong != 0) {
-        fprintf(stderr, "a sound memory is refused\n");
+        fprintf(stderr, "a check does not answer %u\n", (unsigned)answer);
         exit(1);
     }
     return (now() - began) / (double)calls;
@@ -30,14 +30,45 @@ static int bench(const struct bench_shape *s, size_t rounds, size_t calls)
     struct memory m;
     shape_new(&m, s);
     for (size_t k = 0; k < rounds; k++) {
-        if (k % 2 == 0) proved[k] = time_of(bufbooks_check, &m, calls);
-        plain[k] = time_of(plain_check, &m, calls);
-        if (k % 2 == 1) proved[k] = time_of(bufbooks_check, &m, calls);
+        if (k % 2 == 0) proved[k] = time_of(bufbooks_check, &m, calls, 0);
+        plain[k] = time_of(plain_check, &m, calls, 0);
+        if (k % 2 == 1) proved[k] = time_of(bufbooks_check, &m, calls, 0);
         ratio[k] = proved[k] / plain[k];
     }
     shape_print(s);
     printf(", %-25s %6.0f ns, plain C %6.0f ns, ", s->words, median(proved, rounds), median(plain, rounds));
     int above = print_ratio(median(ratio, rounds), MOST);
+    printf("\n");
+    fflush(stdout);
+    return above;
+}
+
+/* What the pass over the counts takes, which is the last: the time of a check less that of one that ends with 2 just before it, at the last
+   bucket's head. */
+static double time_of_counts(check_fn *check, struct memory *m, size_t calls)
+{
+    int32_t *last = m->heads + m->heads_len - 1, kept = *last;
+    double whole = time_of(check, m, calls, 0);
+    *last = (int32_t)m->states_len;
+    double without = time_of(check, m, calls, 2);
+    *last = kept;
+    return whole - without;
+}
+
+static int bench_counts(const struct bench_shape *s, size_t calls)
+{
+    static double proved[ROUNDS], plain[ROUNDS];
+    struct memory m;
+    shape_new(&m, s);
+    for (size_t k = 0; k < ROUNDS; k++) {
+        if (k % 2 == 0) proved[k] = time_of_counts(bufbooks_check, &m, calls);
+        plain[k] = time_of_counts(plain_check, &m, calls);
+        if (k % 2 == 1) proved[k] = time_of_counts(bufbooks_check, &m, calls);
+    }
+    double counts = median(proved, ROUNDS), simple = median(plain, ROUNDS);
+    shape_print(s);
+    printf(", %-25s %6.2f us, plain C %6.2f us, ", s->words, counts / 1000, simple / 1000);
+    int above = print_ratio(counts / simple, MOST);
     printf("\n");
     fflush(stdout);
     return above;
@@ -56,6 +87,11 @@ int main(void)
         s.is.runs = k / 4 == 1;
         s.is.used = k / 2 % 2 == 0 ? 100 : 70;
         above |= bench(&s, ROUNDS, WORK / s.is.buffers);
+    }
+    for (size_t k = 0; k < 2; k++) {
+        struct bench_shape s = {.is = k == 0 ? till : great, .words = "of it the private counts"};
+        s.is.used = 100;
+        above |= bench_counts(&s, WORK / s.is.buffers);
     }
     for (size_t k = 0; k < other_shape_count; k++) {
         const struct bench_shape *s = other_shapes + k;

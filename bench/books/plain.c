@@ -9,6 +9,7 @@
 check_fn plain_check;
 
 enum { MOST_BUFFERS = 1024, MOST_BUCKETS = 4096, MOST_FILES = 64, MOST_BLOCKS = 65536, SLOT_BITS = 8, SLOTS = 1 << SLOT_BITS };
+enum { PINS = 0x3FFFF };
 
 static uint32_t mix(uint32_t h, uint32_t w)
 {
@@ -123,10 +124,22 @@ static bool chains_ok(const int32_t *heads, size_t buckets, const int32_t *chain
     return left == 0;
 }
 
+/* whether each word counts the holders whose private count is not 0; a sum as wide as a count, so that no count is widened */
+static bool counts_ok(const uint16_t *counts, const uint32_t *states, size_t n)
+{
+    for (size_t i = 0; i < n; i++) {
+        uint16_t holders = 0;
+        for (size_t h = 0; h < HOLDERS; h++) holders += counts[HOLDERS * i + h] != 0;
+        if ((states[i] & PINS) != holders) return false;
+    }
+    return true;
+}
+
 uint32_t plain_check(const uint64_t *control, size_t control_len, const uint32_t *states, size_t n, const uint32_t *names,
                      size_t names_len, const uint8_t *pool, size_t pool_len, const int32_t *free, size_t free_len,
                      const int32_t *heads, size_t buckets, const int32_t *chain, size_t chain_len, const uint32_t *rows,
-                     size_t rows_len, const uint8_t *store, size_t store_len, const uint64_t *answer, size_t answer_len)
+                     size_t rows_len, const uint8_t *store, size_t store_len, const uint16_t *counts, size_t counts_len,
+                     const uint64_t *answer, size_t answer_len)
 {
     size_t files = rows_len / ROW_WORDS, used = 0;
     uint32_t hashes[MOST_FILES];
@@ -139,6 +152,7 @@ uint32_t plain_check(const uint64_t *control, size_t control_len, const uint32_t
     if (answer_len != ANSWER_WORDS || control_len != CONTROL_WORDS || !size_ok(control[CONTROL_SIZE])) return 1;
     if (n == 0 || n > MOST_BUFFERS || buckets < n || buckets > MOST_BUCKETS) return 1;
     if (names_len != NAME_WORDS * n || pool_len != n * control[CONTROL_SIZE] || free_len != n || chain_len != n) return 1;
+    if (counts_len != HOLDERS * n) return 1;
     if (rows_len % ROW_WORDS != 0 || !rows_ok(rows, files, &blocks) || store_len != blocks * control[CONTROL_SIZE]) return 1;
 
     uint64_t cap = control[CONTROL_CAP];
@@ -158,5 +172,6 @@ uint32_t plain_check(const uint64_t *control, size_t control_len, const uint32_t
     }
     uint64_t top = control[CONTROL_TOP];
     if (!list_ok(top == UINT64_MAX ? -1 : top > INT32_MAX ? -3 : (int32_t)top, free, n, n - used)) return 2;
-    return chains_ok(heads, buckets, chain, states, names, n, bucket, used) ? 0 : 2;
+    if (!chains_ok(heads, buckets, chain, states, names, n, bucket, used)) return 2;
+    return counts_ok(counts, states, n) ? 0 : 2;
 }

@@ -13,10 +13,10 @@ enum set { USUAL, SIZES, STILL_ONLY };
 check_fn plain_check;
 
 static const struct side library = {bufpool_set_up, bufpool_pin, bufpool_unpin, bufpool_read, bufpool_write, bufpool_flush,
-                                    bufpool_checkpoint, bufpool_peek, bufpool_extend, bufpool_drop, bufpool_log_inserted,
+                                    bufpool_give_back, bufpool_checkpoint, bufpool_peek, bufpool_extend, bufpool_drop, bufpool_log_inserted,
                                     bufpool_log_flushed};
-static const struct side plain = {plain_set_up, plain_pin, plain_unpin, plain_read, plain_write, plain_flush, plain_checkpoint, plain_peek,
-                                  plain_extend, plain_drop, plain_log_inserted, plain_log_flushed};
+static const struct side plain = {plain_set_up, plain_pin, plain_unpin, plain_read, plain_write, plain_flush, plain_give_back,
+                                  plain_checkpoint, plain_peek, plain_extend, plain_drop, plain_log_inserted, plain_log_flushed};
 
 /* the check alone, in the state in which a case begins */
 static uint32_t check_alone(const struct side *side, struct pool *pool, size_t k)

@@ -7,6 +7,9 @@
 
 enum { STEP = 64, RUN = 16 };
 
+/* who has the pins of a case, and another */
+enum { HOLDER, SECOND };
+
 #define ANSWER(pool) (pool)->answer, BUFPOOL_ANSWER_WORDS
 
 /* what reads fill and writes take */
@@ -50,37 +53,55 @@ static size_t dirty_buffer(const struct pool *pool, size_t k)
 static uint32_t pin_held(const struct side *side, struct pool *pool, size_t k)
 {
     const uint32_t *name = held_name(pool, k);
-    return side->pin(BUFPOOL_LENT(&pool->lent), NAME_OF(name), ANSWER(pool));
+    return side->pin(BUFPOOL_LENT(&pool->lent), HOLDER, NAME_OF(name), ANSWER(pool));
+}
+
+static uint32_t pin_second(const struct side *side, struct pool *pool, size_t k)
+{
+    const uint32_t *name = held_name(pool, k);
+    return side->pin(BUFPOOL_LENT(&pool->lent), SECOND, NAME_OF(name), ANSWER(pool));
 }
 
 static uint32_t pin_other(const struct side *side, struct pool *pool, size_t k)
 {
     const uint32_t *name = other_name(pool, k);
-    return side->pin(BUFPOOL_LENT(&pool->lent), NAME_OF(name), ANSWER(pool));
+    return side->pin(BUFPOOL_LENT(&pool->lent), HOLDER, NAME_OF(name), ANSWER(pool));
 }
 
 static uint32_t unpin(const struct side *side, struct pool *pool, size_t k)
 {
-    return side->unpin(BUFPOOL_LENT(&pool->lent), held_buffer(pool, k), ANSWER(pool));
+    return side->unpin(BUFPOOL_LENT(&pool->lent), HOLDER, held_buffer(pool, k), ANSWER(pool));
 }
 
 static uint32_t read_some(const struct side *side, struct pool *pool, size_t k)
 {
     size_t from = (k & (pool->places - 1)) * STEP;
-    return side->read(BUFPOOL_LENT(&pool->lent), held_buffer(pool, k), from, bytes, pool->span, ANSWER(pool));
+    return side->read(BUFPOOL_LENT(&pool->lent), HOLDER, held_buffer(pool, k), from, bytes, pool->span, ANSWER(pool));
 }
 
 /* of a whole page all bytes but the log position */
 static uint32_t write_some(const struct side *side, struct pool *pool, size_t k)
 {
     size_t from = BUFPOOL_POSITION_BYTES + (k & (pool->places - 1)) * STEP, most = bufpool_page_size(&pool->lent) - from;
-    return side->write(BUFPOOL_LENT(&pool->lent), dirty_buffer(pool, k), from, bytes, pool->span < most ? pool->span : most,
+    return side->write(BUFPOOL_LENT(&pool->lent), HOLDER, dirty_buffer(pool, k), from, bytes, pool->span < most ? pool->span : most,
                        inserted(pool), ANSWER(pool));
 }
 
 static uint32_t flush(const struct side *side, struct pool *pool, size_t k)
 {
-    return side->flush(BUFPOOL_LENT(&pool->lent), dirty_buffer(pool, k), ANSWER(pool));
+    return side->flush(BUFPOOL_LENT(&pool->lent), HOLDER, dirty_buffer(pool, k), ANSWER(pool));
+}
+
+static uint32_t give_back(const struct side *side, struct pool *pool, size_t k)
+{
+    (void)k;
+    return side->give_back(BUFPOOL_LENT(&pool->lent), HOLDER, ANSWER(pool));
+}
+
+static uint32_t give_nothing(const struct side *side, struct pool *pool, size_t k)
+{
+    (void)k;
+    return side->give_back(BUFPOOL_LENT(&pool->lent), SECOND, ANSWER(pool));
 }
 
 static uint32_t checkpoint(const struct side *side, struct pool *pool, size_t k)
@@ -131,17 +152,19 @@ static uint32_t set_up(const struct side *side, struct pool *pool, size_t k)
 }
 
 /* The state of most cases: every page is pinned and was used, a quarter of them is dirty, and calls change nothing that matters. */
-#define IN_USE .pins = 1, .usage = 3, .dirty = DIRTY_NEXT, .batch = ANY_NUMBER
+#define IN_USE .count = 1, .usage = 3, .dirty = DIRTY_NEXT, .batch = ANY_NUMBER
 
 /* unless a case says more, every buffer has a clean page, no pins and usage 0, and is set back for each call */
 const struct bench_case bench_cases[] = {
     {.name = "pin, hit", .call = pin_held, .kind = STILL, IN_USE},
+    {.name = "pin, hit, second holder", .call = pin_second, .kind = STILL, .count = 1, .usage = 3, .dirty = DIRTY_NEXT, .batch = QUARTER},
     {.name = "pin, free buffer", .call = pin_other, .kind = SUMMED, .batch = QUARTER, .empty = 1},
     {.name = "pin, clean victim", .call = pin_other, .kind = SUMMED, .dirty = DIRTY_NEXT, .batch = QUARTER, .all_sizes = 1},
     {.name = "pin, block of zeros", .call = pin_other, .kind = SUMMED, .dirty = DIRTY_NEXT, .batch = QUARTER, .all_sizes = 1, .zeros = 1},
     {.name = "pin, dirty victim", .call = pin_other, .kind = SUMMED, .dirty = DIRTY_HAND, .batch = QUARTER, .all_sizes = 1},
     {.name = "pin, longest sweep", .call = pin_other, .kind = SUMMED, .usage = DEFAULT_CAP, .dirty = DIRTY_NEXT, .batch = ONE},
-    {.name = "unpin", .call = unpin, .kind = STILL, .pins = 100000, .usage = 3, .dirty = DIRTY_NEXT, .batch = ANY_NUMBER},
+    {.name = "unpin", .call = unpin, .kind = STILL, .count = 60000, .usage = 3, .dirty = DIRTY_NEXT, .batch = ANY_NUMBER},
+    {.name = "unpin, a holder's last", .call = unpin, .kind = STILL, .count = 1, .usage = 3, .dirty = DIRTY_NEXT, .batch = QUARTER},
     {.name = "read 64 bytes", .call = read_some, .kind = STILL, .span = 64, IN_USE},
     {.name = "read 1 KiB", .call = read_some, .span = 1024, IN_USE},
     {.name = "read 4,000 bytes", .call = read_some, .span = 4000, IN_USE},
@@ -150,13 +173,15 @@ const struct bench_case bench_cases[] = {
     {.name = "write 1 KiB", .call = write_some, .span = 1024, IN_USE},
     {.name = "write 4,000 bytes", .call = write_some, .span = 4000, IN_USE},
     {.name = "write a whole page", .call = write_some, .span = WHOLE, IN_USE},
-    {.name = "flush", .call = flush, .kind = SUMMED, .all_sizes = 1, .pins = 1, .usage = 3, .dirty = DIRTY_NEXT, .batch = QUARTER},
-    {.name = "checkpoint, all clean", .call = checkpoint, .kind = STILL, .pins = 1, .usage = 3, .batch = ANY_NUMBER},
-    {.name = "checkpoint, N / 4 dirty", .call = checkpoint, .kind = SUMMED, .pins = 1, .usage = 3, .dirty = DIRTY_NEXT, .batch = ONE},
+    {.name = "flush", .call = flush, .kind = SUMMED, .all_sizes = 1, .count = 1, .usage = 3, .dirty = DIRTY_NEXT, .batch = QUARTER},
+    {.name = "give back, of all pages", .call = give_back, .count = 1, .usage = 3, .dirty = DIRTY_NEXT, .batch = ONE},
+    {.name = "give back, of none", .call = give_nothing, .kind = STILL, IN_USE},
+    {.name = "checkpoint, all clean", .call = checkpoint, .kind = STILL, .count = 1, .usage = 3, .batch = ANY_NUMBER},
+    {.name = "checkpoint, N / 4 dirty", .call = checkpoint, .kind = SUMMED, .count = 1, .usage = 3, .dirty = DIRTY_NEXT, .batch = ONE},
     {.name = "peek, held", .call = peek_held, .kind = STILL, IN_USE},
     {.name = "peek, not held", .call = peek_other, .kind = SUMMED, .all_sizes = 1, IN_USE},
     {.name = "peek, block of zeros", .call = peek_other, .kind = SUMMED, .all_sizes = 1, .zeros = 1, IN_USE},
-    {.name = "extend", .call = extend, .pins = 1, .usage = 3, .dirty = DIRTY_NEXT, .batch = QUARTER},
+    {.name = "extend", .call = extend, .count = 1, .usage = 3, .dirty = DIRTY_NEXT, .batch = QUARTER},
     {.name = "drop", .call = drop, .usage = 3, .dirty = DIRTY_NEXT, .batch = FOR_EACH_FILE},
     {.name = "log inserted", .call = log_inserted, .kind = STILL, IN_USE},
     {.name = "log flushed", .call = log_flushed, .kind = STILL, IN_USE},
@@ -228,7 +253,7 @@ void pool_new(struct pool *pool, const struct bench_shape *shape, int pages_move
     pool->files = shape->is.files;
     pool->lent = (struct bufpool){m.control, m.control_len, m.states, m.states_len, m.names, m.names_len, m.pool, m.pool_len,
                                   m.free, m.free_len, m.heads, m.heads_len, m.chain, m.chain_len, m.rows, m.rows_len,
-                                  m.store, m.store_len};
+                                  m.store, m.store_len, m.counts, m.counts_len};
     /* files are half full, so that they can be extended, but where blocks were chosen among all */
     for (size_t r = 0; r < pool->files && !shape->crowded; r++) m.rows[BUFPOOL_ROW_WORDS * r + BUFPOOL_ROW_AT_BLOCKS] /= 2;
     if (pages_move) memset(m.store, 0, m.store_len);
@@ -266,7 +291,9 @@ static void set_words(struct pool *pool, const struct bench_case *c)
     size_t quarter = pool->held_count / 4, first = c->dirty == DIRTY_HAND ? 0 : quarter;
     for (size_t k = 0; k < pool->held_count; k++) {
         int is_dirty = c->dirty != CLEAN_POOL && k >= first && k < first + quarter;
-        pool->lent.states[held_buffer(pool, pool->hand + k)] = (is_dirty ? 590u : 524u) << 22 | c->usage << 18 | c->pins;
+        size_t i = held_buffer(pool, pool->hand + k);
+        pool->lent.states[i] = (is_dirty ? 590u : 524u) << 22 | c->usage << 18 | (c->count != 0);
+        pool->lent.counts[BUFPOOL_MAX_HOLDERS * i + HOLDER] = c->count;
     }
 }
 
@@ -288,6 +315,7 @@ void pool_set_back(struct pool *pool, const struct bench_case *c)
     memcpy(m->chain, kept->chain, m->chain_len * sizeof *m->chain);
     memcpy(m->rows, kept->rows, m->rows_len * sizeof *m->rows);
     memset(m->states, 0, m->states_len * sizeof *m->states);
+    memset(m->counts, 0, m->counts_len * sizeof *m->counts);
     pool->hand = pool->turn++ * (pool->held_count / 4) % pool->held_count;
     m->control[BUFPOOL_CONTROL_AT_HAND] = held_buffer(pool, pool->hand);
     set_words(pool, c);

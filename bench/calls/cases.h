@@ -13,6 +13,7 @@ struct side {
     __typeof__(bufpool_read) *read;
     __typeof__(bufpool_write) *write;
     __typeof__(bufpool_flush) *flush;
+    __typeof__(bufpool_give_back) *give_back;
     __typeof__(bufpool_checkpoint) *checkpoint;
     __typeof__(bufpool_peek) *peek;
     __typeof__(bufpool_extend) *extend;
@@ -52,7 +53,8 @@ struct bench_case {
     const char *name;
     call_fn *call;
     enum kind kind;
-    uint32_t pins, usage; /* of every buffer in use */
+    uint32_t usage; /* of every buffer in use */
+    uint16_t count; /* of holder 0, the same: its private count */
     enum dirty dirty;
     enum batch batch;
     size_t span;   /* of a read or write */

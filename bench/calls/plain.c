@@ -1,4 +1,4 @@
-/* The twelve calls in plain C, as a good C programmer would write them at first. Sizes and books are checked by plain_check of
+/* The thirteen calls in plain C, as a good C programmer would write them at first. Sizes and books are checked by plain_check of
    bench/books, once for each call; after it the code relies on them. Link with bench/books/plain.c and bench/checksum/plain.c. */
 #include "plain.h"
 #include "../checksum/plain.h"
@@ -11,17 +11,18 @@ check_fn plain_check;
 enum { PIN = 1, PINS = 0x3FFFF, USE = 1 << 18, USES = 15 << 18 };
 static const uint32_t DIRTY = 1u << 23 | 1u << 28, CLEAN = 0x83000000u;
 
-/* Parameters and arguments of lent memory. A call says what it changes: control, states, the table (names and links), pool, rows, store. */
+/* Parameters and arguments of lent memory. A call says what it changes: control, states, the table (names and links), pool, rows, store,
+   counts. */
 #define MUT
-#define LENDS(c, s, t, p, r, b)                                                                                                     \
+#define LENDS(c, s, t, p, r, b, k)                                                                                                  \
     c uint64_t *control, size_t control_len, s uint32_t *states, size_t n, t uint32_t *names, size_t names_len, p uint8_t *pool,    \
         size_t pool_len, t int32_t *free, size_t free_len, t int32_t *heads, size_t buckets, t int32_t *chain, size_t chain_len,    \
-        r uint32_t *rows, size_t rows_len, b uint8_t *store, size_t store_len
+        r uint32_t *rows, size_t rows_len, b uint8_t *store, size_t store_len, k uint16_t *counts, size_t counts_len
 #define FILE_NUMBERS uint32_t tablespace, uint32_t database, uint32_t relation, uint32_t fork
 #define ANSWERS uint64_t *answer, size_t answer_len
 #define CHECK_WITH(control)                                                                                                        \
     plain_check(control, control_len, states, n, names, names_len, pool, pool_len, free, free_len, heads, buckets, chain, chain_len, \
-                rows, rows_len, store, store_len, answer, answer_len)
+                rows, rows_len, store, store_len, counts, counts_len, answer, answer_len)
 
 static uint32_t refuse(uint64_t *answer, size_t answer_len, uint32_t number)
 {
@@ -145,11 +146,12 @@ static size_t sweep(uint64_t *hand, uint32_t *states, size_t n, uint64_t *probes
     return n;
 }
 
-/* The places 7 and 8. */
-static uint32_t buffer_refusal(const uint32_t *states, size_t n, uint64_t buffer)
+/* The places 19, 7 and 8. */
+static uint32_t buffer_refusal(const uint16_t *counts, size_t n, uint64_t holder, uint64_t buffer)
 {
+    if (holder >= HOLDERS) return BUFPOOL_NO_HOLDER;
     if (buffer >= n) return BUFPOOL_NO_BUFFER;
-    return (states[buffer] & PINS) == 0 ? BUFPOOL_NOT_PINNED : 0;
+    return counts[HOLDERS * buffer + holder] == 0 ? BUFPOOL_NOT_PINNED : 0;
 }
 
 static bool in_page(uint64_t size, uint64_t from, uint64_t length)
@@ -157,7 +159,7 @@ static bool in_page(uint64_t size, uint64_t from, uint64_t length)
     return from <= size && length <= size - from;
 }
 
-uint32_t plain_set_up(LENDS(MUT, MUT, MUT, const, const, const), uint64_t page_size, uint64_t position, uint64_t cap, ANSWERS)
+uint32_t plain_set_up(LENDS(MUT, MUT, MUT, const, const, const, MUT), uint64_t page_size, uint64_t position, uint64_t cap, ANSWERS)
 {
     /* no cap is 0: the check ends behind the sizes, with 1 or 2 */
     const uint64_t sizes_only[CONTROL_WORDS] = {[CONTROL_SIZE] = page_size};
@@ -167,6 +169,7 @@ uint32_t plain_set_up(LENDS(MUT, MUT, MUT, const, const, const), uint64_t page_s
     memset(names, 0, names_len * sizeof *names);
     memset(heads, 255, buckets * sizeof *heads);
     memset(chain, 255, n * sizeof *chain);
+    memset(counts, 0, counts_len * sizeof *counts);
     for (size_t i = 0; i + 1 < n; i++) free[i] = (int32_t)i + 1;
     free[n - 1] = -1;
     control[CONTROL_SIZE] = page_size;
@@ -176,19 +179,22 @@ uint32_t plain_set_up(LENDS(MUT, MUT, MUT, const, const, const), uint64_t page_s
     return accept(answer, 0, 0, 0, 0);
 }
 
-uint32_t plain_pin(LENDS(MUT, MUT, MUT, MUT, const, MUT), FILE_NUMBERS, uint32_t block, ANSWERS)
+uint32_t plain_pin(LENDS(MUT, MUT, MUT, MUT, const, MUT, MUT), uint64_t holder, FILE_NUMBERS, uint32_t block, ANSWERS)
 {
     const uint32_t name[NAME_WORDS] = {tablespace, database, relation, fork, block};
     uint64_t place, probes = 0, wrote = 0, top = 0;
     uint32_t refusal = CHECK_WITH(control);
+    if (refusal == 0 && holder >= HOLDERS) refusal = BUFPOOL_NO_HOLDER;
     if (refusal == 0) refusal = find_page(rows, rows_len, name, &place);
     if (refusal != 0) return refuse(answer, answer_len, refusal);
 
     int32_t *head = heads + hash(name) % (uint32_t)buckets, held = find_held(*head, chain, names, name);
     if (held >= 0) {
+        uint16_t *count = counts + HOLDERS * held + holder;
         uint32_t w = states[held];
-        if ((w & PINS) == BUFPOOL_MAX_PINS) return refuse(answer, answer_len, BUFPOOL_PIN_COUNT);
-        states[held] = w + PIN + ((w & USES) < control[CONTROL_CAP] * USE ? USE : 0);
+        if (*count == BUFPOOL_MAX_COUNT) return refuse(answer, answer_len, BUFPOOL_PIN_COUNT);
+        if (*count == 0) states[held] = w + PIN + ((w & USES) < control[CONTROL_CAP] * USE ? USE : 0);
+        ++*count;
         return accept(answer, (uint64_t)held, 1, 0, 0);
     }
     size_t i = top = control[CONTROL_TOP], size = control[CONTROL_SIZE];
@@ -208,34 +214,35 @@ uint32_t plain_pin(LENDS(MUT, MUT, MUT, MUT, const, MUT), FILE_NUMBERS, uint32_t
     *head = (int32_t)i;
     memcpy(pool + i * size, store + place * size, size);
     states[i] = CLEAN | USE | PIN;
+    counts[HOLDERS * i + holder] = 1;
     return accept(answer, i, 0, wrote, probes);
 }
 
-uint32_t plain_unpin(LENDS(const, MUT, const, const, const, const), uint64_t buffer, ANSWERS)
+uint32_t plain_unpin(LENDS(const, MUT, const, const, const, const, MUT), uint64_t holder, uint64_t buffer, ANSWERS)
 {
     uint32_t refusal = CHECK_WITH(control);
-    if (refusal == 0) refusal = buffer_refusal(states, n, buffer);
+    if (refusal == 0) refusal = buffer_refusal(counts, n, holder, buffer);
     if (refusal != 0) return refuse(answer, answer_len, refusal);
-    states[buffer] -= PIN;
+    if (--counts[HOLDERS * buffer + holder] == 0) states[buffer] -= PIN;
     return accept(answer, 0, 0, 0, 0);
 }
 
-uint32_t plain_read(LENDS(const, const, const, const, const, const), uint64_t buffer, uint64_t from, uint8_t *out, size_t out_len,
-                    ANSWERS)
+uint32_t plain_read(LENDS(const, const, const, const, const, const, const), uint64_t holder, uint64_t buffer, uint64_t from, uint8_t *out,
+                    size_t out_len, ANSWERS)
 {
     uint32_t refusal = CHECK_WITH(control);
-    if (refusal == 0) refusal = buffer_refusal(states, n, buffer);
+    if (refusal == 0) refusal = buffer_refusal(counts, n, holder, buffer);
     if (refusal == 0 && !in_page(control[CONTROL_SIZE], from, out_len)) refusal = BUFPOOL_RANGE;
     if (refusal != 0) return refuse(answer, answer_len, refusal);
     memcpy(out, pool + buffer * control[CONTROL_SIZE] + from, out_len);
     return accept(answer, 0, 0, 0, 0);
 }
 
-uint32_t plain_write(LENDS(const, MUT, const, MUT, const, const), uint64_t buffer, uint64_t from, const uint8_t *bytes,
-                     size_t bytes_len, uint64_t position, ANSWERS)
+uint32_t plain_write(LENDS(const, MUT, const, MUT, const, const, const), uint64_t holder, uint64_t buffer, uint64_t from,
+                     const uint8_t *bytes, size_t bytes_len, uint64_t position, ANSWERS)
 {
     uint32_t refusal = CHECK_WITH(control);
-    if (refusal == 0) refusal = buffer_refusal(states, n, buffer);
+    if (refusal == 0) refusal = buffer_refusal(counts, n, holder, buffer);
     if (refusal != 0) return refuse(answer, answer_len, refusal);
     uint8_t *page = pool + buffer * control[CONTROL_SIZE];
     if (from < BUFPOOL_POSITION_BYTES || !in_page(control[CONTROL_SIZE], from, bytes_len)) refusal = BUFPOOL_RANGE;
@@ -249,17 +256,31 @@ uint32_t plain_write(LENDS(const, MUT, const, MUT, const, const), uint64_t buffe
     return accept(answer, 0, 0, 0, 0);
 }
 
-uint32_t plain_flush(LENDS(MUT, MUT, const, const, const, MUT), uint64_t buffer, ANSWERS)
+uint32_t plain_flush(LENDS(MUT, MUT, const, const, const, MUT, const), uint64_t holder, uint64_t buffer, ANSWERS)
 {
     uint32_t refusal = CHECK_WITH(control);
-    if (refusal == 0) refusal = buffer_refusal(states, n, buffer);
+    if (refusal == 0) refusal = buffer_refusal(counts, n, holder, buffer);
     if (refusal != 0) return refuse(answer, answer_len, refusal);
     if ((states[buffer] & DIRTY) == 0) return accept(answer, 0, 0, 0, 0);
     write_back(control, states, names, pool, rows, rows_len, store, buffer);
     return accept(answer, 1, 0, 0, 0);
 }
 
-uint32_t plain_checkpoint(LENDS(MUT, MUT, const, const, const, MUT), ANSWERS)
+uint32_t plain_give_back(LENDS(const, MUT, const, const, const, const, MUT), uint64_t holder, ANSWERS)
+{
+    uint32_t refusal = CHECK_WITH(control);
+    if (refusal == 0 && holder >= HOLDERS) refusal = BUFPOOL_NO_HOLDER;
+    if (refusal != 0) return refuse(answer, answer_len, refusal);
+    for (size_t i = 0; i < n; i++) {
+        uint16_t *count = counts + HOLDERS * i + holder;
+        if (*count == 0) continue;
+        *count = 0;
+        states[i] -= PIN;
+    }
+    return accept(answer, 0, 0, 0, 0);
+}
+
+uint32_t plain_checkpoint(LENDS(MUT, MUT, const, const, const, MUT, const), ANSWERS)
 {
     uint64_t written = 0;
     uint32_t refusal = CHECK_WITH(control);
@@ -272,7 +293,7 @@ uint32_t plain_checkpoint(LENDS(MUT, MUT, const, const, const, MUT), ANSWERS)
     return accept(answer, written, 0, 0, 0);
 }
 
-uint32_t plain_peek(LENDS(const, const, const, const, const, const), FILE_NUMBERS, uint32_t block, ANSWERS)
+uint32_t plain_peek(LENDS(const, const, const, const, const, const, const), FILE_NUMBERS, uint32_t block, ANSWERS)
 {
     const uint32_t name[NAME_WORDS] = {tablespace, database, relation, fork, block};
     uint64_t place;
@@ -286,7 +307,7 @@ uint32_t plain_peek(LENDS(const, const, const, const, const, const), FILE_NUMBER
     return accept(answer, 0, place * size, 0, 0);
 }
 
-uint32_t plain_extend(LENDS(const, const, const, const, MUT, MUT), FILE_NUMBERS, ANSWERS)
+uint32_t plain_extend(LENDS(const, const, const, const, MUT, MUT, const), FILE_NUMBERS, ANSWERS)
 {
     const uint32_t file[FILE_WORDS] = {tablespace, database, relation, fork};
     uint64_t start;
@@ -308,7 +329,7 @@ static bool any_pinned(const uint32_t *states, size_t n, const uint32_t *names, 
     return false;
 }
 
-uint32_t plain_drop(LENDS(MUT, MUT, MUT, const, MUT, const), FILE_NUMBERS, ANSWERS)
+uint32_t plain_drop(LENDS(MUT, MUT, MUT, const, MUT, const, const), FILE_NUMBERS, ANSWERS)
 {
     const uint32_t file[FILE_WORDS] = {tablespace, database, relation, fork};
     uint64_t start;
@@ -331,7 +352,7 @@ uint32_t plain_drop(LENDS(MUT, MUT, MUT, const, MUT, const), FILE_NUMBERS, ANSWE
     return accept(answer, 0, 0, 0, 0);
 }
 
-uint32_t plain_log_inserted(LENDS(MUT, const, const, const, const, const), uint64_t position, ANSWERS)
+uint32_t plain_log_inserted(LENDS(MUT, const, const, const, const, const, const), uint64_t position, ANSWERS)
 {
     uint32_t refusal = CHECK_WITH(control);
     if (refusal == 0 && position < control[CONTROL_INSERTED]) refusal = BUFPOOL_LOG_SHORTER;
@@ -340,7 +361,7 @@ uint32_t plain_log_inserted(LENDS(MUT, const, const, const, const, const), uint6
     return accept(answer, 0, 0, 0, 0);
 }
 
-uint32_t plain_log_flushed(LENDS(MUT, const, const, const, const, const), uint64_t position, ANSWERS)
+uint32_t plain_log_flushed(LENDS(MUT, const, const, const, const, const, const), uint64_t position, ANSWERS)
 {
     uint32_t refusal = CHECK_WITH(control);
     if (refusal == 0 && position > control[CONTROL_INSERTED]) refusal = BUFPOOL_FLUSHED_BEYOND;

@@ -2,7 +2,7 @@
 #ifndef CHECKSUM_PLAIN_H
 #define CHECKSUM_PLAIN_H
 
-#include "bufpool.h"
+#include "bufpool_calls.h"
 #include <stdbool.h>
 #include <stddef.h>
 

@@ -32,8 +32,8 @@ static uint32_t call(struct row *r, const struct side *side, size_t buffer, uint
 {
     struct bufpool *m = &r->pool.lent;
     uint64_t *answer = r->pool.answer, position = bufpool_inserted(m);
-    if (!r->is_write) return side->read(BUFPOOL_LENT(m), buffer, 0, bytes, length, answer, BUFPOOL_ANSWER_WORDS);
-    return side->write(BUFPOOL_LENT(m), buffer, BUFPOOL_POSITION_BYTES, bytes, length, position, answer, BUFPOOL_ANSWER_WORDS);
+    if (!r->is_write) return side->read(BUFPOOL_LENT(m), 0, buffer, 0, bytes, length, answer, BUFPOOL_ANSWER_WORDS);
+    return side->write(BUFPOOL_LENT(m), 0, buffer, BUFPOOL_POSITION_BYTES, bytes, length, position, answer, BUFPOOL_ANSWER_WORDS);
 }
 
 /* Nanoseconds for one of so many calls with a length, on one page after the other. The stack and the caller's bytes begin at other places
@@ -64,7 +64,7 @@ static double quick(double *times)
 
 static void begin(struct row *r)
 {
-    static const struct bench_case pinned = {.pins = 1, .usage = 3};
+    static const struct bench_case pinned = {.count = 1, .usage = 3};
     struct bench_shape s = {.is = {.buffers = 16, .buckets = 16, .files = 1, .page = r->page, .capacity = 256, .used = 100,
                                    .relations = 1, .cap = DEFAULT_CAP}};
     pool_new(&r->pool, &s, 0);

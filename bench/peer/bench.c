@@ -11,6 +11,7 @@
 enum { PAGES = 128, ROW = 8000, SPAN = 64, ROUNDS = 401, TIMES = 256 };
 
 static struct pool pool;
+static const struct bufpool_holder holder = {0};
 static sqlite3 *base;
 static sqlite3_blob *blob;
 static sqlite3_stmt *get, *put;
@@ -37,11 +38,11 @@ static int by_pool(size_t k)
     struct bufpool_name page = {{FILE_OF(name)}, name[BUFPOOL_NAME_AT_BLOCK]};
     struct bufpool_pinned pinned;
     uint64_t position = bufpool_inserted(m) + 1;
-    uint32_t wrong = bufpool_pin_page(m, page, &pinned);
-    wrong |= bufpool_read_buffer(m, pinned.buffer, from_of(k), bytes, SPAN);
+    uint32_t wrong = bufpool_pin_page(m, holder, page, &pinned);
+    wrong |= bufpool_read_buffer(m, holder, pinned.buffer, from_of(k), bytes, SPAN);
     wrong |= bufpool_log_inserted_to(m, position);
-    wrong |= bufpool_write_buffer(m, pinned.buffer, from_of(k) + SPAN, bytes, SPAN, position);
-    return (int)(wrong | bufpool_unpin_buffer(m, pinned.buffer));
+    wrong |= bufpool_write_buffer(m, holder, pinned.buffer, from_of(k) + SPAN, bytes, SPAN, position);
+    return (int)(wrong | bufpool_unpin_buffer(m, holder, pinned.buffer));
 }
 
 static int by_blob(size_t k)

@@ -1,5 +1,5 @@
 """refusals.py HEADER CALLS PAGE TEXT..: that the table of the page CALLS gives each call the numbers that the comment before its prototype
-in HEADER does ("Refuses with 1, 2, 7, 8."), in the same order; that the runs of numbers behind "with" in PAGE are those of its helpers'
+in HEADER does ("Refuses with 1, 2, 19, 7, 8."), in the same order; that the runs of numbers behind "with" in PAGE are those of its helpers'
 calls; and that every such run in PAGE or a text stands in the order in which HEADER has its constants, number by number. Prints what is
 wrong; status 1 if anything is."""
 import re
@@ -8,7 +8,8 @@ import sys
 RUN = re.compile(r'\bwith\s+(\d+(?:,\s+\d+)+)')
 RANGE = re.compile(r'\bwith\s+(?:\d+,\s+)*\d+ to \d+')
 # the calls that refuse with several numbers, in the order in which PAGE has its helpers
-HELPED = ['set_up', 'extend', 'drop', 'pin', 'unpin', 'read', 'write', 'flush', 'checkpoint', 'peek', 'log_inserted', 'log_flushed']
+HELPED = ['set_up', 'extend', 'drop', 'pin', 'unpin', 'give_back', 'read', 'write', 'flush', 'checkpoint', 'peek', 'log_inserted',
+          'log_flushed']
 
 
 def read(path):
@@ -51,7 +52,7 @@ def main(header, calls, page, texts):
                 wrong.append('%s: not in the order of the places: %s' % (text, ' '.join(run.split())))
         wrong += ['%s: not number by number: %s' % (text, ' '.join(one.split())) for one in RANGE.findall(read(text))]
     print('\n'.join(wrong))
-    return bool(wrong) or len(said) != 12 or len(order) < 18 or runs < 20
+    return bool(wrong) or len(said) != 13 or len(order) < 19 or runs < 20
 
 
 sys.exit(main(*sys.argv[1:4], sys.argv[4:]))

@@ -39,6 +39,13 @@ static bool rows_hold(void)
     return true;
 }
 
+/* slips 54 and 55 permit one too many or too few, the last of which is then taken for 0 */
+static bool counts_fit(void)
+{
+    size_t many = HOLDERS * n;
+    return m.counts_len == many || (SLIP == 54 && m.counts_len == many + 1) || (SLIP == 55 && m.counts_len + 1 == many);
+}
+
 static bool sizes_hold(void)
 {
     bool record = m.control_len == CONTROL_WORDS || (m.control_len == CONTROL_WORDS + 1 && SLIP == 28) ||
@@ -49,7 +56,7 @@ static bool sizes_hold(void)
     bool buckets = (n <= m.heads_len || (m.heads_len > 0 && SLIP == 25)) && m.heads_len <= (SLIP == 26 ? 4097 : 4096);
     return (m.answer_len == ANSWER_WORDS || SLIP == 23) && permitted && (n >= 1 || SLIP == 24) && n <= 1024 && buckets &&
            m.names_len == NAME_WORDS * n && m.pool_len == n * p && m.free_len == n && m.chain_len == n && rows_hold() &&
-           (m.store_len == capacities() * p || SLIP == 7);
+           (m.store_len == capacities() * p || SLIP == 7) && counts_fit();
 }
 
 /* with slip 46 a record without the word is taken for one of the bench's cap */
@@ -148,6 +155,33 @@ static bool chain_holds(size_t b)
     return true;
 }
 
+/* a holder's private count of a buffer */
+static uint16_t count(size_t i, size_t h)
+{
+    size_t at = SLIP == 53 ? h * n + i : i * HOLDERS + h;
+    return at < m.counts_len ? m.counts[at] : 0;
+}
+
+static bool has_pin(size_t i, size_t h)
+{
+    if (SLIP == 57) return (uint8_t)count(i, h) != 0;
+    return SLIP == 58 ? (int16_t)count(i, h) > 0 : count(i, h) != 0;
+}
+
+static bool counts_hold(size_t i)
+{
+    uint32_t holders = 0, sum = 0, pins = m.states[i] & (SLIP == 59 ? 0xFFFF : 0x3FFFF);
+    for (size_t h = SLIP == 50; h < HOLDERS - (SLIP == 49); h++) {
+        holders += has_pin(i, h);
+        sum += count(i, h);
+    }
+    if (SLIP == 48 || (SLIP == 51 && empty(i))) return true;
+    if (SLIP == 56) return pins % HOLDERS == holders % HOLDERS;
+    if (SLIP == 60) return pins >= holders;
+    if (SLIP == 61) return pins <= holders;
+    return pins == (SLIP == 52 ? sum : holders);
+}
+
 static bool books_hold(void)
 {
     uint64_t hand = SLIP == 36 ? (uint32_t)m.control[CONTROL_HAND] : m.control[CONTROL_HAND];
@@ -155,7 +189,7 @@ static bool books_hold(void)
     if (!free_holds()) return false;
     for (size_t i = 0; i < n; i++) bucket_of[i] = name_hash(m.names + NAME_WORDS * i) % m.heads_len;
     for (size_t i = 0; i < n; i++) {
-        if (!word_holds(i) || !name_holds(i) || !page_holds(i)) return false;
+        if (!word_holds(i) || !name_holds(i) || !page_holds(i) || !counts_hold(i)) return false;
         if (empty(i) && m.chain[i] != -1 && SLIP != 19) return false;
     }
     for (size_t b = 0; b < m.heads_len; b++)
@@ -166,11 +200,12 @@ static bool books_hold(void)
 uint32_t judge(const uint64_t *control, size_t control_len, const uint32_t *states, size_t states_len, const uint32_t *names,
                size_t names_len, const uint8_t *pool, size_t pool_len, const int32_t *free, size_t free_len, const int32_t *heads,
                size_t heads_len, const int32_t *chain, size_t chain_len, const uint32_t *rows, size_t rows_len, const uint8_t *store,
-               size_t store_len, const uint64_t *answer, size_t answer_len)
+               size_t store_len, const uint16_t *counts, size_t counts_len, const uint64_t *answer, size_t answer_len)
 {
     m = (struct memory){(uint64_t *)control, (uint64_t *)answer, (uint32_t *)states, (uint32_t *)names, (uint32_t *)rows,
                         (int32_t *)free, (int32_t *)heads, (int32_t *)chain, (uint8_t *)pool, (uint8_t *)store,
-                        control_len, answer_len, states_len, names_len, rows_len, free_len, heads_len, chain_len, pool_len, store_len};
+                        (uint16_t *)counts, control_len, answer_len, states_len, names_len, rows_len, free_len, heads_len, chain_len,
+                        pool_len, store_len, counts_len};
     n = states_len;
     files = rows_len / ROW_WORDS;
     if (!sizes_hold()) return SLIP == 20 ? 2 : 1;

@@ -34,6 +34,12 @@ uint64_t bad_cap(void)
     return caps[random_below(sizeof caps / sizeof *caps)];
 }
 
+uint16_t some_count(void)
+{
+    static const uint16_t counts[] = {1, 1, 2, 3, 255, 256, 32768, MOST_COUNT - 1, MOST_COUNT, MOST_COUNT};
+    return counts[random_below(sizeof counts / sizeof *counts)];
+}
+
 uint32_t name_hash(const uint32_t *name)
 {
     uint32_t h = 2166136261u;
@@ -95,6 +101,7 @@ void memory_new(struct memory *m, const struct shape *most)
     ends.chain = area_end(n * sizeof *ends.chain);
     ends.pool = area_end(n * most->page);
     ends.store = area_end(most->files * most->capacity * most->page + 1);
+    ends.counts = area_end(HOLDERS * n * sizeof *ends.counts);
 }
 
 #define PLACE(m, part) ((m)->part = ends.part - (m)->part##_len)
@@ -111,6 +118,7 @@ static void place_all(struct memory *m)
     PLACE(m, chain);
     PLACE(m, pool);
     PLACE(m, store);
+    PLACE(m, counts);
 }
 
 static void put_position(uint8_t *page, uint64_t position)
@@ -140,16 +148,32 @@ static void name_page(struct memory *m, const struct shape *s, size_t k, uint32_
     name[NAME_BLOCK] = (uint32_t)(block % s->capacity);
 }
 
+/* mostly none or few; now and then all or nearly all */
+static uint32_t some_holders(void)
+{
+    return random_below(12) == 0 ? HOLDERS - random_below(3) : random_below(3);
+}
+
+/* so many holders have pins on the buffer: neighbours from any one on, or from the first or the last */
+static void fill_counts(struct memory *m, size_t i, uint32_t holders)
+{
+    const uint32_t firsts[] = {0, HOLDERS - 1, random_below(HOLDERS)};
+    uint32_t first = firsts[random_below(3)];
+    for (uint32_t k = 0; k < holders; k++) m->counts[HOLDERS * i + (first + k) % HOLDERS] = some_count();
+}
+
 static void fill_buffer(struct memory *m, const struct shape *s, size_t i, size_t k)
 {
     uint32_t *name = m->names + NAME_WORDS * i;
+    uint32_t holders = some_holders();
     int is_dirty = random_below(100) < s->dirty;
     name_page(m, s, k, name);
     int32_t *head = m->heads + name_hash(name) % m->heads_len;
     m->chain[i] = *head;
     *head = (int32_t)i;
     m->free[i] = -2;
-    m->states[i] = (is_dirty ? 590u : 524u) << 22 | random_below(s->cap + 1) << 18 | random_below(3);
+    m->states[i] = (is_dirty ? 590u : 524u) << 22 | random_below(s->cap + 1) << 18 | holders;
+    fill_counts(m, i, holders);
     uint64_t inserted = m->control[CONTROL_INSERTED], below = random_below(1000);
     put_position(m->pool + i * s->page, is_dirty ? inserted - (below < inserted ? below : inserted) : inserted - 500 + below);
 }
@@ -159,7 +183,7 @@ void memory_fill(struct memory *m, const struct shape *s)
     size_t n = s->buffers, k = 0, pages = s->files * s->capacity;
     *m = (struct memory){.control_len = CONTROL_WORDS, .answer_len = ANSWER_WORDS, .states_len = n, .names_len = NAME_WORDS * n,
                          .rows_len = ROW_WORDS * s->files, .free_len = n, .heads_len = s->buckets, .chain_len = n,
-                         .pool_len = n * s->page, .store_len = pages * s->page};
+                         .pool_len = n * s->page, .store_len = pages * s->page, .counts_len = HOLDERS * n};
     place_all(m);
     uint64_t inserted = s->log + 1 + random_below(1000), hand = n == 0 ? 0 : random_below((uint32_t)n);
     uint64_t flushed = inserted - random_below((uint32_t)(inserted - s->log) + 1);
@@ -169,6 +193,7 @@ void memory_fill(struct memory *m, const struct shape *s)
     memset(m->answer, 0, ANSWER_WORDS * sizeof *m->answer);
     memset(m->states, 0, n * sizeof *m->states);
     memset(m->names, 0, NAME_WORDS * n * sizeof *m->names);
+    memset(m->counts, 0, HOLDERS * n * sizeof *m->counts);
     memset(m->chain, 255, n * sizeof *m->chain);
     memset(m->heads, 255, s->buckets * sizeof *m->heads);
     fill_rows(m, s);
@@ -192,8 +217,8 @@ static int32_t some_link(size_t n)
 static void damage_length(struct memory *m)
 {
     size_t *lengths[] = {&m->control_len, &m->answer_len, &m->states_len, &m->names_len, &m->rows_len,
-                         &m->free_len, &m->heads_len, &m->chain_len, &m->pool_len, &m->store_len};
-    size_t *length = lengths[random_below(10)];
+                         &m->free_len, &m->heads_len, &m->chain_len, &m->pool_len, &m->store_len, &m->counts_len};
+    size_t *length = lengths[random_below(11)];
     uint64_t control[CONTROL_WORDS + 1] = {0};
     memcpy(control, m->control, m->control_len * sizeof *control);
     if (random_below(2) && *length > 0) --*length;
@@ -266,11 +291,39 @@ static void damage_buffer(struct memory *m, unsigned kind)
     }
 }
 
+/* a word that counts one too many or too few, or 64; counts that are none, or too many; and changes that leave the holders as many */
+static void damage_counts(struct memory *m, unsigned kind)
+{
+    size_t n = m->states_len;
+    if (n == 0) return;
+    size_t i = random_below((uint32_t)n), j = random_below((uint32_t)n);
+    uint16_t *own = m->counts + HOLDERS * i, *count = own + random_below(HOLDERS), *other = own + random_below(HOLDERS), kept[HOLDERS];
+    switch (kind) {
+    case 0: m->states[i] += 1; break;
+    case 1: m->states[i] -= 1; break;
+    case 2: m->states[i] ^= HOLDERS; break;
+    case 3: *count = *count == 0 ? some_count() : 0; break;
+    case 4: *count = MOST_COUNT; break;
+    case 5: own[HOLDERS - 1] ^= some_count(); break;
+    case 6:
+        memcpy(kept, own, sizeof kept);
+        memcpy(own, m->counts + HOLDERS * j, sizeof kept);
+        memcpy(m->counts + HOLDERS * j, kept, sizeof kept);
+        break;
+    default:
+        kept[0] = *count;
+        *count = *other;
+        *other = kept[0];
+        break;
+    }
+}
+
 void memory_damage(struct memory *m, unsigned kind)
 {
     if (kind < 15) damage_buffer(m, kind);
     else if (kind < 24) damage_control(m, kind - 15);
     else if (kind < 31) damage_rows(m, kind - 24);
+    else if (kind < DAMAGES - 1) damage_counts(m, kind - 31);
     else damage_length(m);
 }
 

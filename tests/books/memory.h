@@ -11,7 +11,8 @@ struct memory {
     uint32_t *states, *names, *rows;
     int32_t *free, *heads, *chain;
     uint8_t *pool, *store;
-    size_t control_len, answer_len, states_len, names_len, rows_len, free_len, heads_len, chain_len, pool_len, store_len;
+    uint16_t *counts;
+    size_t control_len, answer_len, states_len, names_len, rows_len, free_len, heads_len, chain_len, pool_len, store_len, counts_len;
 };
 
 /* Room for a control record that is too long, in words. */
@@ -31,11 +32,11 @@ struct shape {
 #define LENT(m)                                                                                                          \
     (m)->control, (m)->control_len, (m)->states, (m)->states_len, (m)->names, (m)->names_len, (m)->pool, (m)->pool_len, \
         (m)->free, (m)->free_len, (m)->heads, (m)->heads_len, (m)->chain, (m)->chain_len, (m)->rows, (m)->rows_len,     \
-        (m)->store, (m)->store_len, (m)->answer, (m)->answer_len
+        (m)->store, (m)->store_len, (m)->counts, (m)->counts_len, (m)->answer, (m)->answer_len
 
 typedef uint32_t check_fn(const uint64_t *, size_t, const uint32_t *, size_t, const uint32_t *, size_t, const uint8_t *, size_t,
                           const int32_t *, size_t, const int32_t *, size_t, const int32_t *, size_t, const uint32_t *, size_t,
-                          const uint8_t *, size_t, const uint64_t *, size_t);
+                          const uint8_t *, size_t, const uint16_t *, size_t, const uint64_t *, size_t);
 
 void seed_random(uint64_t seed);
 uint32_t random_below(uint32_t n);
@@ -43,6 +44,9 @@ uint32_t random_below(uint32_t n);
 /* A cap that is permitted, mostly one at the edges or the bench's; and one that is not: beyond an edge, or permitted in its low bits. */
 uint32_t some_cap(void);
 uint64_t bad_cap(void);
+
+/* A private count that is not 0: mostly a small one, now and then the greatest, or one with zeros for its low bits. */
+uint16_t some_count(void);
 
 /* The hash of a page name. */
 uint32_t name_hash(const uint32_t *name);
@@ -61,7 +65,7 @@ struct shape memory_shape(void);
 
 /* The number of kinds of damage, and one of them done: it may leave the memory sound. After the last kind, which changes a length, no
    other is done. */
-#define DAMAGES 32
+#define DAMAGES 40
 void memory_damage(struct memory *m, unsigned kind);
 
 /* Nothing done, one kind or, now and then, two. */

@@ -6,6 +6,7 @@ struct given {
     struct bufpool_file file;
     struct bufpool_name name;
     struct bufpool_buffer buffer;
+    struct bufpool_holder holder;
     struct bufpool_pinned pinned;
     struct bufpool_part part;
     uint64_t number, answer[BUFPOOL_ANSWER_WORDS];

@@ -8,7 +8,7 @@ _Static_assert(sizeof(size_t) == 4, "pointers of 32 bits");
 /* A checkpoint, and names from bytes, by their types. */
 typedef uint32_t checkpoint(uint64_t *, uint64_t, uint32_t *, uint64_t, const uint32_t *, uint64_t, const uint8_t *, uint64_t,
                             const int32_t *, uint64_t, const int32_t *, uint64_t, const int32_t *, uint64_t, const uint32_t *, uint64_t,
-                            uint8_t *, uint64_t, uint64_t *, uint64_t);
+                            uint8_t *, uint64_t, const uint16_t *, uint64_t, uint64_t *, uint64_t);
 typedef uint32_t name(const uint8_t *, uint64_t, uint32_t *, uint64_t);
 
 extern checkpoint *const a_checkpoint;

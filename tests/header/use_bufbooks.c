@@ -11,21 +11,27 @@ static uint64_t control[CONTROL_WORDS] = {PAGE, 0, 0, 100, 100, 5}, answer[ANSWE
 static uint32_t states[BUFFERS], names[NAME_WORDS * BUFFERS], rows[ROW_WORDS];
 static int32_t links[BUFFERS] = {-1}, heads[BUCKETS] = {-1}, chain[BUFFERS] = {-1};
 static uint8_t pool[PAGE], store[1];
+static uint16_t counts[HOLDERS * BUFFERS];
 
-/* one empty buffer, one bucket, no file; so many words of names */
-static uint32_t check(uint64_t names_len)
+/* one empty buffer, one bucket, no file; so many words of names and private counts */
+static uint32_t check(uint64_t names_len, uint64_t counts_len)
 {
     return bufbooks_check(control, CONTROL_WORDS, states, BUFFERS, names, names_len, pool, sizeof pool, links, BUFFERS, heads, BUCKETS,
-                          chain, BUFFERS, rows, 0, store, 0, answer, ANSWER_WORDS);
+                          chain, BUFFERS, rows, 0, store, 0, counts, counts_len, answer, ANSWER_WORDS);
 }
 
 int main(void)
 {
-    uint32_t sound = check(NAME_WORDS), sizes = check(NAME_WORDS - 1), books, cap;
+    uint32_t sound = check(NAME_WORDS, HOLDERS), sizes = check(NAME_WORDS - 1, HOLDERS), fewer = check(NAME_WORDS, HOLDERS - 1);
+    uint32_t books, cap, pinned;
     control[CONTROL_TOP] = (uint64_t)1 << 32;
-    books = check(NAME_WORDS);
+    books = check(NAME_WORDS, HOLDERS);
     control[CONTROL_TOP] = 0;
     control[CONTROL_CAP] = 0;
-    cap = check(NAME_WORDS);
-    return sound == BUFBOOKS_SOUND && sizes == BUFBOOKS_SIZES && books == BUFBOOKS_BOOKS && cap == BUFBOOKS_BOOKS ? 0 : 1;
+    cap = check(NAME_WORDS, HOLDERS);
+    control[CONTROL_CAP] = 5;
+    counts[HOLDERS - 1] = 1;
+    pinned = check(NAME_WORDS, HOLDERS);
+    if (sound != BUFBOOKS_SOUND || sizes != BUFBOOKS_SIZES || fewer != BUFBOOKS_SIZES) return 1;
+    return books == BUFBOOKS_BOOKS && cap == BUFBOOKS_BOOKS && pinned == BUFBOOKS_BOOKS ? 0 : 1;
 }

@@ -1,5 +1,6 @@
 /* Document 01's pages on the bench, through the library's calls: N = 3, B = 3, P = 1024, log 100, cap 5; one file (1663, 5, 16384, 0)
-   with 4 blocks of zeros, capacity 5. Every expected number is the document's. Prints a line for each case, then the counts. */
+   with 4 blocks of zeros, capacity 5; holder 0 unless a case says otherwise. Every expected number is the document's. Prints a line for
+   each case, then the counts. */
 #include "buftag.h"
 #include "expect.h"
 #include "named.h"
@@ -10,8 +11,9 @@ static uint64_t control[CONTROL_WORDS], answer[ANSWER_WORDS];
 static uint32_t states[3], names[3 * NAME_WORDS], rows[ROW_WORDS];
 static int32_t free_links[3], heads[3], chain[3];
 static uint8_t pool[3 * 1024], store[5 * 1024];
+static uint16_t counts[3 * HOLDERS];
 static struct bufpool m = {control, CONTROL_WORDS, states, 3, names, 3 * NAME_WORDS, pool, sizeof pool, free_links, 3,
-                           heads, 3, chain, 3, rows, ROW_WORDS, store, sizeof store};
+                           heads, 3, chain, 3, rows, ROW_WORDS, store, sizeof store, counts, 3 * HOLDERS};
 
 static void expect_answer(uint64_t a, uint64_t b, uint64_t c, uint64_t d)
 {
@@ -33,35 +35,46 @@ static void set_up(uint64_t log)
     memset(chain, 0x5A, sizeof chain);
     memset(pool, 0x5A, sizeof pool);
     memset(store, 0, sizeof store);
+    memset(counts, 0x5A, sizeof counts);
     memset(control, 0x5A, sizeof control);
     memset(answer, 0x5A, sizeof answer);
     expect("set up", DO(set_up)(BUFPOOL_LENT(&m), 1024, log, 5, answer, ANSWER_WORDS), 0);
     expect_answer(0, 0, 0, 0);
 }
 
-static uint32_t pin(uint32_t block)
+static uint32_t pin_by(uint64_t holder, uint32_t block)
 {
     memset(answer, 0x5A, sizeof answer);
-    return DO(pin)(BUFPOOL_LENT(&m), 1663, 5, 16384, 0, block, answer, ANSWER_WORDS);
+    return DO(pin)(BUFPOOL_LENT(&m), holder, 1663, 5, 16384, 0, block, answer, ANSWER_WORDS);
+}
+
+static uint32_t unpin_by(uint64_t holder, uint64_t buffer)
+{
+    memset(answer, 0x5A, sizeof answer);
+    return DO(unpin)(BUFPOOL_LENT(&m), holder, buffer, answer, ANSWER_WORDS);
+}
+
+static uint32_t pin(uint32_t block)
+{
+    return pin_by(0, block);
 }
 
 static uint32_t unpin(uint64_t buffer)
 {
-    memset(answer, 0x5A, sizeof answer);
-    return DO(unpin)(BUFPOOL_LENT(&m), buffer, answer, ANSWER_WORDS);
+    return unpin_by(0, buffer);
 }
 
 static uint32_t write_bytes(uint64_t buffer, uint64_t from, size_t length, uint64_t position)
 {
     static const uint8_t bytes[8] = {1, 2, 3, 4, 5, 6, 7, 8};
     memset(answer, 0x5A, sizeof answer);
-    return DO(write)(BUFPOOL_LENT(&m), buffer, from, bytes, length, position, answer, ANSWER_WORDS);
+    return DO(write)(BUFPOOL_LENT(&m), 0, buffer, from, bytes, length, position, answer, ANSWER_WORDS);
 }
 
 static uint32_t read_bytes(uint64_t buffer, uint64_t from, uint8_t *out, size_t length)
 {
     memset(answer, 0x5A, sizeof answer);
-    return DO(read)(BUFPOOL_LENT(&m), buffer, from, out, length, answer, ANSWER_WORDS);
+    return DO(read)(BUFPOOL_LENT(&m), 0, buffer, from, out, length, answer, ANSWER_WORDS);
 }
 
 static uint32_t extend(void)
@@ -87,7 +100,7 @@ static void unpin_three(void)
 
 static void case_set_up(void)
 {
-    begin("set up: free list 0, 1, 2, hand 0, both positions 100, cap 5, chains and buffers empty");
+    begin("set up: free list 0, 1, 2, hand 0, both positions 100, cap 5, chains and buffers empty, private counts 0");
     set_up(100);
     const uint64_t record[CONTROL_WORDS] = {1024, 0, 0, 100, 100, 5};
     for (int k = 0; k < CONTROL_WORDS; k++) expect("control word", control[k], record[k]);
@@ -98,6 +111,7 @@ static void case_set_up(void)
         expect("chain link", (uint64_t)chain[k], UINT64_MAX);
     }
     for (int k = 0; k < 3 * NAME_WORDS; k++) expect("name", names[k], 0);
+    for (int k = 0; k < 3 * HOLDERS; k++) expect("private count", counts[k], 0);
     expect("pool byte", pool[0], 0x5A);
     end();
 }
@@ -130,6 +144,7 @@ static void case_c(void)
     begin("C: blocks 0, 1, 2 in buffers 0, 1, 2, probes 0, word 0x83040001");
     pin_three();
     for (int i = 0; i < 3; i++) expect("word", states[i], 0x83040001);
+    for (int k = 0; k < 3 * HOLDERS; k++) expect("private count", counts[k], k % HOLDERS == 0);
     expect("top of the free list", control[CONTROL_TOP], UINT64_MAX);
     for (int k = 0; k < 3 * 1024; k++) expect("pool byte", pool[k], 0);
     end();
@@ -162,13 +177,27 @@ static void case_e(void)
 
 static void case_f(void)
 {
-    begin("F: one page pinned six times: 0x83140006");
+    begin("F: one page pinned by six holders: 0x83140006");
+    set_up(100);
+    for (uint64_t h = 0; h < 6; h++) {
+        expect("pin", pin_by(h, 0), 0);
+        expect_answer(0, h > 0, 0, 0);
+    }
+    expect("word", states[0], 0x83140006);
+    for (int h = 0; h < HOLDERS; h++) expect("private count", counts[h], h < 6);
+    end();
+}
+
+static void case_f_alone(void)
+{
+    begin("F: one page pinned six times by one holder: 0x83040001, private count 6");
     set_up(100);
     for (int k = 0; k < 6; k++) {
         expect("pin", pin(0), 0);
         expect_answer(0, k > 0, 0, 0);
     }
-    expect("word", states[0], 0x83140006);
+    expect("word", states[0], 0x83040001);
+    for (int h = 0; h < HOLDERS; h++) expect("private count", counts[h], h == 0 ? 6 : 0);
     end();
 }
 
@@ -184,10 +213,10 @@ static void case_g(void)
 
 static void case_h(void)
 {
-    begin("H: buffers 0, 1 pinned, 2 unpinned with usage 5, hand 0: probes 18");
+    begin("H: buffers 0, 1 pinned, 2 pinned by five holders and unpinned, so with usage 5, hand 0: probes 18");
     pin_three();
-    for (int k = 0; k < 4; k++) expect("pin", pin(2), 0);
-    for (int k = 0; k < 5; k++) expect("unpin", unpin(2), 0);
+    for (uint64_t h = 1; h < 5; h++) expect("pin", pin_by(h, 2), 0);
+    for (uint64_t h = 0; h < 5; h++) expect("unpin", unpin_by(h, 2), 0);
     expect("word before", states[2], 0x83140000);
     expect("hand before", control[CONTROL_HAND], 0);
     expect("pin", pin(3), 0);
@@ -262,7 +291,7 @@ static void case_extend(void)
 
 int main(void)
 {
-    void (*const cases[])(void) = {case_set_up, case_a, case_b, case_c, case_d, case_e,      case_f,
-                                   case_g,      case_h, case_i, case_j, case_ranges, case_extend};
+    void (*const cases[])(void) = {case_set_up,  case_a, case_b, case_c, case_d, case_e,      case_f,
+                                   case_f_alone, case_g, case_h, case_i, case_j, case_ranges, case_extend};
     return run_cases(cases, sizeof cases / sizeof *cases);
 }

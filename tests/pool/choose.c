@@ -2,26 +2,65 @@
 #include "generate.h"
 #include <string.h>
 
-/* set up, pin, unpin, read, write, flush, checkpoint, peek, extend, drop, log inserted, log flushed, checksum */
+/* set up, pin, unpin, read, write, flush, give back, checkpoint, peek, extend, drop, log inserted, log flushed, checksum */
 static const unsigned moods[][CALLS] = {
-    {0, 30, 25, 6, 14, 4, 2, 5, 5, 2, 4, 4, 0},   /* of everything */
-    {0, 60, 8, 4, 12, 3, 1, 4, 4, 1, 2, 2, 0},    /* many pins */
-    {0, 30, 24, 2, 34, 3, 1, 2, 2, 1, 3, 2, 0},   /* many dirty pages */
-    {0, 24, 24, 4, 14, 6, 6, 8, 16, 6, 4, 4, 0},  /* files come and go */
-    {4, 24, 10, 8, 16, 10, 6, 10, 8, 10, 6, 6, 4} /* after memory that was built */
+    {0, 30, 25, 6, 14, 4, 2, 2, 5, 5, 2, 4, 4, 0},   /* of everything */
+    {0, 60, 8, 4, 12, 3, 1, 1, 4, 4, 1, 2, 2, 0},    /* many pins */
+    {0, 30, 24, 2, 34, 3, 2, 1, 2, 2, 1, 3, 2, 0},   /* many dirty pages */
+    {0, 24, 16, 4, 14, 6, 8, 6, 8, 16, 6, 4, 4, 0},  /* files come and go, and holders */
+    {4, 24, 10, 8, 16, 10, 8, 6, 10, 8, 10, 6, 6, 4} /* after memory that was built */
 };
 #define EVEN (sizeof moods / sizeof *moods - 1)
 
 static const unsigned *mood = moods[0];
 
+/* the holders of the requests to come: few, so that they meet on pages */
+static uint32_t holders[4] = {0, 1, 2, HOLDERS - 1};
+
+static void new_holders(void)
+{
+    for (size_t k = 0; k < 4; k++) holders[k] = random_below(HOLDERS);
+    if (random_below(2) == 0) holders[0] = 0;
+    if (random_below(2) == 0) holders[3] = HOLDERS - 1;
+}
+
+/* one of the few; now and then any, or a number beyond all */
+static uint64_t some_holder(void)
+{
+    const uint64_t beyond[] = {HOLDERS, HOLDERS, HOLDERS + 1, 2 * HOLDERS, 256 + holders[0], 1ull << 32, (1ull << 32) + holders[1],
+                               1ull << 63, (1ull << 63) + holders[2], UINT64_MAX, UINT64_MAX - HOLDERS + 1};
+    if (random_below(24) == 0) return beyond[random_below(sizeof beyond / sizeof *beyond)];
+    return random_below(12) == 0 ? random_below(HOLDERS) : holders[random_below(4)];
+}
+
+/* mostly a holder that has a pin on the buffer, or that has none */
+static uint64_t holder_on(uint64_t buffer, bool has)
+{
+    uint32_t start = random_below(HOLDERS), k = 0;
+    if (buffer >= twin.states_len || random_below(6) == 0) return some_holder();
+    const uint16_t *own = twin.counts + HOLDERS * buffer;
+    while (k < HOLDERS && (own[(start + k) % HOLDERS] != 0) != has) k++;
+    return k < HOLDERS ? (start + k) % HOLDERS : some_holder();
+}
+
+/* for a pin: of a page that is held now and then one that has pins on it, or one that has none */
+static uint64_t holder_for(const uint32_t *name)
+{
+    size_t i = 0;
+    while (i < twin.states_len && memcmp(twin.names + NAME_WORDS * i, name, NAME_WORDS * sizeof *name) != 0) i++;
+    return random_below(3) == 0 ? some_holder() : holder_on(i, random_below(2) == 0);
+}
+
 void new_mood(void)
 {
     mood = moods[random_below(EVEN)];
+    if (random_below(4) == 0) new_holders();
 }
 
 void even_mood(void)
 {
     mood = moods[EVEN];
+    new_holders();
 }
 
 static bool none_pinned(void)
@@ -173,6 +212,7 @@ void request_of(struct request *q, enum call call)
     case DROP: some_name(q->name); break;
     case UNPIN:
     case FLUSH: q->buffer = some_buffer(); break;
+    case GIVE_BACK:
     case READ:
     case WRITE:
         q->buffer = some_buffer();
@@ -190,6 +230,9 @@ void request_of(struct request *q, enum call call)
         q->page_size = some_page_size();
         q->cap = random_below(6) == 0 ? bad_cap() : some_cap();
     }
+    if (call == PIN) q->holder = holder_for(q->name);
+    else if (call == GIVE_BACK) q->holder = some_holder();
+    else if (NAMES_HOLDER(call)) q->holder = holder_on(q->buffer, true);
     random_fill(twin_own, q->own_len);
     if (random_below(8) == 0) memset(twin_own, random_below(4) == 0 ? 255 : 0, q->own_len);
 }

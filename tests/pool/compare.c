@@ -1,9 +1,11 @@
 /* compare SEED CALLS [WAY PART]: the library and the model make the same calls on the same memory, and after each their results and all
-   that was lent are compared; over lists of calls the plain shelf is compared too. Prints how often each number and each event came up;
-   on the first difference prints what it is and ends with status 1. With WAY and PART each call touches a slice wrongly, which must be
-   noticed. */
+   that was lent are compared; holders' pins are looked at, and over lists of calls the plain shelf is compared too. Prints how often each
+   number and each event came up; on the first difference prints what it is and ends with status 1. With WAY and PART each call touches a
+   slice wrongly, which must be noticed. */
 #define _GNU_SOURCE
+#include "events.h"
 #include "generate.h"
+#include "isolation.h"
 #include "model.h"
 #include "print.h"
 #include "shelf.h"
@@ -13,29 +15,13 @@
 #include <string.h>
 #include <unistd.h>
 
-enum event {
-    HIT, AT_CAP, ABOVE_FIVE, FREE_LIST, SWEPT, ROUNDS, SEVENTH, LONGEST, WROTE, FLUSHED, SEVERAL, PEEKED_POOL, PEEKED_STORE, EXTENDED,
-    DROPPED, BAD_PINNED, BAD_PEEKED, SUMMED, SIZES_FIRST, CAP_UNSOUND, EVENTS
-};
-static const char *const event_names[EVENTS] = {
-    "pin, hit", "pin, hit with usage = cap", "pin, usage raised above 5", "pin, from the free list", "pin, two probes or more",
-    "pin, more probes than buffers", "pin, more than six probes per buffer", "pin, cap + 1 probes per buffer", "pin, wrote", "flush, wrote",
-    "checkpoint, wrote two or more", "peek, pool", "peek, store", "extend, accepted", "drop, buffers emptied",
-    "pin, 17 with every buffer pinned", "peek, 17", "checksum, accepted", "set up, 1 with a cap that is not permitted",
-    "2 with a cap that is not permitted"};
-
-enum { MOST_REFUSAL = 18 };
-static unsigned long refusals[MOST_REFUSAL + 1], events[EVENTS], pins_at[MOST_CAP + 1], calls;
-
-/* before the call: top of the free list, state words */
-static uint64_t top_before;
-static uint32_t words_before[1032];
-
 /* where we are, for what is said of a difference */
 static const char *work;
 static unsigned long seed, item, step;
 static const struct request *current;
-static volatile sig_atomic_t in_library;
+/* who is at work: a fault of the comparison itself is no difference */
+enum { COMPARISON, LIBRARY, MODEL };
+static volatile sig_atomic_t at_work;
 
 static void say_where(void)
 {
@@ -50,68 +36,17 @@ static void end_different(void)
     _exit(1);
 }
 
-/* The library touched a page beside its slices, or wrote to a slice that is const. */
+/* The library touched a page beside its slices, or wrote to a slice that is const; or the model went on with memory that is unsound. */
 static void on_fault(int signal_number)
 {
     (void)signal_number;
     say_where();
-    printf(in_library ? "the library touched memory that it was not lent, or wrote to a slice that is const in the header\n"
-                      : "a fault, but not in the library\n");
-    end_different();
-}
-
-static bool is_cap(uint64_t cap)
-{
-    return cap >= LEAST_CAP && cap <= MOST_CAP;
-}
-
-static void count_pin(const uint64_t *answer)
-{
-    uint64_t n = twin.states_len, cap = twin.control[CONTROL_CAP], usage = words_before[answer[0]] >> 18 & 15;
-    events[HIT] += answer[1] == 1;
-    events[AT_CAP] += answer[1] == 1 && usage == cap;
-    events[ABOVE_FIVE] += answer[1] == 1 && usage >= 5 && usage < cap;
-    events[FREE_LIST] += answer[1] == 0 && top_before != UINT64_MAX;
-    events[SWEPT] += answer[3] >= 2;
-    events[ROUNDS] += answer[3] > n;
-    events[SEVENTH] += answer[3] > 6 * n;
-    events[LONGEST] += answer[3] == (cap + 1) * n;
-    events[WROTE] += answer[2] == 1;
-    if (is_cap(cap)) pins_at[cap]++;
-}
-
-static bool every_buffer_pinned(void)
-{
-    for (size_t i = 0; i < twin.states_len; i++)
-        if ((twin.states[i] & 0x3FFFF) == 0) return false;
-    return true;
-}
-
-static void count_refused(const struct request *q, uint32_t result)
-{
-    if (result == 17) events[q->call == PEEK ? BAD_PEEKED : BAD_PINNED] += q->call == PEEK || every_buffer_pinned();
-    events[SIZES_FIRST] += result == 1 && q->call == SET_UP && !is_cap(q->cap);
-    events[CAP_UNSOUND] += result == 2 && !is_cap(twin.control[CONTROL_CAP]);
-}
-
-static void count(const struct request *q, uint32_t result, const uint64_t *answer)
-{
-    calls++;
-    if (result <= MOST_REFUSAL) refusals[result]++;
-    if (result != 0) {
-        count_refused(q, result);
-        return;
-    }
-    switch (q->call) {
-    case PIN: count_pin(answer); break;
-    case FLUSH: events[FLUSHED] += answer[0] == 1; break;
-    case CHECKPOINT: events[SEVERAL] += answer[0] > 1; break;
-    case PEEK: events[answer[0] == 1 ? PEEKED_POOL : PEEKED_STORE]++; break;
-    case EXTEND: events[EXTENDED]++; break;
-    case DROP: events[DROPPED] += twin.control[CONTROL_TOP] != top_before; break;
-    case CHECKSUM: events[SUMMED]++; break;
-    default: break;
-    }
+    printf(at_work == LIBRARY ? "the library touched memory that it was not lent, or wrote to a slice that is const in the header\n"
+           : at_work == MODEL ? "a fault in the model\n"
+                              : "a fault of the comparison\n");
+    if (at_work != COMPARISON) end_different();
+    fflush(stdout);
+    _exit(3);
 }
 
 /* How many parts differ after a call; each is said. */
@@ -130,7 +65,9 @@ static int parts_differ(const struct request *q)
 /* The model makes the call too, and everything is compared. */
 static void compare_model(const struct request *q, uint32_t result)
 {
+    at_work = MODEL;
     uint32_t expected = model_call(&twin, q);
+    at_work = COMPARISON;
     if (result != expected) {
         say_where();
         printf("the result differs: library %u, model %u\n", (unsigned)result, (unsigned)expected);
@@ -138,29 +75,40 @@ static void compare_model(const struct request *q, uint32_t result)
     if (result != expected || parts_differ(q) > 0) end_different();
 }
 
+static void see_isolation(const struct request *q)
+{
+    struct memory after = library_memory();
+    const char *wrong = isolation_after(q, &after);
+    if (wrong == NULL) return;
+    say_where();
+    printf("another holder's pins are not as before: %s\n", wrong);
+    end_different();
+}
+
 static uint32_t make(const struct request *q)
 {
     current = q;
     step++;
-    top_before = twin.control[CONTROL_TOP];
-    memcpy(words_before, twin.states, twin.states_len * sizeof *twin.states);
+    events_before();
+    isolation_before();
     keep_before();
     random_fill(twin.answer, twin.answer_len * sizeof *twin.answer);
     lent_copy_part(ANSWER, twin.answer_len, random_below(4) != 0);
     lent_copy_part(OWN, q->own_len, random_below(4) != 0);
-    in_library = 1;
+    at_work = LIBRARY;
     uint32_t result = library_call(q);
-    in_library = 0;
-    if (shelf_alone) twin_copy();
+    at_work = COMPARISON;
+    if (judges != EVERY) twin_copy();
     else compare_model(q, result);
-    count(q, result, twin.answer);
+    if (result == 0 && judges != SHELF) see_isolation(q);
+    events_count(q, result);
     return result;
 }
 
 static void follow(const struct request *q, uint32_t result)
 {
     struct memory after = library_memory();
-    const char *wrong = shelf_follow(q, library_part(OWN), result, &after);
+    const char *wrong = judges == ISOLATION ? NULL : shelf_follow(q, library_part(OWN), result, &after);
     if (wrong == NULL) return;
     say_where();
     printf("result %u; the shelf says otherwise: %s\n", (unsigned)result, wrong);
@@ -238,23 +186,32 @@ static void run_great(int built, unsigned kind)
     }
 }
 
-/* One page pinned as often as can be, and once more. */
+static void follow_by(enum call call, uint64_t holder)
+{
+    struct request q = {.call = call, .holder = holder, .own = twin_own};
+    memcpy(q.name, twin.rows, FILE_WORDS * sizeof *q.name);
+    follow(&q, make(&q));
+}
+
+/* One page pinned by one holder as often as can be, and once more, while another holder's pins pass; and by all 64. */
 static void run_pins(void)
 {
     struct sizes s = {.n = 1, .buckets = 1, .page_size = 1024, .files = 1, .blocks = {1}, .capacity = {1}, .cap = MOST_CAP,
                       .all_pass = true};
-    struct request q = {.call = PIN, .own = twin_own};
+    static const struct { enum call call; uint64_t holder; } after[] = {
+        {PIN, 6}, {PIN, 5}, {PIN, 6}, {UNPIN, 5}, {PIN, 5}, {PIN, 5}, {UNPIN, 6}, {UNPIN, 6}, {UNPIN, 6}, {PIN, 5}, {PIN, 63},
+        {GIVE_BACK, 5}, {UNPIN, 5}, {PIN, 5}, {GIVE_BACK, 63}, {UNPIN, 63}, {UNPIN, 5}, {UNPIN, 5}};
     work = "pins up to the greatest count";
     set_up_must(&s);
-    memcpy(q.name, twin.rows, FILE_WORDS * sizeof *q.name);
-    for (unsigned k = 0; k < 262145; k++) follow(&q, make(&q));
-    q = (struct request){.call = UNPIN, .own = twin_own};
-    follow(&q, make(&q));
+    for (unsigned k = 0; k <= MOST_COUNT; k++) follow_by(PIN, 5);
+    for (size_t k = 0; k < sizeof after / sizeof *after; k++) follow_by(after[k].call, after[k].holder);
+    for (uint64_t h = 0; h <= HOLDERS; h++) follow_by(PIN, h);
+    for (uint64_t h = 0; h <= HOLDERS; h++) follow_by(h % 2 == 0 ? UNPIN : GIVE_BACK, h);
 }
 
 static void run_item(unsigned long kind)
 {
-    if (kind == 0 || shelf_alone) run_list();
+    if (kind == 0 || judges != EVERY) run_list();
     else if (kind <= 10) run_built(0, 1 + random_below(6));
     else run_built(1, 1 + random_below(2));
 }
@@ -270,12 +227,9 @@ int main(int argc, char **argv)
     lent_new();
     signal(SIGSEGV, on_fault);
     signal(SIGBUS, on_fault);
-    for (; calls < enough; item++, step = 0) run_item(item % 31);
-    for (unsigned k = 0; k < 2 * GREAT_KINDS && !shelf_alone; k++, item++, step = 0) run_great(k % 2, k / 2);
+    for (; events_calls() < enough; item++, step = 0) run_item(item % 31);
+    for (unsigned k = 0; k < 2 * GREAT_KINDS && judges == EVERY; k++, item++, step = 0) run_great(k % 2, k / 2);
     run_pins();
-    for (int k = 0; k <= MOST_REFUSAL; k++) printf("%lu refusal %d\n", refusals[k], k);
-    for (int k = 0; k < EVENTS; k++) printf("%lu %s\n", events[k], event_names[k]);
-    for (int k = LEAST_CAP; k <= MOST_CAP; k++) printf("%lu pins with cap %d\n", pins_at[k], k);
-    printf("%lu calls\n", calls);
+    events_print();
     return 0;
 }

@@ -1,4 +1,4 @@
-/* Damage to sound memory: words, links, bytes, rows and lengths. */
+/* Damage to sound memory: words, counts, links, bytes, rows and lengths. */
 #include "generate.h"
 #include "sum.h"
 #include <string.h>
@@ -20,14 +20,35 @@ static uint32_t any(size_t many)
 static void damage_word(void)
 {
     uint32_t *word = &twin.states[any(twin.states_len)], cap = twin.control[CONTROL_CAP] % 16;
-    switch (random_below(7)) {
+    switch (random_below(8)) {
     case 0: *word ^= 1u << random_below(32); break;
     case 1: *word = (*word & ~(15u << 18)) | (cap + random_below(16 - cap)) << 18; break;
     case 2: *word = 0; break;
     case 3: *word = 0x83040001u; break;
     case 4: *word ^= 1u << 23 | 1u << 28; break;
     case 5: *word = random_below(4); break;
-    default: *word = (uint32_t)random64(); break;
+    case 6: *word = (uint32_t)random64(); break;
+    default: *word ^= 1u << (22 + random_below(10)); break;
+    }
+}
+
+/* a word one too high or low, or by 64; a count that is set, under an empty buffer too, taken away, the greatest, or another holder's */
+static void damage_counts(void)
+{
+    size_t i = any(twin.states_len);
+    uint16_t *own = twin.counts + HOLDERS * i, *count = own + random_below(HOLDERS), *other = own + random_below(HOLDERS), kept = *count;
+    switch (random_below(8)) {
+    case 0: twin.states[i]++; break;
+    case 1: twin.states[i]--; break;
+    case 2: twin.states[i] ^= HOLDERS; break;
+    case 3: *count = *count == 0 ? some_count() : 0; break;
+    case 4: *count = MOST_COUNT; break;
+    case 5: own[HOLDERS - 1] ^= some_count(); break;
+    case 6: twin.counts[any(twin.counts_len)] ^= 1; break;
+    default:
+        *count = *other;
+        *other = kept;
+        break;
     }
 }
 
@@ -138,20 +159,20 @@ static void damage_rows(void)
 static size_t *lengths_of(enum part k)
 {
     size_t *lengths[] = {&twin.control_len, &twin.states_len, &twin.names_len, &twin.pool_len, &twin.free_len,
-                         &twin.heads_len, &twin.chain_len, &twin.rows_len, &twin.store_len, &twin.answer_len};
+                         &twin.heads_len, &twin.chain_len, &twin.rows_len, &twin.store_len, &twin.counts_len, &twin.answer_len};
     return lengths[k];
 }
 
 /* none, one or a few elements less or more; behind the end there is room for them */
 static void damage_length(void)
 {
-    static const size_t units[OWN] = {1, 1, NAME_WORDS, 1024, 1, 1, 1, ROW_WORDS, 1024, 1};
+    static const size_t units[OWN] = {1, 1, NAME_WORDS, 1024, 1, 1, 1, ROW_WORDS, 1024, HOLDERS, 1};
     enum part k = (enum part)random_below(OWN);
     size_t *length = lengths_of(k), less = random_below(2) == 0 ? 1 : units[k];
     switch (random_below(4)) {
     case 0: *length = 0; break;
     case 1: *length -= *length < less ? *length : less; break;
-    case 2: *length += k == POOL || k == STORE || k == HEADS || k == ROWS ? less : 1; break;
+    case 2: *length += k == POOL || k == STORE || k == HEADS || k == ROWS || k == COUNTS ? less : 1; break;
     default: *length = any(*length + 1); break;
     }
 }
@@ -165,6 +186,7 @@ static void damage_lengths(void)
     if (random_below(2) == 0) {
         twin.states_len = twin.free_len = twin.chain_len = n - 1;
         twin.names_len -= NAME_WORDS;
+        twin.counts_len -= HOLDERS;
         twin.pool_len -= p;
     } else if (n * other <= MOST_POOL && twin.store_len / p * other <= MOST_STORE) {
         twin.control[CONTROL_SIZE] = other;
@@ -177,7 +199,7 @@ static void damage_lengths(void)
 static void damage_contents(void)
 {
     static const uint64_t sizes[] = {0, 512, 1023, 2048, 4096, 32768, 65536, (1ull << 32) + 1024};
-    switch (random_below(9)) {
+    switch (random_below(11)) {
     case 0:
     case 1: damage_word(); break;
     case 2: damage_name(); break;
@@ -186,6 +208,8 @@ static void damage_contents(void)
     case 5: damage_control(); break;
     case 6: damage_page(); break;
     case 7: damage_block(); break;
+    case 8:
+    case 9: damage_counts(); break;
     default:
         if (random_below(4) == 0) twin.control[CONTROL_SIZE] = sizes[random_below(8)];
         else damage_rows();

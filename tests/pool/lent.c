@@ -6,11 +6,12 @@
 #include <sys/mman.h>
 #include <unistd.h>
 
-const char *const part_names[PARTS] = {"control", "states", "names", "pool", "free", "heads", "chain", "rows", "store", "answer", "own"};
-const size_t part_sizes[PARTS] = {8, 4, 4, 1, 4, 4, 4, 4, 1, 8, 1};
+const char *const part_names[PARTS] = {"control", "states", "names", "pool", "free", "heads", "chain", "rows", "store",
+                                          "counts", "answer", "own"};
+const size_t part_sizes[PARTS] = {8, 4, 4, 1, 4, 4, 4, 4, 1, 2, 8, 1};
 
-static const size_t most[PARTS] = {8 * MOST_CONTROL, 1032 * 4,       1032 * NAME_BYTES, MOST_POOL, 1032 * 4, 4104 * 4,
-                                   1032 * 4,         66 * ROW_BYTES, MOST_STORE,        8 * 8,     MOST_OWN};
+static const size_t most[PARTS] = {8 * MOST_CONTROL, 1032 * 4,       1032 * NAME_BYTES, MOST_POOL,          1032 * 4, 4104 * 4,
+                                   1032 * 4,         66 * ROW_BYTES, MOST_STORE,        1032 * HOLDERS * 2, 8 * 8,    MOST_OWN};
 
 struct memory twin;
 uint8_t *twin_own;
@@ -48,6 +49,7 @@ static void twin_pointers(void)
     twin.chain = twins[CHAIN];
     twin.rows = twins[ROWS];
     twin.store = twins[STORE];
+    twin.counts = twins[COUNTS];
     twin.answer = twins[ANSWER];
     twin_own = twins[OWN];
 }
@@ -71,7 +73,7 @@ void lent_new(void)
 size_t part_length(enum part k, const struct request *q)
 {
     size_t lengths[PARTS] = {twin.control_len, twin.states_len, twin.names_len, twin.pool_len, twin.free_len, twin.heads_len,
-                             twin.chain_len, twin.rows_len, twin.store_len, twin.answer_len, q == NULL ? 0 : q->own_len};
+                             twin.chain_len, twin.rows_len, twin.store_len, twin.counts_len, twin.answer_len, q == NULL ? 0 : q->own_len};
     return lengths[k];
 }
 
@@ -120,6 +122,7 @@ struct memory library_memory(void)
     m.chain = part_at(CHAIN);
     m.rows = part_at(ROWS);
     m.store = part_at(STORE);
+    m.counts = part_at(COUNTS);
     m.answer = part_at(ANSWER);
     return m;
 }
@@ -128,12 +131,13 @@ struct memory library_memory(void)
 #define SET(k) (1u << (k))
 #define LISTS (SET(CONTROL) | SET(STATES) | SET(NAMES) | SET(FREE) | SET(HEADS) | SET(CHAIN))
 static const unsigned changed[CALLS] = {
-    [SET_UP] = LISTS,
-    [PIN] = LISTS | SET(POOL) | SET(STORE),
-    [UNPIN] = SET(STATES),
+    [SET_UP] = LISTS | SET(COUNTS),
+    [PIN] = LISTS | SET(POOL) | SET(STORE) | SET(COUNTS),
+    [UNPIN] = SET(STATES) | SET(COUNTS),
     [READ] = SET(OWN),
     [WRITE] = SET(STATES) | SET(POOL),
     [FLUSH] = SET(CONTROL) | SET(STATES) | SET(STORE),
+    [GIVE_BACK] = SET(STATES) | SET(COUNTS),
     [CHECKPOINT] = SET(CONTROL) | SET(STATES) | SET(STORE),
     [PEEK] = 0,
     [EXTEND] = SET(ROWS) | SET(STORE),

@@ -6,7 +6,7 @@
 #include "memory.h"
 #include "request.h"
 
-enum part { CONTROL, STATES, NAMES, POOL, FREE, HEADS, CHAIN, ROWS, STORE, ANSWER, OWN, PARTS };
+enum part { CONTROL, STATES, NAMES, POOL, FREE, HEADS, CHAIN, ROWS, STORE, COUNTS, ANSWER, OWN, PARTS };
 
 extern const char *const part_names[PARTS];
 extern const size_t part_sizes[PARTS]; /* of an element, in bytes */
@@ -35,8 +35,10 @@ void *lent_part(enum call call, enum part k);
 /* Asks the library the request on its memory. */
 uint32_t library_call(const struct request *q);
 
-/* Whether the shelf alone judges the calls: then the twin takes over what the library left. */
-extern const int shelf_alone;
+/* What judges the calls: the model, the shelf and isolation, or one of the last two alone. Then the twin takes over what the library
+   left. */
+enum judges { EVERY, SHELF, ISOLATION };
+extern const enum judges judges;
 void twin_copy(void);
 
 /* To see that a wrong touch of a part is noticed: the way, 0 for none, and the part. */

@@ -15,12 +15,13 @@ static struct memory lend(enum call c)
     m.chain = lent_part(c, CHAIN);
     m.rows = lent_part(c, ROWS);
     m.store = lent_part(c, STORE);
+    m.counts = lent_part(c, COUNTS);
     m.answer = lent_part(c, ANSWER);
     return m;
 }
 
 unsigned touch_way, touch_part;
-const int shelf_alone = 0;
+const enum judges judges = EVERY;
 
 /* What a wrong library could do: 1 reads behind the end of a slice, 2 reads before its beginning, 3 writes to it. */
 static void touch(const struct request *q)

@@ -12,6 +12,7 @@ struct lot {
     uint32_t states[N], names[N * NAME_WORDS], rows[FILES * ROW_WORDS];
     int32_t free[N], heads[N], chain[N];
     uint8_t pool[N * P], store[PLACES * P];
+    uint16_t counts[N * HOLDERS + 1]; /* one more, so that the slice can be too long */
 };
 
 static struct lot lot, before;
@@ -19,7 +20,8 @@ static struct memory m = {.control = lot.control, .control_len = CONTROL_WORDS, 
                           .states = lot.states, .states_len = N, .names = lot.names, .names_len = N * NAME_WORDS,
                           .rows = lot.rows, .rows_len = FILES * ROW_WORDS, .free = lot.free, .free_len = N,
                           .heads = lot.heads, .heads_len = N, .chain = lot.chain, .chain_len = N,
-                          .pool = lot.pool, .pool_len = sizeof lot.pool, .store = lot.store, .store_len = sizeof lot.store};
+                          .pool = lot.pool, .pool_len = sizeof lot.pool, .store = lot.store, .store_len = sizeof lot.store,
+                          .counts = lot.counts, .counts_len = N * HOLDERS};
 
 /* Makes a call. A refusal has zeros for an answer of four words; nothing else has changed. */
 static uint32_t ask(struct request q)
@@ -37,16 +39,27 @@ static uint32_t ask_name(enum call call, uint32_t file, uint32_t block)
     return ask((struct request){.call = call, .name = {1663, 5, 16384 + file, 0, block}});
 }
 
-/* The buffer that a page is pinned in. */
+/* The buffer that a page is pinned in by a holder. */
+static uint64_t pin_by(uint64_t holder, uint32_t file, uint32_t block)
+{
+    expect("pin", ask((struct request){.call = PIN, .holder = holder, .name = {1663, 5, 16384 + file, 0, block}}), 0);
+    return lot.answer[0];
+}
+
+static void unpin_by(uint64_t holder, uint64_t buffer)
+{
+    expect("unpin", ask((struct request){.call = UNPIN, .holder = holder, .buffer = buffer}), 0);
+}
+
+/* By holder 0, as all calls that name no other. */
 static uint64_t pin(uint32_t file, uint32_t block)
 {
-    expect("pin", ask_name(PIN, file, block), 0);
-    return lot.answer[0];
+    return pin_by(0, file, block);
 }
 
 static void unpin(uint64_t buffer)
 {
-    expect("unpin", ask((struct request){.call = UNPIN, .buffer = buffer}), 0);
+    unpin_by(0, buffer);
 }
 
 #endif

@@ -44,6 +44,12 @@ static void unpack_list(int64_t link, const int32_t *links, struct list *l)
     for (; link != -1; link = links[link]) list_add(l, (size_t)link);
 }
 
+/* Where the private counts have a holder's of a buffer. */
+static size_t count_at(size_t n, size_t i, size_t holder)
+{
+    return SLIP == 75 ? holder * n + i : i * HOLDERS + holder;
+}
+
 void unpack(const struct memory *m, struct pool *p)
 {
     p->n = m->states_len;
@@ -63,6 +69,7 @@ void unpack(const struct memory *m, struct pool *p)
         unpack_word(m->states[i], &p->buffers[i]);
         memcpy(p->buffers[i].name, m->names + NAME_WORDS * i, sizeof p->buffers[i].name);
         p->buffers[i].page = m->pool + i * p->page_size;
+        for (size_t h = 0; h < HOLDERS; h++) p->buffers[i].counts[h] = m->counts[count_at(p->n, i, h)];
     }
 }
 
@@ -97,6 +104,7 @@ void pack(const struct pool *p, struct memory *m)
     for (size_t i = 0; i < p->n; i++) {
         m->states[i] = pack_word(&p->buffers[i]);
         memcpy(m->names + NAME_WORDS * i, p->buffers[i].name, sizeof p->buffers[i].name);
+        for (size_t h = 0; h < HOLDERS; h++) m->counts[count_at(p->n, i, h)] = p->buffers[i].counts[h];
     }
     pack_free(p, m);
     pack_chains(p, m);

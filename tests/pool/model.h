@@ -15,7 +15,8 @@
 
 struct buffer {
     bool used, dirty, just_dirtied;
-    uint32_t pins, usage, name[NAME_WORDS];
+    uint32_t pins, usage, name[NAME_WORDS]; /* pins: holders whose private count is not 0 */
+    uint16_t counts[HOLDERS];
     uint8_t *page;
 };
 

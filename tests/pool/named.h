@@ -1,4 +1,4 @@
-/* The library's twelve calls and its checksum, or with another PREFIX those of other code that takes the same arguments: DO(pin)(..). */
+/* The library's thirteen calls and its checksum, or with another PREFIX those of other code that takes the same arguments: DO(pin)(..). */
 #ifndef NAMED_H
 #define NAMED_H
 
@@ -18,6 +18,7 @@ DECLARE(unpin);
 DECLARE(read);
 DECLARE(write);
 DECLARE(flush);
+DECLARE(give_back);
 DECLARE(checkpoint);
 DECLARE(peek);
 DECLARE(extend);

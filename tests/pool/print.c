@@ -5,8 +5,8 @@
 
 #define SHOWN 16
 
-static const char *const call_names[CALLS] = {"set up", "pin", "unpin", "read", "write", "flush", "checkpoint", "peek", "extend", "drop",
-                                              "log inserted", "log flushed", "checksum"};
+static const char *const call_names[CALLS] = {"set up", "pin", "unpin", "read", "write", "flush", "give back", "checkpoint", "peek",
+                                              "extend", "drop", "log inserted", "log flushed", "checksum"};
 
 /* the memory before the call, but for pool and store: of the pool each page's first bytes, position and checksum */
 enum { FIRST = 10 };
@@ -16,6 +16,7 @@ static struct {
     uint32_t states[SHOWN], names[NAME_WORDS * SHOWN], rows[ROW_WORDS * SHOWN];
     int32_t free[SHOWN], heads[2 * SHOWN], chain[SHOWN];
     uint8_t pages[SHOWN][FIRST];
+    uint16_t counts[HOLDERS * SHOWN];
 } before;
 
 void keep_before(void)
@@ -28,6 +29,7 @@ void keep_before(void)
     memcpy(before.free, twin.free, sizeof before.free);
     memcpy(before.heads, twin.heads, sizeof before.heads);
     memcpy(before.chain, twin.chain, sizeof before.chain);
+    memcpy(before.counts, twin.counts, sizeof before.counts);
     for (size_t i = 0; i < SHOWN && i < twin.states_len; i++) {
         uint64_t p = twin.control[CONTROL_SIZE];
         if (p >= FIRST && p <= 32768 && (i + 1) * p <= twin.pool_len) memcpy(before.pages[i], twin.pool + i * p, FIRST);
@@ -43,6 +45,7 @@ static void print_numbers(const uint32_t *numbers, int many)
 void print_request(const struct request *q)
 {
     printf("%s ", call_names[q->call]);
+    if (NAMES_HOLDER(q->call)) printf("holder %" PRIu64 " ", q->holder);
     switch (q->call) {
     case SET_UP: printf("page_size %" PRIu64 " position %" PRIu64 " cap %" PRIu64, q->page_size, q->position, q->cap); break;
     case PIN:
@@ -55,6 +58,7 @@ void print_request(const struct request *q)
     case WRITE:
         printf("buffer %" PRIu64 " from %" PRIu64 " %zu bytes position %" PRIu64, q->buffer, q->from, q->own_len, q->position);
         break;
+    case GIVE_BACK:
     case CHECKPOINT: break;
     case CHECKSUM: printf("block %" PRIu32 " %zu bytes", q->name[NAME_BLOCK], q->own_len); break;
     default: printf("position %" PRIu64, q->position); break;
@@ -70,6 +74,9 @@ static void print_buffer(size_t i)
     print_numbers(n, NAME_WORDS);
     printf(", free %" PRId32 ", chain %" PRId32 ", page", before.free[i], before.chain[i]);
     for (int k = 0; k < FIRST; k++) printf(" %02X", before.pages[i][k]);
+    printf(", counts");
+    for (size_t h = 0; h < HOLDERS; h++)
+        if (before.counts[HOLDERS * i + h] != 0) printf(" %zu:%u", h, before.counts[HOLDERS * i + h]);
     printf("\n");
 }
 

@@ -17,7 +17,7 @@ static size_t n, files, block_size, places;
 static uint64_t inserted;
 static uint32_t rows[64 * ROW_WORDS];
 static uint8_t blocks[MOST_SHELF];
-static uint32_t counts[MOST_PLACES];
+static uint16_t counts[MOST_PLACES][HOLDERS];
 static size_t holding[MOST_NUMBERS];
 static bool bad[MOST_PLACES]; /* the block came in bad, and its file was not dropped since */
 
@@ -65,7 +65,7 @@ void shelf_begin(const struct memory *m, uint64_t page_size, uint64_t position, 
     if (m->rows_len > 0) memcpy(rows, m->rows, m->rows_len * sizeof *rows);
     memcpy(blocks, m->store, m->store_len);
     memcpy(store, m->store, m->store_len);
-    memset(counts, 0, sizeof counts);
+    memset(counts, 0, places * sizeof *counts);
     memset(dirty, 0, sizeof dirty);
     memset(was_put, 0, sizeof was_put);
     for (size_t k = 0; k < MOST_NUMBERS; k++) holding[k] = last[k] = NONE;
@@ -99,23 +99,55 @@ static uint64_t position_of(const uint8_t *page)
     return high << 32 | low;
 }
 
+/* how many holders' counts of a page are not 0: while one is, the page has pins */
+static size_t holders_of(size_t place)
+{
+    size_t many = 0;
+    for (size_t h = 0; h < HOLDERS; h++) many += counts[place][h] != 0;
+    return many;
+}
+
+static bool has_pins(size_t place)
+{
+    return holders_of(place) != 0;
+}
+
 static size_t pages_with_pins(void)
 {
     size_t many = 0;
-    for (size_t k = 0; k < places; k++) many += counts[k] != 0;
+    for (size_t k = 0; k < places; k++) many += SHELF_SLIP == 17 ? holders_of(k) : has_pins(k);
     return many;
+}
+
+static uint32_t holder_refusal(const struct request *q)
+{
+    return q->holder >= 64 - (SHELF_SLIP == 21) ? 19 : 0;
+}
+
+/* whether this holder's count of a page is the greatest; slips go by the others' too */
+static bool is_full(size_t place, uint64_t holder)
+{
+    uint32_t sum = 0, most = 0;
+    for (size_t h = 0; h < HOLDERS; h++) {
+        sum += counts[place][h];
+        if (counts[place][h] > most) most = counts[place][h];
+    }
+    if (SHELF_SLIP == 11) return most == 65535;
+    return (SHELF_SLIP == 22 ? sum : counts[place][holder]) == 65535 - (SHELF_SLIP == 20);
 }
 
 static uint32_t pin_refusal(const struct request *q)
 {
     size_t r = row_of(q->name), place;
+    if (r == NONE && SHELF_SLIP == 18) return 3;
+    if (q->call == PIN && holder_refusal(q) != 0) return 19;
     if (r == NONE) return 3;
     if (q->name[NAME_BLOCK] >= rows[ROW_WORDS * r + ROW_BLOCKS]) return 4;
     place = place_of(r, q->name[NAME_BLOCK]);
     if (bad[place] && (SHELF_SLIP != 5 || q->call == PEEK)) return 17;
     if (q->call == PEEK) return 0;
-    if (counts[place] == 262143) return 5;
-    if (counts[place] == 0 && pages_with_pins() == n - (SHELF_SLIP == 1 && n > 1)) return 6;
+    if (is_full(place, q->holder)) return 5;
+    if (!has_pins(place) && pages_with_pins() == n - (SHELF_SLIP == 1 && n > 1)) return 6;
     return bad[place] ? 17 : 0;
 }
 
@@ -129,8 +161,12 @@ static uint32_t write_refusal(const struct request *q, size_t place)
 
 static uint32_t number_refusal(const struct request *q)
 {
+    uint32_t holder = holder_refusal(q);
+    if (holder != 0 && SHELF_SLIP != 19) return holder;
     if (q->buffer >= n) return 7;
     if (holding[q->buffer] == NONE) return 8;
+    if (holder != 0) return holder;
+    if (counts[holding[q->buffer]][q->holder] == 0 && SHELF_SLIP != 12) return 8;
     if (q->call == UNPIN || q->call == FLUSH) return 0;
     if (q->own_len > block_size || q->from > block_size - q->own_len) return 9;
     return q->call == READ ? 0 : write_refusal(q, holding[q->buffer]);
@@ -139,7 +175,7 @@ static uint32_t number_refusal(const struct request *q)
 static uint32_t drop_refusal(size_t r)
 {
     for (size_t k = 0; k < places; k++)
-        if (in_file(k, r) && counts[k] != 0) return 14;
+        if (in_file(k, r) && (SHELF_SLIP == 16 ? counts[k][0] != 0 : has_pins(k))) return 14;
     return 0;
 }
 
@@ -161,6 +197,7 @@ static uint32_t refusal_of(const struct request *q)
     case LOG_INSERTED: return q->position < inserted ? 15 : 0;
     case LOG_FLUSHED: return q->position > inserted ? 16 : 0;
     case CHECKPOINT: return 0;
+    case GIVE_BACK: return holder_refusal(q);
     default: return number_refusal(q);
     }
 }
@@ -206,20 +243,32 @@ static const char *pinned(const struct request *q, const uint64_t *answer, const
 {
     size_t place = place_of(row_of(q->name), q->name[NAME_BLOCK]), i = answer[0];
     if (i >= n) return "a pin's buffer number is below N";
-    if (counts[place] > 0 && holding[i] != place) return "a pin of a page with pins answers the number already holding it";
-    if (counts[place] == 0 && holding[i] != NONE) return "a pin of a page without pins answers a number that holds none";
+    if (has_pins(place) && holding[i] != place) return "a pin of a page with pins answers the number already holding it";
+    if (!has_pins(place) && holding[i] != NONE) return "a pin of a page without pins answers a number that holds none";
     if (answer[3] > ((SHELF_SLIP == 8 ? DEFAULT_CAP : cap) + (SHELF_SLIP != 9)) * n) return "at most cap + 1 probes per buffer";
     if (answer[1] == 1 && (answer[2] != 0 || answer[3] != 0)) return "a hit makes no probes and writes nothing";
     if (answer[2] == 1 && (last[i] == NONE || !dirty[last[i]])) return "a pin that answers wrote had a dirty page at the number";
     if (answer[2] == 1 && !written_back(last[i], now)) return "the page written back at a pin is the shelf's";
-    counts[place]++;
+    counts[place][q->holder]++;
     holding[i] = last[i] = place;
     return NULL;
 }
 
-static void unpinned(size_t i)
+static void unpinned(size_t i, uint64_t holder)
 {
-    if (--counts[holding[i]] == 0) holding[i] = NONE;
+    bool last = --counts[holding[i]][holder] == 0;
+    if (SHELF_SLIP == 13 ? last : !has_pins(holding[i])) holding[i] = NONE;
+}
+
+static void given_back(uint64_t holder)
+{
+    if (SHELF_SLIP == 23) return;
+    for (size_t k = 0; k < places; k++) {
+        counts[k][holder] = 0;
+        if (SHELF_SLIP == 15) memset(counts[k], 0, sizeof counts[k]);
+    }
+    for (size_t i = 0; i < n; i++)
+        if (holding[i] != NONE && !has_pins(holding[i]) && SHELF_SLIP != 14) holding[i] = NONE;
 }
 
 static const char *written(const struct request *q)
@@ -293,7 +342,8 @@ static const char *accepted(const struct request *q, const uint8_t *own, const s
     switch (q->call) {
     case PIN: return pinned(q, after->answer, after->store);
     case PEEK: return peeked(q, after);
-    case UNPIN: return unpinned(q->buffer), NULL;
+    case UNPIN: return unpinned(q->buffer, q->holder), NULL;
+    case GIVE_BACK: return given_back(q->holder), NULL;
     case READ: return same(own, bytes_of(holding[q->buffer]), q->from, q->own_len) ? NULL : "a read fills in the shelf's bytes";
     case WRITE: return written(q);
     case FLUSH: return flushed_page(holding[q->buffer], after->answer, after->store);

@@ -138,6 +138,7 @@ void fill_unset(const struct sizes *s, uint64_t log)
     twin.pool_len = s->n * s->page_size;
     twin.heads_len = s->buckets;
     twin.rows_len = ROW_WORDS * s->files;
+    twin.counts_len = HOLDERS * s->n;
     fill_rows(s);
     fill_store(s, log);
     for (int k = 0; k < OWN; k++)
@@ -163,12 +164,21 @@ static void name_page(const struct sizes *s, uint32_t k, uint32_t *name)
     name[NAME_BLOCK] = k;
 }
 
-/* pins: few, on every buffer, or any; the greatest count and the one below it too */
-static uint32_t some_pins(unsigned style)
+/* holders with pins: few, on every buffer, or any; all 64 and all but one too */
+static uint32_t some_holders(unsigned style)
 {
-    static const uint32_t counts[] = {0, 1, 2, 3, 262142, 262143, 0, 262143};
+    static const uint32_t many[] = {0, 1, 2, 3, HOLDERS - 1, HOLDERS, 0, HOLDERS - 1};
     if (style == 0) return random_below(4) == 0;
-    return counts[style == 1 ? 1 + random_below(5) : random_below(8)];
+    return many[style == 1 ? 1 + random_below(5) : random_below(8)];
+}
+
+/* so many holders have pins on a buffer, from any one on, at an odd distance from each other */
+static void fill_counts(size_t i, uint32_t many)
+{
+    const uint32_t firsts[] = {0, HOLDERS - 1, random_below(HOLDERS)};
+    uint32_t first = firsts[random_below(3)], apart = random_below(2) == 0 ? 1 : 1 + 2 * random_below(HOLDERS / 2);
+    memset(twin.counts + HOLDERS * i, 0, HOLDERS * sizeof *twin.counts);
+    for (uint32_t k = 0; k < many; k++) twin.counts[HOLDERS * i + (first + k * apart) % HOLDERS] = some_count();
 }
 
 /* zeros, also where they are not in the checksum's place */
@@ -182,12 +192,14 @@ static void fill_buffer(const struct sizes *s, size_t i, uint32_t page, unsigned
 {
     uint32_t *name = twin.names + NAME_WORDS * i, dirty = random_below(2), flags = 1u << 31 | 1u << 25 | 1u << 24;
     uint64_t inserted = twin.control[CONTROL_INSERTED];
+    uint32_t pins = some_holders(style);
     name_page(s, page, name);
     int32_t *head = &twin.heads[name_hash(name) % s->buckets];
     twin.chain[i] = *head;
     *head = (int32_t)i;
     twin.free[i] = -2;
-    twin.states[i] = flags | dirty << 28 | dirty << 23 | random_below(s->cap + 1) << 18 | some_pins(style);
+    twin.states[i] = flags | dirty << 28 | dirty << 23 | random_below(s->cap + 1) << 18 | pins;
+    fill_counts(i, pins);
     if (dirty || random_below(8) != 0) put_position(twin.pool + i * s->page_size, below(inserted, random_below(60)));
     if (random_below(8) == 0) clear_page(twin.pool + i * s->page_size, s->page_size);
 }
@@ -205,6 +217,7 @@ static void fill_lists(const struct sizes *s)
     for (size_t k = used; k < s->n; k++) {
         size_t i = order[k];
         twin.states[i] = 0;
+        fill_counts(i, 0);
         memset(twin.names + NAME_WORDS * i, 0, NAME_WORDS * sizeof *twin.names);
         twin.free[i] = twin.control[CONTROL_TOP] == UINT64_MAX ? -1 : (int32_t)twin.control[CONTROL_TOP];
         twin.control[CONTROL_TOP] = i;

@@ -1,7 +1,7 @@
 /* Page checksums case by case, through the calls: N = 2, B = 2, P = 1024, log 100, cap 5; two files with 3 blocks each, capacity 4, so that
    in the second a block's number is not its place in the store. Every block below a count has bytes of its own and its checksum. After each
    refusal all that was lent is compared byte by byte. Prints a line for each case, then the counts. */
-enum { N = 2, P = 1024, FILES = 2, BLOCKS = 3, CAPACITY = 4, PLACES = FILES * CAPACITY, MOST_PINS = 262143 };
+enum { N = 2, P = 1024, FILES = 2, BLOCKS = 3, CAPACITY = 4, PLACES = FILES * CAPACITY };
 
 #include "lot.h"
 #include "sum.h"
@@ -285,9 +285,10 @@ static void case_held(void)
     expect("hit", lot.answer[1], 1);
     expect("peek", ask_name(PEEK, 1, 1), 0);
     expect("in the pool", lot.answer[0], 1);
-    lot.states[i] |= MOST_PINS;
+    lot.counts[HOLDERS * i] = MOST_COUNT;
     expect("pin at the greatest count", ask_name(PIN, 1, 1), 5);
-    lot.states[i] -= MOST_PINS;
+    lot.counts[HOLDERS * i] = 1;
+    unpin(i);
     push_out(0);
     expect_both(1, 1, 17);
     end();

@@ -108,12 +108,12 @@ static uint64_t change_page(struct bufpool *m, size_t size, struct bufpool_buffe
     uint64_t length = 1 + random_below(sizeof bytes), written = 0;
     uint64_t from = random_below(4) ? 8 + random_below((uint32_t)(size - 7 - length)) : 8;
     fill(bytes, length);
-    need(bufpool_write_buffer(m, buffer, from, bytes, length, position) == BUFPOOL_DONE, "write is refused, at", from);
+    need(bufpool_write_buffer(m, till, buffer, from, bytes, length, position) == BUFPOOL_DONE, "write is refused, at", from);
     if (random_below(4)) return 0;
-    need(bufpool_read_buffer(m, buffer, 8, was, 2) == BUFPOOL_DONE, "read is refused, of buffer", buffer.number);
-    need(bufpool_flush_buffer(m, buffer, &written) == BUFPOOL_DONE && written == 1, "flush does not write, of buffer", buffer.number);
+    need(bufpool_read_buffer(m, till, buffer, 8, was, 2) == BUFPOOL_DONE, "read is refused, of buffer", buffer.number);
+    need(bufpool_flush_buffer(m, till, buffer, &written) == BUFPOOL_DONE && written == 1, "flush does not write, of buffer", buffer.number);
     see_block(size, name);
-    need(bufpool_read_buffer(m, buffer, 8, is, 2) == BUFPOOL_DONE, "read is refused, of buffer", buffer.number);
+    need(bufpool_read_buffer(m, till, buffer, 8, is, 2) == BUFPOOL_DONE, "read is refused, of buffer", buffer.number);
     need(memcmp(was, is, 2) == 0, "a flush changes bytes 8 and 9 of the pool's page, of buffer", buffer.number);
     return written;
 }
@@ -124,11 +124,11 @@ static void see_zeros(struct bufpool *m, size_t size)
     static const uint8_t none[4];
     struct bufpool_pinned p;
     uint64_t written;
-    need(bufpool_pin_page(m, small_name(1), &p) == BUFPOOL_DONE, "pin of zeros is refused, at block size", size);
-    need(bufpool_write_buffer(m, p.buffer, 8, none, sizeof none, 0) == BUFPOOL_DONE, "write of zeros is refused, at block size", size);
-    need(bufpool_flush_buffer(m, p.buffer, &written) == BUFPOOL_DONE && written == 1, "zeros are not written, at block size", size);
+    need(bufpool_pin_page(m, till, small_name(1), &p) == BUFPOOL_DONE, "pin of zeros is refused, at block size", size);
+    need(bufpool_write_buffer(m, till, p.buffer, 8, none, sizeof none, 0) == BUFPOOL_DONE, "zeros are refused, at block size", size);
+    need(bufpool_flush_buffer(m, till, p.buffer, &written) == BUFPOOL_DONE && written == 1, "zeros are not written, at block size", size);
     need(is_blank(block_at(size, 0, 1), size), "a page of zeros is written otherwise, at block size", size);
-    need(bufpool_unpin_buffer(m, p.buffer) == BUFPOOL_DONE, "unpin is refused, at block size", size);
+    need(bufpool_unpin_buffer(m, till, p.buffer) == BUFPOOL_DONE, "unpin is refused, at block size", size);
 }
 
 /* Pages come to the store in all three ways. Block 0 of each file is pinned and never written to. */
@@ -142,12 +142,12 @@ static void see_store(size_t size)
         size_t f = random_below(SMALL_FILES);
         struct bufpool_pinned p;
         name = bufpool_name_of(small_file[f], random_below(capacities[f] - UNUSED));
-        need(bufpool_pin_page(m, name, &p) == BUFPOOL_DONE, "pin is refused, of block", name.block);
+        need(bufpool_pin_page(m, till, name, &p) == BUFPOOL_DONE, "pin is refused, of block", name.block);
         if (p.wrote) see_block(size, last[p.buffer.number]);
         victims += (uint64_t)p.wrote;
         last[p.buffer.number] = name;
         if (name.block > 0) flushed += change_page(m, size, p.buffer, name, k);
-        need(bufpool_unpin_buffer(m, p.buffer) == BUFPOOL_DONE, "unpin is refused, of block", name.block);
+        need(bufpool_unpin_buffer(m, till, p.buffer) == BUFPOOL_DONE, "unpin is refused, of block", name.block);
     }
     need(bufpool_checkpoint_pool(m, &written) == BUFPOOL_DONE, "checkpoint is refused", 0);
     need(flushed > 0 && victims > 0 && written > 0, "pages written back by the checkpoint, or none in another way", written);
@@ -177,7 +177,7 @@ static uint64_t see_verified(struct bufpool *m, size_t size, size_t f, uint32_t 
     struct bufpool_pinned p;
     need(bufpool_set_up_pool(m, size, LOG, BUFPOOL_DEFAULT_CAP) == BUFPOOL_DONE, "set up is refused, at block size", size);
     need(bufpool_peek_page(m, name, &part) == expected, "peek does not give what PostgreSQL's checksum says, at block", block);
-    need(bufpool_pin_page(m, name, &p) == expected, "pin does not give what PostgreSQL's checksum says, at block", block);
+    need(bufpool_pin_page(m, till, name, &p) == expected, "pin does not give what PostgreSQL's checksum says, at block", block);
     return expected != BUFPOOL_DONE;
 }
 

@@ -6,7 +6,7 @@
 #include <stdio.h>
 #include <string.h>
 
-enum { NAMES = 100000, CALLS = 200000, POSITIONS = 20000, HEADERS = 20000, BUFFERS = MOST_BUFFERS };
+enum { NAMES = 100000, CALLS = 200000, POSITIONS = 20000, HEADERS = 20000, BUFFERS = MOST_BUFFERS, FEW = 5 };
 
 static void see_tag(const uint32_t name[NAME_WORDS], uint64_t which)
 {
@@ -43,8 +43,8 @@ static void forks(void)
     for (int fork = 0; fork < 3; fork++) need(published_fork(fork) == (uint32_t)fork, "another number has fork", (uint64_t)fork);
 }
 
-/* Document 01's numbers: flags and greatest pin count; the caps that the header names: PostgreSQL's greatest usage count, and what its bits
-   hold. */
+/* Document 01's numbers: flags, and what a pin count's bits hold; the caps that the header names: PostgreSQL's greatest usage count, and
+   what its bits hold. */
 static void constants(void)
 {
     static const int bits[FLAGS] = {23, 24, 25, 28, 31};
@@ -52,11 +52,13 @@ static void constants(void)
     need(published_most_usage() == BUFPOOL_DEFAULT_CAP, "the greatest usage count", published_most_usage());
     need(published_usage(UINT32_MAX) == BUFPOOL_MAX_CAP, "the greatest number that a usage count's bits hold", published_usage(UINT32_MAX));
     need(published_most_pins() == BUFPOOL_MAX_PINS, "the greatest pin count", published_most_pins());
+    need(published_pins(UINT32_MAX) == BUFPOOL_MAX_PINS, "the pins that a word's bits hold", published_pins(UINT32_MAX));
 }
 
-/* What a buffer's word has to say, kept beside the pool; its usage count is at most the cap. */
+/* What a buffer's word has to say, kept beside the pool: the pins of each holder, of which the word counts those that have some; the usage
+   count, which is at most the cap. */
 struct expected {
-    uint32_t pins, usage, cap;
+    uint32_t pins_of[HOLDERS], pins, usage, cap;
     int dirty, used;
 };
 
@@ -80,50 +82,53 @@ static void see_word(const struct bufpool *m, uint32_t block, const struct expec
     see_flags(word, e);
 }
 
-static void see_pin(struct bufpool *m, uint32_t block, struct expected *e)
+/* As in PinBuffer: a holder that has pins already changes no word. */
+static void see_pin(struct bufpool *m, uint32_t holder, uint32_t block, struct expected *e)
 {
     struct bufpool_pinned p;
-    need(bufpool_pin_page(m, small_name(block), &p) == BUFPOOL_DONE, "pin is refused, of block", block);
+    need(bufpool_pin_page(m, bufpool_holder_of(holder), small_name(block), &p) == BUFPOOL_DONE, "pin is refused, of block", block);
     need(p.buffer.number == block && p.hit == e->used, "pin answers another buffer for block", block);
-    if (!e->used || e->usage < e->cap) e->usage++;
     e->used = 1;
+    if (e->pins_of[holder]++ > 0) return;
+    if (e->usage < e->cap) e->usage++;
     e->pins++;
 }
 
-/* A call on a buffer with pins. */
-static void see_call(struct bufpool *m, uint32_t block, struct expected *e)
+/* A call of a holder that has pins. */
+static void see_call(struct bufpool *m, uint32_t number, uint32_t block, struct expected *e)
 {
     static const uint8_t byte[1] = {1};
+    struct bufpool_holder holder = bufpool_holder_of(number);
     struct bufpool_buffer buffer = {block};
     uint64_t written;
     switch (random_below(4)) {
     case 0:
-        need(bufpool_write_buffer(m, buffer, 8, byte, 1, 100) == BUFPOOL_DONE, "write is refused, to buffer", block);
+        need(bufpool_write_buffer(m, holder, buffer, 8, byte, 1, 100) == BUFPOOL_DONE, "write is refused, to buffer", block);
         e->dirty = 1;
         break;
     case 1:
-        need(bufpool_flush_buffer(m, buffer, &written) == BUFPOOL_DONE, "flush is refused, of buffer", block);
+        need(bufpool_flush_buffer(m, holder, buffer, &written) == BUFPOOL_DONE, "flush is refused, of buffer", block);
         need(written == (uint64_t)e->dirty, "flush answers another count written", written);
         e->dirty = 0;
         break;
     default:
-        need(bufpool_unpin_buffer(m, buffer) == BUFPOOL_DONE, "unpin is refused, of buffer", block);
-        e->pins--;
+        need(bufpool_unpin_buffer(m, holder, buffer) == BUFPOOL_DONE, "unpin is refused, of buffer", block);
+        if (--e->pins_of[number] == 0) e->pins--;
     }
 }
 
-/* Random pins, writes, flushes and unpins: block k is in buffer k, taken from the free list. */
+/* Random pins, writes, flushes and unpins of a few holders: block k is in buffer k, taken from the free list. */
 static void see_words(struct bufpool *m, uint32_t cap)
 {
     struct expected e[BUFFERS];
     for (uint32_t k = 0; k < BUFFERS; k++) {
         e[k] = (struct expected){.cap = cap};
-        see_pin(m, k, &e[k]);
+        see_pin(m, k % FEW, k, &e[k]);
     }
     for (uint32_t k = 0; k < CALLS; k++) {
-        uint32_t block = random_below(BUFFERS);
-        if (e[block].pins == 0 || random_below(5) < 2) see_pin(m, block, &e[block]);
-        else see_call(m, block, &e[block]);
+        uint32_t block = random_below(BUFFERS), holder = random_below(FEW);
+        if (e[block].pins_of[holder] == 0 || random_below(5) < 2) see_pin(m, holder, block, &e[block]);
+        else see_call(m, holder, block, &e[block]);
         see_word(m, block, &e[block]);
     }
 }
@@ -137,15 +142,16 @@ static void words(void)
     see_words(m, BUFPOOL_MAX_CAP);
 }
 
-/* The greatest pin count, and the pin that is one too many. */
+/* One page pinned by every holder, twice, and by one too many. */
 static void pins(void)
 {
     struct bufpool *m = small_pool(1, 1, 100);
     struct expected e = {.cap = published_most_usage()};
     struct bufpool_pinned p;
-    for (uint32_t k = 0; k < published_most_pins(); k++) see_pin(m, 0, &e);
+    for (uint32_t k = 0; k < 2 * HOLDERS; k++) see_pin(m, k / 2, 0, &e);
     see_word(m, 0, &e);
-    need(bufpool_pin_page(m, small_name(0), &p) == BUFPOOL_PIN_COUNT, "one more pin is not refused with 5 after", e.pins);
+    need(published_pins(m->states[0]) == HOLDERS, "PostgreSQL reads another pin count than 64, in word", m->states[0]);
+    need(bufpool_pin_page(m, bufpool_holder_of(HOLDERS), small_name(0), &p) == BUFPOOL_NO_HOLDER, "19 is not given to holder", HOLDERS);
     see_word(m, 0, &e);
 }
 
@@ -157,11 +163,11 @@ static void see_position(uint64_t position)
     struct bufpool_pinned p;
     uint64_t written;
     memset(m->store, 0, PAGE);
-    need(bufpool_pin_page(m, small_name(0), &p) == BUFPOOL_DONE, "pin is refused at position", position);
-    need(bufpool_write_buffer(m, p.buffer, 8, byte, 1, position) == BUFPOOL_DONE, "write is refused at position", position);
+    need(bufpool_pin_page(m, till, small_name(0), &p) == BUFPOOL_DONE, "pin is refused at position", position);
+    need(bufpool_write_buffer(m, till, p.buffer, 8, byte, 1, position) == BUFPOOL_DONE, "write is refused at position", position);
     need(published_position(m->pool) == position, "PageGetLSN gives another number than", position);
     need(published_pointer(m->pool) == position, "PageXLogRecPtrGet gives another number than", position);
-    need(bufpool_flush_buffer(m, p.buffer, &written) == BUFPOOL_DONE && written == 1, "flush does not write at position", position);
+    need(bufpool_flush_buffer(m, till, p.buffer, &written) == BUFPOOL_DONE && written == 1, "flush does not write at position", position);
     need(published_position(m->store) == position, "PageGetLSN gives another number in the store than", position);
 }
 

@@ -34,8 +34,8 @@ static void make_page(struct bufpool *m, struct bufpool_buffer buffer, uint32_t 
     uint64_t from = PAGE - sizeof tail;
     published_header(lower, upper, special, header);
     for (size_t k = 0; k < sizeof tail; k++) tail[k] = (uint8_t)random64();
-    need(bufpool_write_buffer(m, buffer, from, tail, sizeof tail, position) == BUFPOOL_DONE, "write is refused, block", block);
-    need(bufpool_write_buffer(m, buffer, BUFPOOL_POSITION_BYTES, header + BUFPOOL_POSITION_BYTES, BEHIND, position) == BUFPOOL_DONE,
+    need(bufpool_write_buffer(m, till, buffer, from, tail, sizeof tail, position) == BUFPOOL_DONE, "write is refused, block", block);
+    need(bufpool_write_buffer(m, till, buffer, BUFPOOL_POSITION_BYTES, header + BUFPOOL_POSITION_BYTES, BEHIND, position) == BUFPOOL_DONE,
          "write of the header is refused, block", block);
     print_position(block, position);
     printf("|%d|%d|%d|%d|4|t\n", lower, upper, special, PAGE);
@@ -50,14 +50,14 @@ static void ours(const char *path)
     need(bufpool_log_inserted_to(m, UINT64_MAX) == BUFPOOL_DONE, "log inserted is refused", UINT64_MAX);
     for (uint32_t k = 0; k < BLOCKS; k++) {
         struct bufpool_pinned p;
-        need(bufpool_pin_page(m, small_name(k), &p) == BUFPOOL_DONE, "pin is refused, block", k);
+        need(bufpool_pin_page(m, till, small_name(k), &p) == BUFPOOL_DONE, "pin is refused, block", k);
         pinned += (uint64_t)p.wrote;
         make_page(m, p.buffer, k, k < sizeof edges / sizeof *edges ? edges[k] : random64() >> random_below(64));
         if (k % 3 == 0) {
-            need(bufpool_flush_buffer(m, p.buffer, &written) == BUFPOOL_DONE, "flush is refused, block", k);
+            need(bufpool_flush_buffer(m, till, p.buffer, &written) == BUFPOOL_DONE, "flush is refused, block", k);
             flushed += written;
         }
-        need(bufpool_unpin_buffer(m, p.buffer) == BUFPOOL_DONE, "unpin is refused, block", k);
+        need(bufpool_unpin_buffer(m, till, p.buffer) == BUFPOOL_DONE, "unpin is refused, block", k);
     }
     need(bufpool_checkpoint_pool(m, &written) == BUFPOOL_DONE, "checkpoint is refused", 0);
     need(flushed > 0 && pinned > 0 && written > 0, "pages written back by the checkpoint, or none in another way", written);
@@ -71,15 +71,15 @@ static void raise_position(struct bufpool *m, uint32_t block, uint64_t position,
     uint64_t raised = position + random64() % (inserted - position + 1);
     uint8_t bytes[BEHIND];
     struct bufpool_pinned p;
-    need(bufpool_pin_page(m, small_name(block), &p) == BUFPOOL_DONE, "pin is refused, block", block);
-    need(bufpool_read_buffer(m, p.buffer, BUFPOOL_POSITION_BYTES, bytes, BEHIND) == BUFPOOL_DONE, "read is refused, block", block);
-    need(bufpool_write_buffer(m, p.buffer, BUFPOOL_POSITION_BYTES, bytes, BEHIND, position - 1) == BUFPOOL_EARLIER,
+    need(bufpool_pin_page(m, till, small_name(block), &p) == BUFPOOL_DONE, "pin is refused, block", block);
+    need(bufpool_read_buffer(m, till, p.buffer, BUFPOOL_POSITION_BYTES, bytes, BEHIND) == BUFPOOL_DONE, "read is refused, block", block);
+    need(bufpool_write_buffer(m, till, p.buffer, BUFPOOL_POSITION_BYTES, bytes, BEHIND, position - 1) == BUFPOOL_EARLIER,
          "a position below the server's is not refused with 12, block", block);
-    need(bufpool_write_buffer(m, p.buffer, BUFPOOL_POSITION_BYTES, bytes, BEHIND, position) == BUFPOOL_DONE,
+    need(bufpool_write_buffer(m, till, p.buffer, BUFPOOL_POSITION_BYTES, bytes, BEHIND, position) == BUFPOOL_DONE,
          "the server's own position is refused, block", block);
-    need(bufpool_write_buffer(m, p.buffer, BUFPOOL_POSITION_BYTES, bytes, BEHIND, raised) == BUFPOOL_DONE,
+    need(bufpool_write_buffer(m, till, p.buffer, BUFPOOL_POSITION_BYTES, bytes, BEHIND, raised) == BUFPOOL_DONE,
          "a raised position is refused, block", block);
-    need(bufpool_unpin_buffer(m, p.buffer) == BUFPOOL_DONE, "unpin is refused, block", block);
+    need(bufpool_unpin_buffer(m, till, p.buffer) == BUFPOOL_DONE, "unpin is refused, block", block);
     print_position(block, raised);
     putchar('\n');
 }
@@ -127,11 +127,11 @@ static void verify(const char *path)
     for (uint32_t k = 0; k < blocks; k++) {
         struct bufpool_pinned p;
         struct bufpool_part part;
-        uint32_t peeked = bufpool_peek_page(m, small_name(k), &part), pinned = bufpool_pin_page(m, small_name(k), &p);
+        uint32_t peeked = bufpool_peek_page(m, small_name(k), &part), pinned = bufpool_pin_page(m, till, small_name(k), &p);
         need(peeked == pinned, "peek and pin differ, at block", k);
         need(pinned == BUFPOOL_DONE || pinned == BUFPOOL_CHECKSUM, "a pin gives another number than 0 or 17", pinned);
         if (pinned != BUFPOOL_DONE) continue;
-        need(bufpool_unpin_buffer(m, p.buffer) == BUFPOOL_DONE, "unpin is refused, block", k);
+        need(bufpool_unpin_buffer(m, till, p.buffer) == BUFPOOL_DONE, "unpin is refused, block", k);
         passed++;
     }
     printf("%" PRIu32 " of %" PRIu32 "\n", passed, blocks);

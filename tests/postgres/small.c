@@ -5,13 +5,15 @@
 
 const struct bufpool_file small_file[SMALL_FILES] = {{1663, 5, 16384, 0}, {1663, 5, 16390, 0}};
 uint8_t small_store[MOST_BLOCKS * PAGE];
+const struct bufpool_holder till = {0};
 
 static uint64_t control[BUFPOOL_CONTROL_WORDS];
 static uint32_t states[MOST_BUFFERS], names[BUFPOOL_NAME_WORDS * MOST_BUFFERS], rows[BUFPOOL_ROW_WORDS * SMALL_FILES];
 static int32_t free_links[MOST_BUFFERS], heads[MOST_BUFFERS], chain[MOST_BUFFERS];
 static uint8_t pool[MOST_BUFFERS * BUFPOOL_MAX_PAGE];
+static uint16_t counts[MOST_BUFFERS * BUFPOOL_MAX_HOLDERS];
 static struct bufpool m = {.control = control, .states = states, .names = names, .pool = pool, .free = free_links,
-                           .heads = heads, .chain = chain, .rows = rows, .store = small_store};
+                           .heads = heads, .chain = chain, .rows = rows, .store = small_store, .counts = counts};
 
 void need(int holds, const char *what, uint64_t number)
 {

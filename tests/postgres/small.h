@@ -10,6 +10,9 @@ enum { PAGE = 8192, MOST_BUFFERS = 8, MOST_BLOCKS = 256, SMALL_FILES = 2 };
 extern const struct bufpool_file small_file[SMALL_FILES];
 extern uint8_t small_store[MOST_BLOCKS * PAGE];
 
+/* Who pins where it does not matter who does. */
+extern const struct bufpool_holder till;
+
 /* Empty, of so many buffers over so many blocks; the store is as it was. Ends the program if the set up is refused. */
 struct bufpool *small_pool(size_t buffers, uint32_t blocks, uint64_t position);
 

@@ -1,4 +1,5 @@
 /* damage each FILE           prints a pool with each damage, and writes each to FILE, as a pool of its own: both as bufpool-show prints it
+   damage counts FILE         the same of damage to private counts
    damage random FILE COUNT   prints pools with random damage, and writes them to FILE, one after the other
    damage bytes FILE COUNT    copies of FILE with random bytes changed: FILE.1, FILE.2 and so on
    damage beyond              lends a slice with a length that its memory does not have: the sanitizer has to stop this one */
@@ -18,16 +19,17 @@ static uint32_t random_below(uint32_t n)
     return (uint32_t)(state >> 32) % n;
 }
 
-/* Four buffers: a dirty page, a clean one, and two empty buffers. */
+/* Four buffers: a dirty page of holder 1, a clean one of holder 2, and two empty buffers. */
 static struct bufpool some_pool(void)
 {
     static const uint8_t line[] = "2 loaves, 5.40";
     struct bufpool m = lend(4, 6, 6, 5);
+    const struct bufpool_holder one = bufpool_holder_of(1), two = bufpool_holder_of(2);
     struct bufpool_pinned p;
     see(bufpool_log_inserted_to(&m, 147) == BUFPOOL_DONE, "log inserted");
-    see(bufpool_pin_page(&m, bufpool_name_of(table_file, 5), &p) == BUFPOOL_DONE, "pin");
-    see(bufpool_write_buffer(&m, p.buffer, 24, line, sizeof line, 147) == BUFPOOL_DONE, "write");
-    see(bufpool_pin_page(&m, bufpool_name_of(map_file, 0), &p) == BUFPOOL_DONE, "pin");
+    see(bufpool_pin_page(&m, one, bufpool_name_of(table_file, 5), &p) == BUFPOOL_DONE, "pin");
+    see(bufpool_write_buffer(&m, one, p.buffer, 24, line, sizeof line, 147) == BUFPOOL_DONE, "write");
+    see(bufpool_pin_page(&m, two, bufpool_name_of(map_file, 0), &p) == BUFPOOL_DONE, "pin");
     return m;
 }
 
@@ -61,6 +63,14 @@ static void short_pool(struct bufpool *m) { LENGTH(m, pool, 2047); }
 static void short_free(struct bufpool *m) { LENGTH(m, free, 3); }
 static void short_links(struct bufpool *m) { LENGTH(m, heads, 3), LENGTH(m, chain, 3); }
 static void short_rows(struct bufpool *m) { LENGTH(m, rows, 11); }
+static void short_counts(struct bufpool *m) { LENGTH(m, counts, 2 * BUFPOOL_MAX_HOLDERS - 1); }
+static void long_counts(struct bufpool *m) { LENGTH(m, counts, BUFPOOL_MAX_HOLDERS * BUFPOOL_MAX_BUFFERS + 1); }
+static void count_more(struct bufpool *m) { m->counts[BUFPOOL_MAX_HOLDERS - 1] = 65535; }
+static void count_gone(struct bufpool *m) { m->counts[1] = 0; }
+static void count_moved(struct bufpool *m) { m->counts[1] = 0, m->counts[BUFPOOL_MAX_HOLDERS + 1] = 1; }
+static void count_of_none(struct bufpool *m) { m->counts[2 * BUFPOOL_MAX_HOLDERS] = 1; }
+static void pins_more(struct bufpool *m) { m->states[1]++; }
+static void pins_none(struct bufpool *m) { m->states[1]--; }
 
 static void long_control(struct bufpool *m) { LENGTH(m, control, BUFPOOL_CONTROL_WORDS + 1); }
 static void long_names(struct bufpool *m) { LENGTH(m, names, BUFPOOL_NAME_WORDS * BUFPOOL_MAX_BUFFERS + 1); }
@@ -89,6 +99,13 @@ static void null_pointers(struct bufpool *m)
     m->states = m->names = m->rows = NULL;
     m->free = m->heads = m->chain = NULL;
     m->pool = m->store = NULL;
+    m->counts = NULL;
+}
+
+static void null_counts(struct bufpool *m)
+{
+    free(m->counts);
+    m->counts = NULL;
 }
 
 static void null_pages(struct bufpool *m)
@@ -118,7 +135,12 @@ static void all_ones(struct bufpool *m)
     memset(m->pool, 0xFF, m->pool_len);
 }
 
-static const struct { const char *text; void (*damage)(struct bufpool *m); } cases[] = {
+struct damage {
+    const char *text;
+    void (*damage)(struct bufpool *m);
+};
+
+static const struct damage cases[] = {
     {"sound", nothing}, {"the hand is beyond", hand}, {"the hand is far beyond", far_hand}, {"the free list begins beyond", top},
     {"the free list begins with -2", top_off}, {"the free list begins with a page", top_used}, {"a free link leads far", link_far},
     {"a free link is low", link_low}, {"a free link leads back", link_back}, {"the free list ends early", link_early},
@@ -131,7 +153,12 @@ static const struct { const char *text; void (*damage)(struct bufpool *m); } cas
     {"a page has no row", no_row}, {"a bucket leads far", far_head}, {"a dirty page is beyond the log", far_page},
     {"seven words of the control record", long_control}, {"5121 words of names", long_names}, {"1025 free links", long_free},
     {"4097 heads", long_heads}, {"1025 chain links", long_chain}, {"a cap of 0", no_cap}, {"the cap is far beyond", far_cap},
-    {"a usage count above the cap", used_more}};
+    {"a usage count above the cap", used_more}, {NULL, NULL}};
+
+static const struct damage count_cases[] = {
+    {"one count is missing", short_counts}, {"65537 counts", long_counts}, {"no counts", null_counts}, {"a count more", count_more},
+    {"a count is gone", count_gone}, {"a count is another buffer's", count_moved}, {"an empty buffer has a count", count_of_none},
+    {"a pin more in the word", pins_more}, {"a pin fewer in the word", pins_none}, {NULL, NULL}};
 
 static void dump(FILE *out, const struct bufpool *m, const char *text, uint32_t pool)
 {
@@ -140,16 +167,16 @@ static void dump(FILE *out, const struct bufpool *m, const char *text, uint32_t 
     see(bufpool_dump(out, m, &event) == 0, "dump");
 }
 
-static void each(FILE *out)
+static void each(FILE *out, const struct damage *of)
 {
     unsigned k;
-    for (k = 0; k < sizeof cases / sizeof *cases; k++) {
+    for (k = 0; of[k].text != NULL; k++) {
         struct bufpool m = some_pool();
-        cases[k].damage(&m);
-        printf("%u. pool %u: %s\n  ", k + 1, k + 1, cases[k].text);
+        of[k].damage(&m);
+        printf("%u. pool %u: %s\n  ", k + 1, k + 1, of[k].text);
         bufpool_print(stdout, &m);
         putchar('\n');
-        dump(out, &m, cases[k].text, k + 1);
+        dump(out, &m, of[k].text, k + 1);
         give_back(&m);
     }
 }
@@ -159,7 +186,7 @@ static void damage_word(struct bufpool *m)
 {
     const uint64_t values[] = {random_below(8), UINT64_MAX - random_below(3), INT32_MAX - (uint64_t)random_below(2), 1024, state};
     uint64_t value = values[random_below(5)];
-    switch (random_below(8)) {
+    switch (random_below(9)) {
     case 0: m->control[random_below(BUFPOOL_CONTROL_WORDS)] = value; break;
     case 1: m->states[random_below((uint32_t)m->states_len)] = (uint32_t)value; break;
     case 2: m->names[random_below((uint32_t)m->names_len)] = (uint32_t)value; break;
@@ -167,6 +194,7 @@ static void damage_word(struct bufpool *m)
     case 4: m->rows[random_below((uint32_t)m->rows_len)] = (uint32_t)value; break;
     case 5: m->heads[random_below((uint32_t)m->heads_len)] = (int32_t)value; break;
     case 6: m->chain[random_below((uint32_t)m->chain_len)] = (int32_t)value; break;
+    case 7: m->counts[random_below((uint32_t)m->counts_len)] = (uint16_t)value; break;
     default: m->pool[random_below((uint32_t)m->pool_len)] = (uint8_t)value;
     }
 }
@@ -223,7 +251,7 @@ int main(int argc, char **argv)
     } else if (argc > 2) {
         out = fopen(argv[2], "wb");
         see(out != NULL, "a file for the dump");
-        if (argc == 3) each(out);
+        if (argc == 3) each(out, strcmp(argv[1], "counts") == 0 ? count_cases : cases);
         if (argc == 4) random_damage(out, (unsigned)atoi(argv[3]));
         see(fclose(out) == 0, "the dump is closed");
     }

@@ -44,6 +44,7 @@ struct bufpool lend(uint32_t buffers, uint32_t buckets, uint32_t blocks, uint64_
     m.heads = fresh(m.heads_len, sizeof *m.heads);
     m.chain = fresh(m.chain_len, sizeof *m.chain);
     m.store = fresh(m.store_len, 1);
+    m.counts = fresh(m.counts_len, sizeof *m.counts);
     memset(m.store, 0, m.store_len);
     see(bufpool_set_up_pool(&m, PAGE, 100, cap) == BUFPOOL_DONE, "set up");
     return m;
@@ -60,4 +61,5 @@ void give_back(struct bufpool *m)
     free(m->chain);
     free(m->rows);
     free(m->store);
+    free(m->counts);
 }

@@ -15,27 +15,30 @@ static uint64_t control[8];
 static uint32_t states[8], names[40], rows[6 * 66];
 static int32_t free_links[8], heads[8], chain[8];
 static uint8_t pool[BUFFERS * PAGE], store[BLOCKS * PAGE];
+static uint16_t counts[BUFPOOL_MAX_HOLDERS * BUFFERS + 1];
 
 /* What set up is given; a page of 0 where it is not set up that is asked about. */
 struct given {
     uint64_t page, cap;
 };
 
-/* Pages in the buffers 0, 1 and 2, of which 1 is dirty; 3 is empty. */
+/* Pages in the buffers 0, 1 and 2, each pinned by another holder, 1 dirty; 3 is empty. */
 static int make_pool(struct bufpool *m)
 {
     static const struct bufpool_file table = {1663, 5, 16384, 0}, map = {1663, 5, 16384, 2};
     static const struct bufpool_buffer second = {1};
+    static const struct bufpool_holder low = {0}, high = {BUFPOOL_MAX_HOLDERS - 1}, some = {7};
     struct bufpool_pinned pinned;
     *m = (struct bufpool){.control = control, .states = states, .names = names, .pool = pool, .free = free_links, .heads = heads,
-                          .chain = chain, .rows = rows, .store = store};
+                          .chain = chain, .rows = rows, .store = store, .counts = counts};
     bufpool_fill_row(rows, table, 4, 5);
     bufpool_fill_row(rows + BUFPOOL_ROW_WORDS, map, 1, 2);
     bufpool_fit(m, BUFFERS, BUCKETS, FILES, PAGE);
     return bufpool_set_up_pool(m, PAGE, 100, BUFPOOL_DEFAULT_CAP) == 0 &&
-           bufpool_pin_page(m, bufpool_name_of(table, 0), &pinned) == 0 && bufpool_pin_page(m, bufpool_name_of(table, 1), &pinned) == 0 &&
-           bufpool_pin_page(m, bufpool_name_of(map, 0), &pinned) == 0 &&
-           bufpool_write_buffer(m, second, 8, (const uint8_t *)"till", 4, 100) == 0;
+           bufpool_pin_page(m, low, bufpool_name_of(table, 0), &pinned) == 0 &&
+           bufpool_pin_page(m, high, bufpool_name_of(table, 1), &pinned) == 0 &&
+           bufpool_pin_page(m, some, bufpool_name_of(map, 0), &pinned) == 0 &&
+           bufpool_write_buffer(m, high, second, 8, (const uint8_t *)"till", 4, 100) == 0;
 }
 
 /* A slice of the pool: where its pointer and its length stand in struct bufpool, and how many bytes an element has. */
@@ -49,7 +52,7 @@ struct part {
 static const struct part *part_of(const char *name)
 {
     static const struct part parts[] = {PART(control, 8), PART(states, 4), PART(names, 4), PART(pool, 1), PART(free, 4),
-                                        PART(heads, 4), PART(chain, 4), PART(rows, 4), PART(store, 1)};
+                                        PART(heads, 4), PART(chain, 4), PART(rows, 4), PART(store, 1), PART(counts, 2)};
     for (size_t k = 0; k < sizeof parts / sizeof *parts; k++)
         if (strcmp(parts[k].name, name) == 0) return &parts[k];
     fprintf(stderr, "no slice is called %s\n", name);
@@ -79,7 +82,7 @@ static uint32_t library(struct bufpool *m, struct given given)
 {
     uint64_t answer[BUFPOOL_ANSWER_WORDS] = {0};
     if (m->control == NULL || m->states == NULL || m->names == NULL || m->pool == NULL || m->free == NULL || m->heads == NULL ||
-        m->chain == NULL || m->rows == NULL || m->store == NULL) return 1;
+        m->chain == NULL || m->rows == NULL || m->store == NULL || m->counts == NULL) return 1;
     if (given.page != 0) return bufpool_set_up(BUFPOOL_LENT(m), given.page, 100, given.cap, answer, BUFPOOL_ANSWER_WORDS);
     return bufbooks_check(BUFPOOL_LENT(m), answer, BUFPOOL_ANSWER_WORDS);
 }

@@ -62,7 +62,8 @@ static uint8_t *unreadable(void)
 static struct bufpool lend(const struct memory *m)
 {
     return (struct bufpool){m->control, m->control_len, m->states, m->states_len, m->names, m->names_len, m->pool, m->pool_len, m->free,
-                            m->free_len, m->heads, m->heads_len, m->chain, m->chain_len, m->rows, m->rows_len, m->store, m->store_len};
+                            m->free_len, m->heads, m->heads_len, m->chain, m->chain_len, m->rows, m->rows_len, m->store, m->store_len,
+                            m->counts, m->counts_len};
 }
 
 static void count_result(unsigned long *counts, uint32_t result)
@@ -99,6 +100,7 @@ static int compare_set_up(const struct memory *m, uint64_t page, uint64_t cap, u
     hidden.control = (uint64_t *)(void *)nowhere;
     hidden.states = hidden.names = (uint32_t *)(void *)nowhere;
     hidden.free = hidden.heads = hidden.chain = (int32_t *)(void *)nowhere;
+    hidden.counts = (uint16_t *)(void *)nowhere;
     uint32_t got = why_set_up(&hidden, page, cap, words, sizeof words);
     uint32_t wanted = bufpool_set_up(BUFPOOL_LENT(&lent), page, 100, cap, answer, ANSWER_WORDS);
     count_result(set_up, wanted);

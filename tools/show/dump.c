@@ -17,8 +17,8 @@ void *memory(size_t count, size_t size)
 /* Of the pages a snapshot has only the log positions, and of the store nothing. */
 static struct bufpool lent(struct snapshot *s, uint8_t *bytes)
 {
-    struct bufpool m = {LENT(0, s->control), LENT(1, s->states), LENT(2, s->names), LENT(3, bytes),  LENT(4, s->free),
-                        LENT(5, s->heads),   LENT(6, s->chain),  LENT(7, s->rows),  LENT(8, bytes)};
+    struct bufpool m = {LENT(0, s->control), LENT(1, s->states), LENT(2, s->names), LENT(3, bytes), LENT(4, s->free),
+                        LENT(5, s->heads),   LENT(6, s->chain),  LENT(7, s->rows),  LENT(8, bytes), LENT(9, s->counts)};
     return m;
 }
 
@@ -77,7 +77,8 @@ static enum reading read_head(FILE *dump, struct bufpool_dump_head *head, char *
 static int read_slices(FILE *dump, struct snapshot *s)
 {
     const struct { void *at; size_t size; } slices[BUFPOOL_KEPT_SLICES] = {
-        {s->control, 8}, {s->states, 4}, {s->names, 4}, {s->free, 4}, {s->heads, 4}, {s->chain, 4}, {s->rows, 4}, {s->positions, 8}};
+        {s->control, 8}, {s->states, 4}, {s->names, 4},  {s->free, 4},     {s->heads, 4},
+        {s->chain, 4},   {s->rows, 4},   {s->counts, 2}, {s->positions, 8}};
     int k;
     for (k = 0; k < BUFPOOL_KEPT_SLICES; k++) {
         if (fread(slices[k].at, slices[k].size, s->head.kept[k], dump) != s->head.kept[k]) return 0;
@@ -132,7 +133,7 @@ static uint8_t *pages_of(const struct snapshot *s)
 /* Every element that a length speaks of is kept, and a page for each state word. */
 static int whole(const struct snapshot *s)
 {
-    static const int length_of[BUFPOOL_KEPT_SLICES] = {0, 1, 2, 4, 5, 6, 7, 1};
+    static const int length_of[BUFPOOL_KEPT_SLICES] = {0, 1, 2, 4, 5, 6, 7, 9, 1};
     int k;
     for (k = 0; k < BUFPOOL_KEPT_SLICES; k++) {
         if (s->head.kept[k] != s->head.lengths[length_of[k]]) return 0;

@@ -16,6 +16,7 @@ struct snapshot {
     int32_t heads[BUFPOOL_MAX_BUCKETS];
     int32_t chain[BUFPOOL_MAX_BUFFERS];
     uint32_t rows[BUFPOOL_ROW_WORDS * BUFPOOL_MAX_FILES];
+    uint16_t counts[BUFPOOL_MAX_HOLDERS * BUFPOOL_MAX_BUFFERS];
     uint64_t positions[BUFPOOL_MAX_BUFFERS];
 };
 

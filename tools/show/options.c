@@ -18,6 +18,7 @@ static const char help[] =
     "  --file T,D,R,F=NAME  prints NAME for the file with these four numbers; once for each file\n"
     "A step is a snapshot beside the one before it: what happened, the buffers that the hand came to, what changed. A page is\n"
     "evicted if the pin's sweep took its buffer, else replaced or gone. Of the pages a snapshot has only the log positions.\n"
+    "A buffer's pins are the holders that have some; which they are, and how many each has, stands behind the log position.\n"
     "'damaged:' is followed by the first rule that the pool breaks; a step has it if it was not said of the one shown before.\n"
     "Status: 0; 1 if no snapshot is of those asked for, or if the file cannot be read as snapshots to its end; 2 for a wrong option.\n";
 

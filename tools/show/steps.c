@@ -29,6 +29,31 @@ static int same_name(const struct snapshot *before, const struct snapshot *s, ui
     return memcmp(name_of(before, b), name_of(s, b), BUFPOOL_NAME_WORDS * sizeof(uint32_t)) == 0;
 }
 
+/* A buffer's private counts; zeros where they are not there. */
+static const uint16_t *counts_of(const struct snapshot *s, uint64_t b)
+{
+    static const uint16_t none[BUFPOOL_MAX_HOLDERS];
+    const uint16_t *counts = bufpool_view_counts(&s->view, b);
+    return counts != NULL ? counts : none;
+}
+
+static int same_counts(const struct snapshot *before, const struct snapshot *s, uint64_t b)
+{
+    return memcmp(counts_of(before, b), counts_of(s, b), BUFPOOL_MAX_HOLDERS * sizeof(uint16_t)) == 0;
+}
+
+/* Whose pins on a buffer are others than before: "holder 2: 0 -> 1". */
+static void print_holders_change(const char *comma, const struct snapshot *before, const struct snapshot *s, uint64_t b)
+{
+    const uint16_t *was = counts_of(before, b), *is = counts_of(s, b);
+    uint32_t h;
+    for (h = 0; h < BUFPOOL_MAX_HOLDERS; h++) {
+        if (was[h] == is[h]) continue;
+        printf("%sholder %u: %u -> %u", comma, h, was[h], is[h]);
+        comma = ", ";
+    }
+}
+
 /* The page stayed: what else of it changed. */
 static void print_same_page(const struct snapshot *before, const struct snapshot *s, uint64_t b)
 {
@@ -50,7 +75,11 @@ static void print_same_page(const struct snapshot *before, const struct snapshot
         part(comma, "log position", position_of(before, b), position_of(s, b));
         comma = ", ";
     }
-    if ((was ^ is) >> 22 != 0 && (was ^ is) >> 22 != DIRTY_FLAGS) printf("%sstate word 0x%08X -> 0x%08X", comma, was, is);
+    if ((was ^ is) >> 22 != 0 && (was ^ is) >> 22 != DIRTY_FLAGS) {
+        printf("%sstate word 0x%08X -> 0x%08X", comma, was, is);
+        comma = ", ";
+    }
+    print_holders_change(comma, before, s, b);
 }
 
 /* What became of a page that is not in the buffer any more. Snapshots have it only of a page that this step's sweep took the buffer from:
@@ -69,7 +98,7 @@ static void print_other_page(const struct snapshot *before, const struct snapsho
     uint32_t was = before->states[b], is = s->states[b];
     char text[BUFPOOL_PAGE_TEXT], usage[BUFPOOL_PAGE_TEXT];
     if (!bufpool_state_empty(was)) printf(" page %s %s", bufpool_page_text(&before->view, b, text), end_of_page(before, s, b));
-    if (bufpool_state_empty(was) && bufpool_state_empty(is)) printf(" empty, and its name or position is another one");
+    if (bufpool_state_empty(was) && bufpool_state_empty(is)) printf(" empty, and its name, position or private counts are others");
     if (bufpool_state_empty(is)) return;
     printf(" page %s loaded: pins %u, usage %s, %s, log position %llu", bufpool_page_text(&s->view, b, text), bufpool_state_pins(is),
            bufpool_usage_text(&s->view, is, usage), bufpool_state_dirty(is) ? "dirty" : "clean", (bufpool_shown)position_of(s, b));
@@ -80,7 +109,7 @@ enum change { SAME, USAGE_ALONE, MORE };
 static enum change change_of(const struct snapshot *before, const struct snapshot *s, uint64_t b)
 {
     uint32_t differ = before->states[b] ^ s->states[b];
-    if (!same_name(before, s, b) || position_of(before, b) != position_of(s, b)) return MORE;
+    if (!same_name(before, s, b) || position_of(before, b) != position_of(s, b) || !same_counts(before, s, b)) return MORE;
     if (differ == 0) return SAME;
     return bufpool_state_usage(differ) << 18 == differ ? USAGE_ALONE : MORE;
 }
@@ -95,6 +124,7 @@ static void print_buffer_change(const struct snapshot *before, const struct snap
     } else {
         printf("  buffer %llu:", (bufpool_shown)b);
         print_other_page(before, s, b);
+        print_holders_change("\n    ", before, s, b);
     }
     putchar('\n');
 }

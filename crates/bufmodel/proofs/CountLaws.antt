@@ -18,6 +18,13 @@ pub length-setCount : (cs : List ℕ) (i h c : ℕ) → length (setCount cs i h 
 unfolding setCount
 length-setCount cs i h c = length-set cs (countPlace i h) c
 
+-- equal counts of a buffer give as many holders
+pub holders-same : (cs ds : List ℕ) (i : ℕ) → ((h : ℕ) → h < maxHolders → countAt cs i h ≡ countAt ds i h) → holdersOf cs i ≡ holdersOf ds i
+unfolding holdersOf hasPin count
+holders-same cs ds i same =
+    sum-same (λ h. ind (not (eqb (countAt cs i h) 0))) (λ h. ind (not (eqb (countAt ds i h) 0))) maxHolders
+    (λ h l. ap (λ (c : ℕ). ind (not (eqb c 0))) (same h l))
+
 module _ (cs : List ℕ) (i h c : ℕ) (fits : i * maxHolders + maxHolders ≤ length cs) (l : h < maxHolders) where
   pub count-same : countAt (setCount cs i h c) i h ≡ c
   unfolding countAt setCount
@@ -33,10 +40,7 @@ module _ (cs : List ℕ) (i h c : ℕ) (fits : i * maxHolders + maxHolders ≤ l
 
   -- other buffers have as many holders as before
   pub holders-other : (j : ℕ) → j ≢ i → holdersOf (setCount cs i h c) j ≡ holdersOf cs j
-  unfolding holdersOf hasPin count
-  holders-other j ne =
-      sum-same (λ k. ind (not (eqb (countAt (setCount cs i h c) j k) 0))) (λ k. ind (not (eqb (countAt cs j k) 0))) maxHolders
-      (λ k m. ap (λ (x : ℕ). ind (not (eqb x 0))) (count-other j k m (λ e f. ne e)))
+  holders-other j ne = holders-same (setCount cs i h c) cs j (λ k m. count-other j k m (λ e f. ne e))
 
   -- this one: one more or one less at most
   pub holders-change : holdersOf (setCount cs i h c) i + ind (hasPin cs i h) ≡ holdersOf cs i + ind (not (eqb c 0))

@@ -17,7 +17,7 @@ use Rattle.bufmodel.specs.Counts.{maxHolders, countAt, setCount, hasPin,
 use Rattle.bufmodel.specs.Books.{emptyAt}
 use Rattle.bufmodel.specs.Pin.{heldWord}
 use Rattle.bufmodel.specs.Calls.{lessWord, unpinAt, givenWord, giveAt, giveUpTo}
-use Rattle.bufmodel.proofs.WordLaws.{Held, Fields, sound-held, held-sound, held-lt, pin-more, pin-less, empty-zero, zero-pins}
+use Rattle.bufmodel.proofs.WordLaws.{Held, Fields, sound-held, held-sound, held-lt, pin-more, pin-less, pins-pinned, empty-zero, zero-pins}
 use Rattle.bufmodel.proofs.CountLaws.{
   length-setCount,
   count-same,
@@ -116,9 +116,22 @@ module _ (m : Memory) (k : Good m) (h i : ℕ) (few : h < maxHolders) (l : i < b
       (λ f. f)
       (true-or-false (empty w))
 
+  -- the holders of a buffer that somebody holds
+  pub some-pins : c ≢ 0 → 0 < pins w
+  some-pins ne = omega (arith, pin-some (m .counts) i h few ne, k .books .counts i l)
+
   -- a holder's first pin: there is room for one
   first-fits : c ≡ 0 → suc (pins w) < 2 ^ 18
   first-fits z = omega (arith, first-room (m .counts) i h few z, k .books .counts i l)
+
+  -- the new word is one of a buffer in use, as dirty as the old one
+  pub hit-held : emptyAt m i ≡ false → Held (capOf m) (heldWord (capOf m) c w) × (dirty (heldWord (capOf m) c w) ≡ dirty w)
+  unfolding heldWord
+  hit-held f =
+      ⊎-elim
+      (λ z. rw (eq-eqb c 0 z) (let x = pin-more (held f) (k .books .cap .1) (first-fits z) in (x .held, x .dirty)))
+      (λ ne. rw (ne-eqb c 0 ne) (held f, refl))
+      (eq-or-ne c 0)
 
   pub hit-turned : emptyAt m i ≡ false → Turned (capOf m) w (heldWord (capOf m) c w)
   unfolding heldWord
@@ -138,11 +151,27 @@ module _ (m : Memory) (k : Good m) (h i : ℕ) (few : h < maxHolders) (l : i < b
       (λ ne. rw (ne-eqb c 0 ne) (omega (arith, pin-one (m .counts) i h ne)))
       (eq-or-ne c 0)
 
+  -- it is pinned afterwards, by this holder at least
+  pub hit-some : emptyAt m i ≡ false → 0 < pins (heldWord (capOf m) c w)
+  hit-some f =
+      ⊎-elim
+      (λ z. omega (arith, hit-pins f, pin-none (m .counts) i h z))
+      (λ ne. omega (arith, hit-pins f, some-pins ne, pin-one (m .counts) i h ne))
+      (eq-or-ne c 0)
+
   -- A HIT
   pub hit-good : emptyAt m i ≡ false → Good (recounted m h i (heldWord (capOf m) c w) (c + 1))
   hit-good f =
       recount-good m k h i few l (heldWord (capOf m) c w) (c + 1) (hit-turned f)
       (hit-pins f ∙ ap (λ (x : ℕ). pins w + x) (sym (ind-one (ap not (ne-eqb (c + 1) 0 (λ e. omega arith))))))
+
+  pub less-held : c ≢ 0 → Held (capOf m) (lessWord c w) × (dirty (lessWord c w) ≡ dirty w)
+  unfolding lessWord
+  less-held ne =
+      ⊎-elim
+      (λ z. rw (eq-eqb c 1 z) (let x = pin-less (held (some-full ne)) in (x .held, x .dirty)))
+      (λ q. rw (ne-eqb c 1 q) (held (some-full ne), refl))
+      (eq-or-ne c 1)
 
   pub less-turned : c ≢ 0 → Turned (capOf m) w (lessWord c w)
   unfolding lessWord
@@ -151,10 +180,6 @@ module _ (m : Memory) (k : Good m) (h i : ℕ) (few : h < maxHolders) (l : i < b
       (λ z. rw (eq-eqb c 1 z) (turned-fields (held (some-full ne)) (pin-less (held (some-full ne)))))
       (λ q. rw (ne-eqb c 1 q) (turned-same (capOf m) w (k .books .words i l)))
       (eq-or-ne c 1)
-
-  -- the holders of a buffer that somebody holds
-  some-pins : c ≢ 0 → 0 < pins w
-  some-pins ne = omega (arith, pin-some (m .counts) i h few ne, k .books .counts i l)
 
   pub less-pins : c ≢ 0 → pins (lessWord c w) + 1 ≡ pins w + ind (not (eqb (c - 1) 0))
   unfolding lessWord
@@ -170,6 +195,17 @@ module _ (m : Memory) (k : Good m) (h i : ℕ) (few : h < maxHolders) (l : i < b
       )))
       (λ q. rw (ne-eqb c 1 q) (omega (arith, ind-one (ap not (ne-eqb (c - 1) 0 (λ e. absurd (omega arith)))))))
       (eq-or-ne c 1)
+
+  -- so that the word counts the holders afterwards
+  pub less-holders : c ≢ 0 → pins (lessWord c w) ≡ holdersOf (setCount (m .counts) i h (c - 1)) i
+  less-holders ne =
+      omega (
+        arith,
+        less-pins ne,
+        k .books .counts i l,
+        pin-one (m .counts) i h ne,
+        holders-change (m .counts) i h (c - 1) (row-fits m k h i few l) few,
+      )
 
   -- AN UNPIN
   pub unpin-good : c ≢ 0 → Good (unpinAt m h i)
@@ -192,6 +228,23 @@ module _ (m : Memory) (k : Good m) (h i : ℕ) (few : h < maxHolders) (l : i < b
       ⊎-elim
       (λ z. rw (eq-eqb c 0 z) (omega (arith, pin-none (m .counts) i h z)))
       (λ ne. rw (ne-eqb c 0 ne) (omega (arith, pin-less (held (some-full ne)) .pins, some-pins ne, pin-one (m .counts) i h ne)))
+      (eq-or-ne c 0)
+
+  pub given-held : emptyAt m i ≡ false → Held (capOf m) (givenWord c w)
+  unfolding givenWord
+  given-held f =
+      ⊎-elim
+      (λ z. rw (eq-eqb c 0 z) (held f))
+      (λ ne. rw (ne-eqb c 0 ne) (pin-less (held f) .held))
+      (eq-or-ne c 0)
+
+  -- an unpinned buffer's word stays
+  pub given-free : pinned w ≡ false → pinned (givenWord c w) ≡ false
+  unfolding givenWord
+  given-free f =
+      ⊎-elim
+      (λ z. rw (eq-eqb c 0 z) f)
+      (λ ne. never (pins-pinned w (some-pins ne)) f)
       (eq-or-ne c 0)
 
   -- A GIVING BACK, of one buffer

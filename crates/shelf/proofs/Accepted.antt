@@ -18,7 +18,7 @@ use Rattle.shelf.specs.Ledger.{Ledger, bufferIn, putBy, acceptedBy, ledg
 use Rattle.shelf.specs.Statement.{Answers, Shows}
 use Rattle.shelf.proofs.ShelfSizes.{sizes-after}
 use Rattle.shelf.proofs.Kept.{View, shelfOf, ledgerOf, viewOf, Kept, Ended}
-use Rattle.shelf.proofs.KeptLaws.{page-held, sums-kept}
+use Rattle.shelf.proofs.KeptLaws.{page-held, counts-held, sums-kept}
 use Rattle.shelf.proofs.ShelfPlaces.{six-of}
 
 -- the ledger after an accepted call that answered so
@@ -110,6 +110,7 @@ module _ (m : Memory) (v : View) (c : Call) (answer bytes : List ℕ) (m′ : Me
               long = a .long;
               stored = λ g l. a .stored g;
               held = page-held m′ (viewOf (ledgerThen m v c answer)) (a .kept);
+              counts = counts-held m′ (viewOf (ledgerThen m v c answer)) (a .kept);
               sums = λ x g e.
                   ap (λ (p : ℕ). fails (x .block .0) (block p g (m′ .store))) (a .wide)
                   ∙ sums-kept m′ (viewOf (ledgerThen m v c answer)) (a .kept) x g e;

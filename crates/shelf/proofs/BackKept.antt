@@ -32,7 +32,7 @@ use Rattle.shelf.proofs.TurnKept.{turned, turned-then, turned-has, turn
 abbrev pub backOf : Memory → ℕ → ℕ → Memory
 backOf m i g =
     turned m i (max (m .control .flushed) (position (pageOf m i))) (makeClean (wordOf m i)) (m .pool)
-    (putBlock (size m) g (sealed (nameOf m i .block .0) (pageOf m i)) (m .store))
+    (putBlock (size m) g (sealed (nameOf m i .block .0) (pageOf m i)) (m .store)) (m .counts)
 
 -- a dirty page goes to its place
 pub back-dirty : (m : Memory) (i g : ℕ) → placeOf (m .rows) (nameOf m i) ≡ found g → dirty (wordOf m i) ≡ true
@@ -83,10 +83,10 @@ module _ (m : Memory) (v : View) (k : Kept m v) (i g : ℕ) (x : Has m i g) wher
 
   -- ---- the same buffers have the same pages
   pub back-then : (j q : ℕ) → Has (backOf m i g) j q → Has m j q
-  back-then = turned-then m i g x _ _ _ _ (clean-word .held .full)
+  back-then = turned-then m i g x _ _ _ _ _ (clean-word .held .full)
 
   pub back-has : (j q : ℕ) → Has m j q → Has (backOf m i g) j q
-  back-has = turned-has m i g x _ _ _ _ (clean-word .held .full)
+  back-has = turned-has m i g x _ _ _ _ _ (clean-word .held .full)
 
   -- ---- the store: the page's block is put, the others stay
   -- the page fits its block, and its place is in the store
@@ -134,7 +134,7 @@ module _ (m : Memory) (v : View) (k : Kept m v) (i g : ℕ) (x : Has m i g) wher
   kept-backOf d =
       let s = k .same i g x in
       let b = k .good .books in
-      turn-kept m v k i g x _ (makeClean (wordOf m i)) (m .pool) (backOf m i g .store) (viewBack v g)
+      turn-kept m v k i g x _ (makeClean (wordOf m i)) (m .pool) (backOf m i g .store) (m .counts) (viewBack v g)
       (record {
         held = clean-word .held;
         log = omega (arith, b .log, b .low i (x .below) d);
@@ -142,18 +142,21 @@ module _ (m : Memory) (v : View) (k : Kept m v) (i g : ℕ) (x : Has m i g) wher
         pages = λ j l ne. refl;
         sizeStore = back-long;
         blocks = λ h l ne. back-other h ne;
+        sizeCounts = refl;
+        rows = λ j ne h l. refl;
+        holders = clean-word .pins ∙ b .counts i (x .below);
         low = λ t. never t (clean-word .dirty);
         clean = λ t. ap bare back-same ∙ out-bare;
         sum = back-passes;
         bads = λ h. refl;
         bytes = s .bytes;
-        counts = s .counts ∙ sym (clean-word .pins);
+        counts = s .counts;
         marked = rw (isPlace-self g) (sym (clean-word .dirty));
         holds = k .holds i (x .below) ∙ rw (x .place, clean-word .pins);
         last = s .last;
         elsewhere = record {
           bytes = λ h ne. refl;
-          counts = λ h ne. refl;
+          counts = λ o h ne. refl;
           marks = λ h ne. rw (isPlace-other g h ne);
           holds = λ j ne. refl;
           last = λ j ne. refl;

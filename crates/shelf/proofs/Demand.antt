@@ -4,7 +4,7 @@ use mathlib.Core.Path.{_≡_, sym, subst}
 use mathlib.Core.List.{List, []}
 use lib.ListN.{length}
 use Rattle.bufmodel.specs.Calls.{setUp}
-use Rattle.bufmodel.specs.Step.{Pin, Unpin, Read, Write, Flush, Checkpoint, Peek, Extend, Drop, LogInserted, LogFlushed, step}
+use Rattle.bufmodel.specs.Step.{Pin, Unpin, Read, Write, Flush, GiveBack, Checkpoint, Peek, Extend, Drop, LogInserted, LogFlushed, step}
 use Rattle.bufmodel.specs.Lent.{Lent, answerWords, opened, called}
 use Rattle.bufmodel.proofs.CalledLaws.{called-accepted}
 use Rattle.shelf.specs.Ledger.{Ledger, firstLedger}
@@ -14,6 +14,7 @@ use Rattle.shelf.proofs.Start.{start-kept, start-ledger}
 use Rattle.shelf.proofs.SetUpSays.{sets-up}
 use Rattle.shelf.proofs.StepPin.{pin-step}
 use Rattle.shelf.proofs.StepUnpin.{unpin-step}
+use Rattle.shelf.proofs.StepGive.{give-step}
 use Rattle.shelf.proofs.StepRead.{read-step}
 use Rattle.shelf.proofs.StepWrite.{write-step}
 use Rattle.shelf.proofs.StepFlush.{flush-step}
@@ -24,12 +25,13 @@ use Rattle.shelf.proofs.StepDrop.{drop-step}
 use Rattle.shelf.proofs.StepLog.{inserted-step, flushed-step}
 use Rattle.shelf.proofs.Lift.{callsOf, fits-calls, lift}
 
-steps : Steps
-steps m v (Pin n) k f = pin-step m v k n
-steps m v (Unpin i) k f = unpin-step m v k i
-steps m v (Read i from out) k f = read-step m v k i from out
-steps m v (Write i from bytes at) k f = write-step m v k i from bytes at (f .3)
-steps m v (Flush i) k f = flush-step m v k i
+pub steps : Steps
+steps m v (Pin h n) k f = pin-step m v k h n
+steps m v (Unpin h i) k f = unpin-step m v k h i
+steps m v (Read h i from out) k f = read-step m v k h i from out
+steps m v (Write h i from bytes at) k f = write-step m v k h i from bytes at (f .4)
+steps m v (Flush h i) k f = flush-step m v k h i
+steps m v (GiveBack h) k f = give-step m v k h
 steps m v Checkpoint k f = checkpoint-step m v k
 steps m v (Peek n) k f = peek-step m v k n
 steps m v (Extend f) k g = extend-step m v k f

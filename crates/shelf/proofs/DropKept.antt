@@ -15,9 +15,11 @@ use Rattle.bufmodel.specs.Checksum.{passes}
 use Rattle.bufmodel.specs.Word.{pins, pinned, dirty, empty}
 use Rattle.bufmodel.specs.Rows.{setBlocks, rowOf, placeOf}
 use Rattle.bufmodel.specs.Memory.{Memory, buffers, size, capOf, wordOf, nameOf, withRows}
+use Rattle.bufmodel.specs.Counts.{maxHolders}
 use Rattle.bufmodel.specs.Books.{emptyAt}
 use Rattle.bufmodel.specs.Moves.{ofFile}
 use Rattle.bufmodel.proofs.WordLaws.{zero-unpinned, unpinned-none, Held}
+use Rattle.bufmodel.proofs.CountLaws.{holders-none}
 use Rattle.bufmodel.proofs.HeldLaws.{pinned-full}
 use Rattle.bufmodel.proofs.RowsLaws.{row-found, place-other, place-gone, store-set}
 use Rattle.bufmodel.proofs.DropLaws.{of-says, onto, Released, left-other, cleared-good}
@@ -133,7 +135,7 @@ module _ (m : Memory) (v : View) (k : Kept m v) (f : FileName) (r : ℕ) (e : ro
         let w = x .word i (λ l. ne) in
         record {
           bytes = s .bytes;
-          counts = s .counts ∙ ap pins (sym w);
+          counts = s .counts;
           marked = ap (λ (t : Bool). not t && v .dirty g) (sym (of-row m v k f r e i g b) ∙ ne) ∙ s .marked ∙ ap dirty (sym w);
           last = s .last;
           clean = λ q. s .clean (ap dirty (sym w) ∙ q);
@@ -148,10 +150,13 @@ module _ (m : Memory) (v : View) (k : Kept m v) (f : FileName) (r : ℕ) (e : ro
         (w .0, ⊎-elim (λ y. never (sym (of-row m v k f r e (y .0) g (y .1)) ∙ y .2) (w .1)) (λ z. z) (who-had g none))
 
     module _ (free : (i : ℕ) → i < buffers m → ofFile m f i ≡ true → pinned (wordOf m i) ≡ false) where
-      dropped-unpinned : (g : ℕ) → Nobody (droppedMemory m d r) g → v .counts g ≡ 0
+      dropped-unpinned : (g : ℕ) → Nobody (droppedMemory m d r) g → (h : ℕ) → h < maxHolders → v .counts h g ≡ 0
       dropped-unpinned g none =
           ⊎-elim
-          (λ y. k .same (y .0) g (y .1) .counts ∙ unpinned-none _ (free (y .0) (y .1 .below) (y .2)))
+          (λ y h l.
+          let idle = unpinned-none _ (free (y .0) (y .1 .below) (y .2)) in
+          k .same (y .0) g (y .1) .counts h l
+          ∙ holders-none (m .counts) (y .0) h l (sym (k .good .books .counts (y .0) (y .1 .below)) ∙ idle))
           (k .unpinned g)
           (who-had g none)
 

@@ -6,11 +6,12 @@ use mathlib.Core.List.{List, [], _∷_}
 use Rattle.laws.specs.First.{Found, found, missing}
 use Rattle.laws.specs.Block.{block}
 use Rattle.buftag.specs.declared.name.PageName.{PageName}
-use Rattle.bufmodel.specs.Word.{pins, pinned, dirty}
+use Rattle.bufmodel.specs.Word.{pinned, dirty}
 use Rattle.bufmodel.specs.Position.{position}
 use Rattle.bufmodel.specs.Checksum.{bare, passes}
 use Rattle.bufmodel.specs.Rows.{storeBlocks, placeOf}
 use Rattle.bufmodel.specs.Memory.{Memory, buffers, size, capOf, wordOf, nameOf, pageOf}
+use Rattle.bufmodel.specs.Counts.{maxHolders, countAt}
 use Rattle.bufmodel.specs.Books.{emptyAt}
 use Rattle.bufmodel.specs.Outcome.{Outcome}
 use Rattle.bufmodel.specs.Step.{Call, step}
@@ -23,7 +24,8 @@ use Rattle.shelf.proofs.PublishedWords.{HeldWords}
 -- ---- the ledger, less what it shares with the memory: those parts are equal by computation
 pub record View : Type 0 where
   pub bytes : ℕ → List ℕ
-  pub counts : ℕ → ℕ
+  -- holder, page
+  pub counts : ℕ → ℕ → ℕ
   pub holds : ℕ → Found
   pub bad : ℕ → Bool
   pub dirty : ℕ → Bool
@@ -73,7 +75,7 @@ Nobody m g = (i : ℕ) → Has m i g → ⊥
 -- what the ledger says of the page that buffer i has, bytes 8 and 9 left out
 pub record Same (m : Memory) (v : View) (i g : ℕ) : Type 0 where
   pub bytes : bare (v .bytes g) ≡ bare (pageOf m i)
-  pub counts : v .counts g ≡ pins (wordOf m i)
+  pub counts : (h : ℕ) → h < maxHolders → v .counts h g ≡ countAt (m .counts) i h
   pub marked : v .dirty g ≡ dirty (wordOf m i)
   pub last : v .last i ≡ found g
   -- a page that is not dirty equals its block in the store
@@ -87,7 +89,7 @@ pub record Kept (m : Memory) (v : View) : Type 0 where
   pub words : HeldWords m
   pub same : (i g : ℕ) → Has m i g → Same m v i g
   -- a page that no buffer has has no pins, is not dirty, and its bytes, but for 8 and 9, are the store's
-  pub unpinned : (g : ℕ) → Nobody m g → v .counts g ≡ 0
+  pub unpinned : (g : ℕ) → Nobody m g → (h : ℕ) → h < maxHolders → v .counts h g ≡ 0
   pub unmarked : (g : ℕ) → Nobody m g → v .dirty g ≡ false
   pub stored : (n : PageName) (g : ℕ) → placeOf (m .rows) n ≡ found g → Nobody m g
       → bare (v .bytes g) ≡ bare (block (size m) g (m .store))

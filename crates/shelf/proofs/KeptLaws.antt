@@ -1,27 +1,32 @@
 -- Laws of the relation between memory and ledger.
-use Prim.Native.Nat.{ℕ, _<_}
+use Prim.Native.Nat.{ℕ, _+_, _*_, _<_}
 use mathlib.Core.Path.{_≡_, refl, sym, ap, _∙_}
 use mathlib.Core.Bool.{Bool, true, false, not, _&&_, cond, false≢true}
 use mathlib.Core.Logic.{_≢_, _⊎_, inl, inr}
+use mathlib.Core.List.{List}
+use lib.ListN.{getD}
 use lib.Dec.{eqb}
 use borrow.Author.Tests.{eqb-true, eq-eqb, ne-eqb, not-true}
 use Rattle.laws.specs.First.{Found, found, missing, first}
 use Rattle.laws.specs.Block.{block}
 use Rattle.laws.specs.Says.{Says}
+use Rattle.laws.specs.Sum.{ind, count}
 use Rattle.laws.proofs.Tests.{and-left, and-right, and-true, never}
 use Rattle.laws.proofs.First.{found-same, first-found, first-missing}
+use Rattle.laws.proofs.Sum.{sum-same, count-nobody, any-count}
 use Rattle.buftag.specs.declared.name.PageName.{PageName}
 use Rattle.bufmodel.specs.Word.{pinned, empty}
 use Rattle.bufmodel.specs.Position.{position}
 use Rattle.bufmodel.specs.Checksum.{bare}
 use Rattle.bufmodel.specs.Rows.{placeOf}
 use Rattle.bufmodel.specs.Memory.{Memory, buffers, size, wordOf, nameOf, pageOf}
+use Rattle.bufmodel.specs.Counts.{maxHolders, countAt, hasPin, holdersOf}
 use Rattle.bufmodel.specs.Books.{emptyAt}
 use Rattle.bufmodel.proofs.GoodLaws.{Good}
 use Rattle.bufmodel.proofs.RowsLaws.{place-same}
 use Rattle.bufmodel.proofs.ChecksumLaws.{alike-position}
 use Rattle.shelf.specs.Sums.{fails}
-use Rattle.shelf.specs.Shelf.{hasPins}
+use Rattle.shelf.specs.Shelf.{pinsIn, hasPins}
 use Rattle.shelf.specs.Ledger.{isPlace}
 use Rattle.shelf.proofs.SumsLaws.{fails-not}
 use Rattle.shelf.proofs.Kept.{View, shelfOf, Has, Nobody, Same, Kept}
@@ -43,7 +48,7 @@ isPlace-other g h ne = ne-eqb h g ne
 -- ---- views with equal values
 pub record Alike (v w : View) : Type 0 where
   pub bytes : (g : ℕ) → w .bytes g ≡ v .bytes g
-  pub counts : (g : ℕ) → w .counts g ≡ v .counts g
+  pub counts : (h g : ℕ) → w .counts h g ≡ v .counts h g
   pub holds : (b : ℕ) → w .holds b ≡ v .holds b
   pub bads : (g : ℕ) → w .bad g ≡ v .bad g
   pub marks : (g : ℕ) → w .dirty g ≡ v .dirty g
@@ -60,13 +65,13 @@ kept-alike m v w a k =
           let s = k .same i g h in
           record {
             bytes = ap bare (a .bytes g) ∙ s .bytes;
-            counts = a .counts g ∙ s .counts;
+            counts = λ h l. a .counts h g ∙ s .counts h l;
             marked = a .marks g ∙ s .marked;
             last = a .last i ∙ s .last;
             clean = s .clean;
             fine = a .bads g ∙ s .fine;
           };
-      unpinned = λ g x. a .counts g ∙ k .unpinned g x;
+      unpinned = λ g x h l. a .counts h g ∙ k .unpinned g x h l;
       unmarked = λ g x. a .marks g ∙ k .unmarked g x;
       stored = λ n g e x. ap bare (a .bytes g) ∙ k .stored n g e x;
       passed = λ n g e. a .bads g ∙ k .passed n g e;
@@ -121,15 +126,34 @@ module _ (m : Memory) (good : Good m) where
       go missing e = inr (λ i x. never (has-says g i (x .below) .shown x) (first-missing (has g) (buffers m) e i (x .below)))
 
 -- ---- the pins of a page, and what a number holds
+-- a page has pins exactly when its buffer has holders
+pub pins-in : (counts : ℕ → ℕ → ℕ) (cs : List ℕ) (i g : ℕ) → ((h : ℕ) → h < maxHolders → counts h g ≡ countAt cs i h)
+    → pinsIn counts g ≡ not (eqb (holdersOf cs i) 0)
+unfolding pinsIn holdersOf hasPin count
+pins-in counts cs i g same =
+    any-count (λ h. not (eqb (counts h g) 0)) maxHolders
+    ∙ ap (λ (c : ℕ). not (eqb c 0))
+    (sum-same (λ h. ind (not (eqb (counts h g) 0))) (λ h. ind (not (eqb (countAt cs i h) 0))) maxHolders
+    (λ h l. ap (λ (c : ℕ). ind (not (eqb c 0))) (same h l)))
+
+-- and none where all counts are 0
+pub pins-none : (counts : ℕ → ℕ → ℕ) (g : ℕ) → ((h : ℕ) → h < maxHolders → counts h g ≡ 0) → pinsIn counts g ≡ false
+unfolding pinsIn
+pins-none counts g zeros =
+    any-count (λ h. not (eqb (counts h g) 0)) maxHolders
+    ∙ ap (λ (c : ℕ). not (eqb c 0)) (count-nobody _ maxHolders (λ h l t. never t (ap not (eq-eqb (counts h g) 0 (zeros h l)))))
+
 module _ (m : Memory) (v : View) (k : Kept m v) where
   -- a page has pins exactly when the buffer that has it is pinned
   pub pins-has : (i g : ℕ) → Has m i g → hasPins (shelfOf m v) g ≡ pinned (wordOf m i)
   unfolding hasPins pinned
-  pins-has i g h = ap (λ (c : ℕ). not (eqb c 0)) (k .same i g h .counts)
+  pins-has i g h =
+      pins-in (v .counts) (m .counts) i g (k .same i g h .counts)
+      ∙ ap (λ (c : ℕ). not (eqb c 0)) (sym (k .good .books .counts i (h .below)))
 
   pub pins-nobody : (g : ℕ) → Nobody m g → hasPins (shelfOf m v) g ≡ false
   unfolding hasPins
-  pins-nobody g x = ap (λ (c : ℕ). not (eqb c 0)) (k .unpinned g x)
+  pins-nobody g x = pins-none (v .counts) g (k .unpinned g x)
 
   -- the number of a pinned buffer holds its page, any other none
   pub holds-page : (i g : ℕ) → Has m i g → pinned (wordOf m i) ≡ true → v .holds i ≡ found g
@@ -146,6 +170,12 @@ module _ (m : Memory) (v : View) (k : Kept m v) where
       → bare (pageOf m i) ≡ bare (v .bytes g)
   unfolding emptyAt empty
   page-held i g l ne e = sym (k .same i g (record { below = l; full = ne-eqb (wordOf m i) 0 ne; place = e }) .bytes)
+
+  -- and the holders' counts of it
+  pub counts-held : (h i g : ℕ) → h < 64 → i < buffers m → wordOf m i ≢ 0 → placeOf (m .rows) (nameOf m i) ≡ found g
+      → getD (m .counts) (i * 64 + h) 0 ≡ v .counts h g
+  unfolding emptyAt empty countAt
+  counts-held h i g few l ne e = sym (k .same i g (record { below = l; full = ne-eqb (wordOf m i) 0 ne; place = e }) .counts h few)
 
   -- a block fails its checksum exactly if the shelf counts it as bad
   pub sums-kept : (n : PageName) (g : ℕ) → placeOf (m .rows) n ≡ found g

@@ -13,6 +13,7 @@ pub mod GuardsTable
 pub mod SetUpSays
 pub mod Guards
 -- demand 2: what each call leaves, and the theorem
+pub mod PublishedCounts
 pub mod PublishedMarks
 pub mod PublishedStore
 pub mod PublishedLeaves
@@ -40,6 +41,7 @@ pub mod StepPeek
 -- unpin and write: one buffer's word and page change
 pub mod TurnKept
 pub mod StepUnpin
+pub mod StepGive
 pub mod WriteKept
 pub mod StepWrite
 -- flush and checkpoint: pages are written back
@@ -70,6 +72,8 @@ pub mod FirstBad
 pub mod Start
 pub mod Lift
 pub mod Demand
+-- isolation, of every pool that meets it
+pub mod Isolation
 -- the calls of the theorem are the exports' calls
 pub mod Made
 -- one pool is left: lists by their places, books alike, two ends of one call, of set up and of a list

@@ -1,9 +1,10 @@
 -- A page that no buffer had comes into the top of the free list: it is pinned once there, clean, and its bytes are the store's.
-use Prim.Native.Nat.{ℕ, _+_, _<_}
+use Prim.Native.Nat.{ℕ, _+_, _*_, _≤_, _<_}
 use mathlib.Core.Path.{_≡_, sym, ap, _∙_, subst}
 use mathlib.Core.Bool.{true, false, cond}
 use mathlib.Core.Logic.{_≢_, ⊎-elim}
 use native.Mathlib.Omega.{arith}
+use lib.ListN.{length}
 use Rattle.laws.specs.First.{found, missing}
 use Rattle.laws.specs.Block.{block}
 use Rattle.laws.proofs.Tests.{eq-or-ne, never}
@@ -15,26 +16,29 @@ use Rattle.bufmodel.specs.Checksum.{bare}
 use Rattle.bufmodel.specs.Word.{pins, pinned, dirty, cleanFlags, loaded}
 use Rattle.bufmodel.specs.Rows.{placeOf, storeBlocks}
 use Rattle.bufmodel.specs.Memory.{Memory, buffers, size, capOf, wordOf, nameOf, pageOf}
+use Rattle.bufmodel.specs.Counts.{maxHolders, countAt, setCount}
 use Rattle.bufmodel.specs.Books.{emptyAt}
 use Rattle.bufmodel.specs.Moves.{loadAt}
 use Rattle.bufmodel.specs.Pin.{heldIn}
-use Rattle.bufmodel.proofs.WordLaws.{pins-pinned, Held, Fields, loaded-fields}
+use Rattle.bufmodel.proofs.WordLaws.{pins-pinned, Held, Fields, loaded-fields, empty-zero, zero-pins}
+use Rattle.bufmodel.proofs.CountLaws as counts
+use Rattle.bufmodel.proofs.CountLaws.{holders-none}
 use Rattle.bufmodel.proofs.RowsLaws.{place-in}
 use Rattle.bufmodel.proofs.FreeListLaws.{top-empty}
 use Rattle.bufmodel.proofs.LoadLaws.{load-buffers, load-word, load-name, load-kept, load-page}
-use Rattle.bufmodel.proofs.LoadLaws.{load-own, load-full, load-own-name, load-own-page, load-good}
-use Rattle.shelf.specs.Shelf.{with}
+use Rattle.bufmodel.proofs.LoadLaws.{load-own, load-full, load-own-name, load-own-page, loadedFor, load-good}
+use Rattle.shelf.specs.Shelf.{with, countWith}
 use Rattle.shelf.proofs.Kept.{View, Has, Nobody, Same, Kept}
 use Rattle.shelf.proofs.KeptLaws.{has-place}
-use Rattle.shelf.proofs.WithLaws.{with-same, with-other}
+use Rattle.shelf.proofs.WithLaws.{with-same, with-other, count-same, count-holder, count-page}
 use Rattle.shelf.proofs.NamePage.{held-nobody}
 
--- what the ledger says after a pin that got buffer number i for the page at place g
-abbrev pub viewLoad : View → ℕ → ℕ → View
-viewLoad v i g =
+-- what the ledger says after a pin of holder o that got buffer number i for the page at place g
+abbrev pub viewLoad : View → ℕ → ℕ → ℕ → View
+viewLoad v o i g =
     record {
       bytes = v .bytes;
-      counts = with g (v .counts g + 1) (v .counts);
+      counts = countWith o g (v .counts o g + 1) (v .counts);
       holds = with i (found g) (v .holds);
       bad = v .bad;
       dirty = v .dirty;
@@ -42,10 +46,10 @@ viewLoad v i g =
       put = v .put;
     }
 
-module _ (m : Memory) (v : View) (k : Kept m v) (n : PageName) (i g : ℕ) (top : linkOf (m .control .top) ≡ To i)
+module _ (m : Memory) (v : View) (k : Kept m v) (o : ℕ) (few : o < maxHolders) (n : PageName) (i g : ℕ) (top : linkOf (m .control .top) ≡ To i)
     (place : placeOf (m .rows) n ≡ found g) (new : heldIn m n ≡ Nowhere) (fine : v .bad g ≡ false) where
   abbrev after : Memory
-  after = loadAt m n i g
+  after = loadedFor m o n i g
 
   below : i < buffers m
   below = top-empty m (k .good) i top .0
@@ -58,7 +62,7 @@ module _ (m : Memory) (v : View) (k : Kept m v) (n : PageName) (i g : ℕ) (top 
 
   -- ---- which buffer has which page: buffer i has this one, the others keep theirs
   has-own : Has after i g
-  unfolding loadAt
+  unfolding loadAt emptyAt
   has-own =
       record {
         below = rw (load-buffers m n i g) below;
@@ -67,7 +71,7 @@ module _ (m : Memory) (v : View) (k : Kept m v) (n : PageName) (i g : ℕ) (top 
       }
 
   has-load : (j h : ℕ) → j ≢ i → Has after j h → Has m j h
-  unfolding loadAt
+  unfolding loadAt emptyAt
   has-load j h ne x =
       record {
         below = rw (load-buffers m n i g) at (x .below);
@@ -80,7 +84,7 @@ module _ (m : Memory) (v : View) (k : Kept m v) (n : PageName) (i g : ℕ) (top 
   was-empty j h x e = never (ap (emptyAt m) e ∙ top-empty m (k .good) i top .1) (x .full)
 
   load-has : (j h : ℕ) → Has m j h → Has after j h
-  unfolding loadAt
+  unfolding loadAt emptyAt
   load-has j h x =
       let ne = was-empty j h x in
       record {
@@ -103,13 +107,41 @@ module _ (m : Memory) (v : View) (k : Kept m v) (n : PageName) (i g : ℕ) (top 
   own-page : pageOf after i ≡ block (size m) g (m .store)
   own-page = load-own-page m n i g (k .good) below stands
 
-  own-same : Same after (viewLoad v i g) i g
+  room : i * maxHolders + maxHolders ≤ length (m .counts)
+  room = let b = below in omega (arith, k .good .sizes .counts)
+
+  -- it had no pins; its buffer no holders
+  no-count : (b : ℕ) → b < maxHolders → countAt (m .counts) i b ≡ 0
+  unfolding emptyAt
+  no-count b l =
+      let e = empty-zero (wordOf m i) (top-empty m (k .good) i top .1) in
+      holders-none (m .counts) i b l (sym (k .good .books .counts i below) ∙ ap pins e ∙ zero-pins)
+
+  own-counts : (b : ℕ) → b < maxHolders
+      → countWith o g (v .counts o g + 1) (v .counts) b g ≡ countAt (setCount (m .counts) i o 1) i b
+  own-counts b l =
+      ⊎-elim
+      (λ e.
+      subst (λ (y : ℕ). countWith o g (v .counts o g + 1) (v .counts) y g ≡ countAt (setCount (m .counts) i o 1) i y) (sym e)
+      (count-same o g (v .counts o g + 1) (v .counts) ∙ one ∙ sym (counts.count-same (m .counts) i o 1 room few)))
+      (λ ne.
+      count-holder o g (v .counts o g + 1) (v .counts) b g ne ∙ k .unpinned g none b l ∙ sym (no-count b l)
+      ∙ sym (counts.count-other (m .counts) i o 1 room few i b l (λ q e. ne e)))
+      (eq-or-ne b o)
+    where
+      one : v .counts o g + 1 ≡ 1
+      one = omega (arith, k .unpinned g none o few)
+
+  -- other buffers keep their holders
+  other-counts : (j b : ℕ) → j ≢ i → b < maxHolders → countAt (setCount (m .counts) i o 1) j b ≡ countAt (m .counts) j b
+  other-counts j b ne l = counts.count-other (m .counts) i o 1 room few j b l (λ e q. ne e)
+
+  own-same : Same after (viewLoad v o i g) i g
   unfolding loadAt
   own-same =
-      let one : v .counts g + 1 ≡ 1 = omega (arith, k .unpinned g none) in
       record {
         bytes = k .stored n g place none ∙ ap bare (sym own-page);
-        counts = with-same g (v .counts g + 1) (v .counts) ∙ one ∙ sym (ap pins own-word ∙ one-use .pins);
+        counts = own-counts;
         marked = k .unmarked g none ∙ sym (ap dirty own-word ∙ one-use .dirty);
         last = with-same i (found g) (v .last);
         clean = λ d. ap bare (sym own-page);
@@ -117,7 +149,7 @@ module _ (m : Memory) (v : View) (k : Kept m v) (n : PageName) (i g : ℕ) (top 
       }
 
   -- and of the others
-  other-same : (j h : ℕ) → j ≢ i → Has m j h → Same after (viewLoad v i g) j h
+  other-same : (j h : ℕ) → j ≢ i → Has m j h → Same after (viewLoad v o i g) j h
   unfolding loadAt
   other-same j h ne x =
       let q = k .same j h x in
@@ -126,7 +158,7 @@ module _ (m : Memory) (v : View) (k : Kept m v) (n : PageName) (i g : ℕ) (top 
       let other : h ≢ g = λ e. none j (subst (Has m j) e x) in
       record {
         bytes = q .bytes ∙ ap bare (sym p);
-        counts = with-other g (v .counts g + 1) (v .counts) h other ∙ q .counts ∙ ap pins (sym w);
+        counts = λ b l. count-page o g (v .counts o g + 1) (v .counts) b h other ∙ q .counts b l ∙ sym (other-counts j b ne l);
         marked = q .marked ∙ ap dirty (sym w);
         last = with-other i (found g) (v .last) j ne ∙ q .last;
         clean = λ d. q .clean (ap dirty (sym w) ∙ d) ∙ ap bare (sym p);
@@ -135,18 +167,19 @@ module _ (m : Memory) (v : View) (k : Kept m v) (n : PageName) (i g : ℕ) (top 
 
   -- ---- all that the relation says
   load-words : (j : ℕ) → j < buffers m → emptyAt after j ≡ false → Held (capOf m) (wordOf after j)
+  unfolding emptyAt
   load-words j l f =
       ⊎-elim
       (λ e. subst (λ (x : ℕ). Held (capOf m) (wordOf after x)) (sym e) (subst (Held (capOf m)) (sym own-word) (one-use .held)))
       (λ ne. rw (load-word m n i g j ne) (k .words j l (sym (load-kept m n i g j ne) ∙ f)))
       (eq-or-ne j i)
 
-  load-same : (j h : ℕ) → Has after j h → Same after (viewLoad v i g) j h
+  load-same : (j h : ℕ) → Has after j h → Same after (viewLoad v o i g) j h
   load-same j h x =
       ⊎-elim
       (λ e.
-      let q : g ≡ h = has-place after (load-good m (k .good) n i g top place new) i g h has-own (subst (λ (y : ℕ). Has after y h) e x) in
-      subst (λ (y : ℕ). Same after (viewLoad v i g) y h) (sym e) (subst (Same after (viewLoad v i g) i) q own-same))
+      let q : g ≡ h = has-place after (load-good m (k .good) o few n i g top place new) i g h has-own (subst (λ (y : ℕ). Has after y h) e x) in
+      subst (λ (y : ℕ). Same after (viewLoad v o i g) y h) (sym e) (subst (Same after (viewLoad v o i g) i) q own-same))
       (λ ne. other-same j h ne (has-load j h ne x))
       (eq-or-ne j i)
 
@@ -166,17 +199,17 @@ module _ (m : Memory) (v : View) (k : Kept m v) (n : PageName) (i g : ℕ) (top 
       (eq-or-ne j i)
 
   -- the relation is kept
-  pub kept-load : Kept (loadAt m n i g) (viewLoad v i g)
+  pub kept-load : Kept (loadedFor m o n i g) (viewLoad v o i g)
   unfolding loadAt
   kept-load =
       let b = load-buffers m n i g in
       record {
-        good = load-good m (k .good) n i g top place new;
+        good = load-good m (k .good) o few n i g top place new;
         words = λ j l. load-words j (rw b at l);
         same = load-same;
         unpinned = λ h gone.
             let w = load-nobody h gone in
-            with-other g (v .counts g + 1) (v .counts) h (w .0) ∙ k .unpinned h (w .1);
+            λ b l. count-page o g (v .counts o g + 1) (v .counts) b h (w .0) ∙ k .unpinned h (w .1) b l;
         unmarked = λ h gone. k .unmarked h (load-nobody h gone .1);
         stored = λ p h e gone. k .stored p h e (load-nobody h gone .1);
         passed = k .passed;

@@ -6,8 +6,8 @@ use mathlib.Core.List.{List, []}
 use Rattle.buftag.specs.declared.name.FileName.{FileName}
 use Rattle.buftag.specs.declared.name.PageName.{PageName}
 use Rattle.bufmodel.specs.Pin.{pin}
-use Rattle.bufmodel.specs.Calls.{setUp, unpin, read, write, flush, checkpoint, peek, extend, dropFile, logInserted, logFlushed}
-use Rattle.bufmodel.specs.Step.{Pin, Unpin, Read, Write, Flush, Checkpoint, Peek, Extend, Drop, LogInserted, LogFlushed, step}
+use Rattle.bufmodel.specs.Calls.{setUp, unpin, read, write, flush, giveBack, checkpoint, peek, extend, dropFile, logInserted, logFlushed}
+use Rattle.bufmodel.specs.Step.{Pin, Unpin, Read, Write, Flush, GiveBack, Checkpoint, Peek, Extend, Drop, LogInserted, LogFlushed, step}
 use Rattle.bufmodel.specs.Lent.{Lent, called}
 use Rattle.shelf.specs.Statement.{own, calling}
 
@@ -15,34 +15,39 @@ pub set-up-made : (p at cap : ℕ) (l : Lent) (answer : List ℕ)
     → called (λ m. setUp m p at cap) l [] answer ≡ calling step .setsUp p at cap l answer
 set-up-made p at cap l answer = refl
 
-pub pin-made : (n : PageName) (l : Lent) (answer : List ℕ)
-    → called (λ m. pin m n) l [] answer ≡ calling step .calls (Pin n) l (own (Pin n)) answer
+pub pin-made : (holder : ℕ) (n : PageName) (l : Lent) (answer : List ℕ)
+    → called (λ m. pin m holder n) l [] answer ≡ calling step .calls (Pin holder n) l (own (Pin holder n)) answer
 unfolding step
-pin-made n l answer = refl
+pin-made holder n l answer = refl
 
-pub unpin-made : (buffer : ℕ) (l : Lent) (answer : List ℕ)
-    → called (λ m. unpin m buffer) l [] answer ≡ calling step .calls (Unpin buffer) l (own (Unpin buffer)) answer
+pub unpin-made : (holder buffer : ℕ) (l : Lent) (answer : List ℕ)
+    → called (λ m. unpin m holder buffer) l [] answer ≡ calling step .calls (Unpin holder buffer) l (own (Unpin holder buffer)) answer
 unfolding step
-unpin-made buffer l answer = refl
+unpin-made holder buffer l answer = refl
 
 -- the bytes that a read fills are its own
-pub read-made : (buffer from : ℕ) (out : List ℕ) (l : Lent) (answer : List ℕ)
-    → called (λ m. read m buffer from out) l out answer
-    ≡ calling step .calls (Read buffer from out) l (own (Read buffer from out)) answer
+pub read-made : (holder buffer from : ℕ) (out : List ℕ) (l : Lent) (answer : List ℕ)
+    → called (λ m. read m holder buffer from out) l out answer
+    ≡ calling step .calls (Read holder buffer from out) l (own (Read holder buffer from out)) answer
 unfolding step
-read-made buffer from out l answer = refl
+read-made holder buffer from out l answer = refl
 
 -- and those that a write is given
-pub write-made : (buffer from : ℕ) (bytes : List ℕ) (position : ℕ) (l : Lent) (answer : List ℕ)
-    → called (λ m. write m buffer from bytes position) l bytes answer
-    ≡ calling step .calls (Write buffer from bytes position) l (own (Write buffer from bytes position)) answer
+pub write-made : (holder buffer from : ℕ) (bytes : List ℕ) (position : ℕ) (l : Lent) (answer : List ℕ)
+    → called (λ m. write m holder buffer from bytes position) l bytes answer
+    ≡ calling step .calls (Write holder buffer from bytes position) l (own (Write holder buffer from bytes position)) answer
 unfolding step
-write-made buffer from bytes position l answer = refl
+write-made holder buffer from bytes position l answer = refl
 
-pub flush-made : (buffer : ℕ) (l : Lent) (answer : List ℕ)
-    → called (λ m. flush m buffer) l [] answer ≡ calling step .calls (Flush buffer) l (own (Flush buffer)) answer
+pub flush-made : (holder buffer : ℕ) (l : Lent) (answer : List ℕ)
+    → called (λ m. flush m holder buffer) l [] answer ≡ calling step .calls (Flush holder buffer) l (own (Flush holder buffer)) answer
 unfolding step
-flush-made buffer l answer = refl
+flush-made holder buffer l answer = refl
+
+pub give-made : (holder : ℕ) (l : Lent) (answer : List ℕ)
+    → called (λ m. giveBack m holder) l [] answer ≡ calling step .calls (GiveBack holder) l (own (GiveBack holder)) answer
+unfolding step
+give-made holder l answer = refl
 
 pub checkpoint-made : (l : Lent) (answer : List ℕ)
     → called (λ m. checkpoint m) l [] answer ≡ calling step .calls Checkpoint l (own Checkpoint) answer

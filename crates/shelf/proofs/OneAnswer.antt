@@ -1,10 +1,11 @@
 -- Two ends of one accepted call have the same answer and bytes, and leave the same books, pages and blocks of the store.
-use Prim.Native.Nat.{ℕ}
+use Prim.Native.Nat.{ℕ, _+_}
 use native.Mathlib.Omega.{arith}
 use mathlib.Core.Path.{_≡_, refl, sym, ap, _∙_, subst}
 use mathlib.Core.Bool.{cond}
 use mathlib.Core.List.{List, [], _∷_}
 use lib.ListN.{getD}
+use lib.Dec.{eqb}
 use Rattle.laws.specs.First.{Found, found}
 use Rattle.laws.proofs.First.{found-same}
 use Rattle.buftag.specs.declared.link.Link.{Link}
@@ -19,11 +20,25 @@ use Rattle.bufmodel.specs.Rows.{blocksAt, placeOf}
 use Rattle.bufmodel.specs.Outcome.{Outcome, one}
 use Rattle.bufmodel.specs.Sweep.{Swept}
 use Rattle.bufmodel.specs.Pin.{heldIn}
-use Rattle.bufmodel.specs.Step.{Call, Pin, Unpin, Read, Write, Flush, Checkpoint, Peek, Extend, Drop, LogInserted, LogFlushed}
+use Rattle.bufmodel.specs.Step.{
+  Call,
+  Pin,
+  Unpin,
+  Read,
+  Write,
+  Flush,
+  GiveBack,
+  Checkpoint,
+  Peek,
+  Extend,
+  Drop,
+  LogInserted,
+  LogFlushed,
+}
 use Rattle.bufmodel.proofs.SweepLaws.{sweeps-same}
 use Rattle.shelf.specs.Shelf.{with}
 use Rattle.shelf.specs.Ledger.{Ledger}
-use Rattle.shelf.specs.Published.{Marks, marksOf, withWords, morePins, emptied, loaded, blocksOf, backed}
+use Rattle.shelf.specs.Published.{Marks, marksOf, withWords, withPins, countsBy, morePins, emptied, loaded, blocksOf, backed}
 use Rattle.shelf.specs.Published.{Leaves, Probes, hit, free, early, taken, stuck, Peeks, Published}
 use Rattle.shelf.specs.Statement.{Agrees}
 
@@ -82,52 +97,55 @@ same-victim : {s t : Swept} {v w : ℕ} {f : Found} {g h : ℕ} → s ≡ t → 
 same-victim e f g p q =
     let x = found-same (sym f ∙ ap (λ (s : Swept). s .victim) e ∙ g) in let y = found-same (sym p ∙ q) in cc
 
--- what a pin of page n leaves: of a held page; loaded from a place into the free list's top; into a sweep's victim
+-- what a pin of page n by holder h leaves: of a held page; loaded from a place into the free list's top; into a sweep's victim
 module _ (m : Memory) where
-  abbrev hits : ℕ → BufferNumber → Rest
-  hits cap b =
+  abbrev hits : ℕ → ℕ → BufferNumber → Rest
+  hits cap h b =
+      let i = b .0 in
+      let c = countsBy m h i in
+      let word = cond (eqb c 0) (morePins cap (wordOf m i)) (wordOf m i) in
       record {
-        marks = withWords (with (b .0) (morePins cap (wordOf m (b .0))) (wordOf m)) (m .control .hand) (marksOf m);
+        marks = withPins (with i word (wordOf m)) h (with i (c + 1) (countsBy m h)) (marksOf m);
         page = pageOf m;
         store = blocksOf m;
       }
 
-  abbrev loads : PageName → ℕ × ℕ → Rest
-  loads n x =
-      record { marks = loaded m n (x .0) (marksOf m); page = with (x .0) (blocksOf m (x .1)) (pageOf m); store = blocksOf m }
+  abbrev loads : ℕ → PageName → ℕ × ℕ → Rest
+  loads h n x =
+      record { marks = loaded m h n (x .0) (marksOf m); page = with (x .0) (blocksOf m (x .1)) (pageOf m); store = blocksOf m }
 
-  abbrev takes : PageName → Swept × ℕ × ℕ → Rest
-  takes n x =
+  abbrev takes : ℕ → PageName → Swept × ℕ × ℕ → Rest
+  takes h n x =
       let s = x .0 in
       let v = x .1 in
       record {
-        marks = loaded m n v (emptied v (withWords (λ i. getD (s .words) i 0) (s .hand) (marksOf m)));
+        marks = loaded m h n v (emptied v (withWords (λ i. getD (s .words) i 0) (s .hand) (marksOf m)));
         page = with v (blocksOf m (x .2)) (pageOf m);
         store = backed m v (blocksOf m);
       }
 
-module _ {m : Memory} {n : PageName} {cap : ℕ} {o o′ : Outcome} (z : o .refusal ≡ 0) (z′ : o′ .refusal ≡ 0) where
-  both-pins : {a b : ℕ} → Probes m n cap o a → Probes m n cap o′ b → Both m o o′
-  both-pins (hit h e a k) (hit h′ e′ a′ k′) = chosen (λ b. b .0 ∷ 1 ∷ 0 ∷ 0 ∷ []) (hits m cap) (same-at h h′) a a′ k k′
-  both-pins (hit h e a k) (free h′ t′ e′ a′ p′ k′) = held-clash h h′
-  both-pins (hit h e a k) (early e′ s′) = absurd (e′ z′)
-  both-pins (hit h e a k) (taken h′ t′ e′ w′ v′ a′ p′ k′) = held-clash h h′
-  both-pins (hit h e a k) (stuck h′ t′ e′ w′ v′) = absurd (omega arith)
-  both-pins (free h t e a p k) (hit h′ e′ a′ k′) = held-clash h′ h
-  both-pins (free h t e a p k) (free h′ t′ e′ a′ p′ k′) =
-      chosen (λ x. x .0 ∷ 0 ∷ 0 ∷ 0 ∷ []) (loads m n) (same-load t t′ p p′) a a′ k k′
-  both-pins (free h t e a p k) (early e′ s′) = absurd (e′ z′)
-  both-pins (free h t e a p k) (taken h′ t′ e′ w′ v′ a′ p′ k′) = link-clash t t′
-  both-pins (free h t e a p k) (stuck h′ t′ e′ w′ v′) = absurd (omega arith)
-  both-pins (early e s) q = absurd (e z)
-  both-pins (taken h t e w v a p k) (hit h′ e′ a′ k′) = held-clash h′ h
-  both-pins (taken h t e w v a p k) (free h′ t′ e′ a′ p′ k′) = link-clash t′ t
-  both-pins (taken h t e w v a p k) (early e′ s′) = absurd (e′ z′)
-  both-pins (taken h t e w v a p k) (taken h′ t′ e′ w′ v′ a′ p′ k′) =
-      chosen (λ x. x .1 ∷ 0 ∷ cond (dirty (wordOf m (x .1))) 1 0 ∷ x .0 .probes ∷ []) (takes m n)
+module _ {m : Memory} {h : ℕ} {n : PageName} {cap : ℕ} {o o′ : Outcome} (z : o .refusal ≡ 0) (z′ : o′ .refusal ≡ 0) where
+  both-pins : {a b : ℕ} → Probes m h n cap o a → Probes m h n cap o′ b → Both m o o′
+  both-pins (hit q e a k) (hit q′ e′ a′ k′) = chosen (λ b. b .0 ∷ 1 ∷ 0 ∷ 0 ∷ []) (hits m cap h) (same-at q q′) a a′ k k′
+  both-pins (hit q e a k) (free q′ t′ e′ a′ p′ k′) = held-clash q q′
+  both-pins (hit q e a k) (early e′ s′) = absurd (e′ z′)
+  both-pins (hit q e a k) (taken q′ t′ e′ w′ v′ a′ p′ k′) = held-clash q q′
+  both-pins (hit q e a k) (stuck q′ t′ e′ w′ v′) = absurd (omega arith)
+  both-pins (free q t e a p k) (hit q′ e′ a′ k′) = held-clash q′ q
+  both-pins (free q t e a p k) (free q′ t′ e′ a′ p′ k′) =
+      chosen (λ x. x .0 ∷ 0 ∷ 0 ∷ 0 ∷ []) (loads m h n) (same-load t t′ p p′) a a′ k k′
+  both-pins (free q t e a p k) (early e′ s′) = absurd (e′ z′)
+  both-pins (free q t e a p k) (taken q′ t′ e′ w′ v′ a′ p′ k′) = link-clash t t′
+  both-pins (free q t e a p k) (stuck q′ t′ e′ w′ v′) = absurd (omega arith)
+  both-pins (early e s) y = absurd (e z)
+  both-pins (taken q t e w v a p k) (hit q′ e′ a′ k′) = held-clash q′ q
+  both-pins (taken q t e w v a p k) (free q′ t′ e′ a′ p′ k′) = link-clash t′ t
+  both-pins (taken q t e w v a p k) (early e′ s′) = absurd (e′ z′)
+  both-pins (taken q t e w v a p k) (taken q′ t′ e′ w′ v′ a′ p′ k′) =
+      chosen (λ x. x .1 ∷ 0 ∷ cond (dirty (wordOf m (x .1))) 1 0 ∷ x .0 .probes ∷ []) (takes m h n)
       (same-victim (sweeps-same w w′) v v′ p p′) a a′ k k′
-  both-pins (taken h t e w v a p k) (stuck h′ t′ e′ w′ v′) = absurd (omega arith)
-  both-pins (stuck h t e w v) q = absurd (omega arith)
+  both-pins (taken q t e w v a p k) (stuck q′ t′ e′ w′ v′) = absurd (omega arith)
+  both-pins (stuck q t e w v) y = absurd (omega arith)
 
 -- ---- peek
 module _ {m : Memory} {n : PageName} {o o′ : Outcome} {g : ℕ} (e : placeOf (m .rows) n ≡ found g) where
@@ -146,12 +164,13 @@ same-one e f x y = e ∙ ap one (sym (ap (λ l. getD l 0 0) e) ∙ x ∙ sym y �
 module _ {m : Memory} {l x x′ : Ledger} {cap many : ℕ} {o o′ : Outcome} (rows : m .rows ≡ l .shelf .rows) (z : o .refusal ≡ 0)
     (z′ : o′ .refusal ≡ 0) where
   pub both : (c : Call) → Agrees m l c o x → Agrees m l c o′ x′ → Published m cap many c o → Published m cap many c o′ → Both m o o′
-  both (Pin n) a a′ p p′ = both-pins z z′ (p .sought n refl .looked) (p′ .sought n refl .looked)
-  both (Unpin b) a a′ p p′ = same-left (a .answers z ∙ sym (a′ .answers z′)) (p .accepts z) (p′ .accepts z′)
-  both (Read b from out) a a′ p p′ = same-left (a .answers z ∙ sym (a′ .answers z′)) (p .accepts z .0) (p′ .accepts z′ .0)
-  both (Write b from bytes at) a a′ p p′ = same-left (a .answers z ∙ sym (a′ .answers z′)) (p .accepts z) (p′ .accepts z′)
-  both (Flush b) a a′ p p′ =
+  both (Pin h n) a a′ p p′ = both-pins z z′ (p .sought h n refl .looked) (p′ .sought h n refl .looked)
+  both (Unpin h b) a a′ p p′ = same-left (a .answers z ∙ sym (a′ .answers z′)) (p .accepts z) (p′ .accepts z′)
+  both (Read h b from out) a a′ p p′ = same-left (a .answers z ∙ sym (a′ .answers z′)) (p .accepts z .0) (p′ .accepts z′ .0)
+  both (Write h b from bytes at) a a′ p p′ = same-left (a .answers z ∙ sym (a′ .answers z′)) (p .accepts z) (p′ .accepts z′)
+  both (Flush h b) a a′ p p′ =
       let k = p .accepts z in let k′ = p′ .accepts z′ in same-left (k .1 ∙ sym (k′ .1)) (k .0) (k′ .0)
+  both (GiveBack h) a a′ p p′ = same-left (a .answers z ∙ sym (a′ .answers z′)) (p .accepts z) (p′ .accepts z′)
   both Checkpoint a a′ p p′ =
       let k = p .accepts z in let k′ = p′ .accepts z′ in same-left (k .1 ∙ sym (k′ .1)) (k .0) (k′ .0)
   both (Peek n) a a′ p p′ =
@@ -172,11 +191,12 @@ module _ {m : Memory} {l x x′ : Ledger} {cap many : ℕ} {o o′ : Outcome} (r
   -- the caller's bytes
   pub same-bytes : (c : Call) → Agrees m l c o x → Agrees m l c o′ x′ → Published m cap many c o → Published m cap many c o′
       → o .bytes ≡ o′ .bytes
-  same-bytes (Pin n) a a′ p p′ = a .shows z .3 ∙ sym (a′ .shows z′ .3)
-  same-bytes (Unpin b) a a′ p p′ = a .shows z ∙ sym (a′ .shows z′)
-  same-bytes (Read b from out) a a′ p p′ = p .accepts z .1 ∙ sym (p′ .accepts z′ .1)
-  same-bytes (Write b from bytes at) a a′ p p′ = a .shows z ∙ sym (a′ .shows z′)
-  same-bytes (Flush b) a a′ p p′ = a .shows z ∙ sym (a′ .shows z′)
+  same-bytes (Pin h n) a a′ p p′ = a .shows z .3 ∙ sym (a′ .shows z′ .3)
+  same-bytes (Unpin h b) a a′ p p′ = a .shows z ∙ sym (a′ .shows z′)
+  same-bytes (Read h b from out) a a′ p p′ = p .accepts z .1 ∙ sym (p′ .accepts z′ .1)
+  same-bytes (Write h b from bytes at) a a′ p p′ = a .shows z ∙ sym (a′ .shows z′)
+  same-bytes (Flush h b) a a′ p p′ = a .shows z ∙ sym (a′ .shows z′)
+  same-bytes (GiveBack h) a a′ p p′ = a .shows z ∙ sym (a′ .shows z′)
   same-bytes Checkpoint a a′ p p′ = a .shows z ∙ sym (a′ .shows z′)
   same-bytes (Peek n) a a′ p p′ = a .shows z .3 ∙ sym (a′ .shows z′ .3)
   same-bytes (Extend f) a a′ p p′ = a .shows z .3 ∙ sym (a′ .shows z′ .3)

@@ -21,21 +21,33 @@ unfolding ledgerAfter acceptedBy
 store-accepted l c answer = sizes-after (l .shelf) c (bufferIn answer)
 
 -- ---- equal parts make equal lent memories
-lent-parts : {c c′ s s′ n n′ p p′ r r′ t t′ : List ℕ} {f f′ h h′ k k′ : List ℤ} → c ≡ c′ → s ≡ s′ → n ≡ n′ → p ≡ p′ → f ≡ f′ → h ≡ h′
+lent-parts : {c c′ s s′ n n′ p p′ r r′ t t′ o o′ : List ℕ} {f f′ h h′ k k′ : List ℤ} → c ≡ c′ → s ≡ s′ → n ≡ n′ → p ≡ p′ → f ≡ f′ → h ≡ h′
     → k ≡ k′
     → r ≡ r′
     → t ≡ t′
+    → o ≡ o′
     → _≡_ {A = Lent}
-    (record { control = c; states = s; names = n; pool = p; free = f; heads = h; chain = k; rows = r; store = t })
-    (record { control = c′; states = s′; names = n′; pool = p′; free = f′; heads = h′; chain = k′; rows = r′; store = t′ })
-lent-parts a b c d e f g h i = cc
+    (record { control = c; states = s; names = n; pool = p; free = f; heads = h; chain = k; rows = r; store = t; counts = o })
+    (record {
+      control = c′;
+      states = s′;
+      names = n′;
+      pool = p′;
+      free = f′;
+      heads = h′;
+      chain = k′;
+      rows = r′;
+      store = t′;
+      counts = o′;
+    })
+lent-parts a b c d e f g h i j = cc
 
 pub same-lent : (a b : Lent) → a .control ≡ b .control → SameBooks (opened a) (opened b) → opened a .pool ≡ opened b .pool
     → opened a .rows ≡ opened b .rows
     → opened a .store ≡ opened b .store
     → a ≡ b
 unfolding opened
-same-lent a b c k p r s = lent-parts c (k .states) (k .names) p (k .free) (k .heads) (k .chain) r s
+same-lent a b c k p r s = lent-parts c (k .states) (k .names) p (k .free) (k .heads) (k .chain) r s (k .counts)
 
 -- the block size is the control record's first word
 pub size-of : (a : Lent) {p : ℕ} {ws : List ℕ} → a .control ≡ p ∷ ws → size (opened a) ≡ p

@@ -1,4 +1,4 @@
--- Lists that are equal: by their blocks, and by the names that their words make.
+-- Lists that are equal: by their blocks, by the names that their words make, and by buffers and holders.
 use Prim.Native.Nat.{ℕ, zero, suc, _+_, _*_, _/_, _%_, _<_}
 use native.Mathlib.Omega.{arith}
 use native.Mathlib.Nat.{add-zero, zero-mul}
@@ -42,3 +42,14 @@ ext-names n xs ys e f same = ext-getD 0 xs ys (e ∙ sym f) at
     at i l =
         let q : i ≡ nameWords * (i / nameWords) + i % nameWords = omega arith in
         rw q (same-words xs ys (i / nameWords) (i % nameWords) (same (i / nameWords) (omega arith)) (omega arith))
+
+-- ---- n times 64 numbers are decided by the 64 of each
+pub ext-counts : (n : ℕ) (xs ys : List ℕ) → length xs ≡ n * 64 → length ys ≡ n * 64
+    → ((i h : ℕ) → i < n → h < 64 → getD xs (i * 64 + h) 0 ≡ getD ys (i * 64 + h) 0)
+    → xs ≡ ys
+ext-counts n xs ys e f same = ext-getD 0 xs ys (e ∙ sym f) at
+  where
+    at : (k : ℕ) → k < length xs → getD xs k 0 ≡ getD ys k 0
+    at k l =
+        let q : k ≡ k / 64 * 64 + k % 64 = omega arith in
+        rw q (same (k / 64) (k % 64) (omega arith) (omega arith))

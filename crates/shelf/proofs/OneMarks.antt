@@ -9,7 +9,7 @@ use lib.IntN.{pos}
 use Rattle.bufmodel.specs.Memory.{Memory, buffers}
 use Rattle.bufmodel.specs.Sizes.{SizedFor}
 use Rattle.shelf.specs.Published.{Marks, marksOf, Alike}
-use Rattle.shelf.proofs.OneLists.{ext-names}
+use Rattle.shelf.proofs.OneLists.{ext-names, ext-counts}
 
 -- a memory for blocks of p bytes, with n buffers and w buckets, whose books are those
 pub record Booked (p n w : ℕ) (k : Marks) (a : Memory) : Type 0 where
@@ -24,6 +24,7 @@ pub record SameBooks (a b : Memory) : Type 0 where
   pub free : a .free ≡ b .free
   pub heads : a .heads ≡ b .heads
   pub chain : a .chain ≡ b .chain
+  pub counts : a .counts ≡ b .counts
   pub hand : a .control .hand ≡ b .control .hand
   pub top : a .control .top ≡ b .control .top
 
@@ -42,6 +43,8 @@ same-books {n} {w} {k} {a} {b} x y =
       heads = same-listed (pos 0) w (a .heads) (b .heads) (k .head) (x .wide) (y .wide) (x .alike .heads) (y .alike .heads);
       chain = same-listed (pos 0) n (a .chain) (b .chain) (k .chain) (x .sizes .chain ∙ x .many) (y .sizes .chain ∙ y .many)
           (x .alike .chains) (y .alike .chains);
+      counts = ext-counts n (a .counts) (b .counts) (omega (arith, x .sizes .counts, x .many)) (omega (arith, y .sizes .counts, y .many))
+          (λ i h l q. x .alike .counts i h l q ∙ sym (y .alike .counts i h l q));
       hand = x .alike .hand ∙ sym (y .alike .hand);
       top = x .alike .top ∙ sym (y .alike .top);
     }

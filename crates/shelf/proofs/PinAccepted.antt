@@ -52,21 +52,21 @@ highest-last l v true b h p n last below =
     (λ g c t. found-same (sym (isPlace-true (v .last b) g t) ∙ last))
 highest-last l v false b h p n last below = highest-still l p n
 
--- what the ledger says after a pin that answered so
-abbrev pub viewPin : View → List ℕ → ℕ → View
-viewPin v answer g = viewLoad (viewWrote v (wroteIn answer) (bufferIn answer)) (bufferIn answer) g
+-- what the ledger says after a pin of holder o that answered so
+abbrev pub viewPin : View → ℕ → List ℕ → ℕ → View
+viewPin v o answer g = viewLoad (viewWrote v (wroteIn answer) (bufferIn answer)) o (bufferIn answer) g
 
-module _ (m : Memory) (v : View) (n : PageName) (g : ℕ) (place : placeOf (m .rows) n ≡ found g) (answer : List ℕ) where
-  pin-view : Alike (viewPin v answer g) (viewOf (ledgerThen m v (Pin n) answer))
+module _ (m : Memory) (v : View) (o : ℕ) (n : PageName) (g : ℕ) (place : placeOf (m .rows) n ≡ found g) (answer : List ℕ) where
+  pin-view : Alike (viewPin v o answer g) (viewOf (ledgerThen m v (Pin o n) answer))
   unfolding acceptedBy shelfAfter pinnedAt dirtyAfter dirtiedBy backBy newBy putBy lastAfter
   pin-view =
       let b = bufferIn answer in
       let s = shelfOf m v in
       record {
-        bytes = λ h. ap (λ (f : Found). pinnedAt s b f .bytes h) place;
-        counts = λ h. ap (λ (f : Found). pinnedAt s b f .counts h) place;
-        holds = λ c. ap (λ (f : Found). pinnedAt s b f .holds c) place;
-        bads = λ h. ap (λ (f : Found). pinnedAt s b f .bad h) place;
+        bytes = λ h. ap (λ (f : Found). pinnedAt s o b f .bytes h) place;
+        counts = λ u h. ap (λ (f : Found). pinnedAt s o b f .counts u h) place;
+        holds = λ c. ap (λ (f : Found). pinnedAt s o b f .holds c) place;
+        bads = λ h. ap (λ (f : Found). pinnedAt s o b f .bad h) place;
         marks = λ h. refl;
         last = λ c. ap (λ (f : Found). with b f (v .last) c) place;
         put = λ h. ap (λ (t : Bool). t || v .put h) (or-false (wasLast v (wroteIn answer) b h));
@@ -84,13 +84,13 @@ new-rule m v k g none b l free rest m′ =
     }
 
 -- ---- what is left to show
-module _ (m : Memory) (v : View) (n : PageName) (g : ℕ) (answer : List ℕ) (m′ : Memory) where
+module _ (m : Memory) (v : View) (o : ℕ) (n : PageName) (g : ℕ) (answer : List ℕ) (m′ : Memory) where
   abbrev back : ℕ → Bool
   back h = wasLast v (wroteIn answer) (bufferIn answer) h
 
   pub record PinAccepted : Type 0 where
-    pub number : refuses (shelfOf m v) (Pin n) ≡ 0
-    pub words : Answers (done answer [] m′) (Pin n)
+    pub number : refuses (shelfOf m v) (Pin o n) ≡ 0
+    pub words : Answers (done answer [] m′) (Pin o n)
     pub rule : PinRule (shelfOf m v) (done answer [] m′) g
     pub many : buffers m ≡ buffers m′
     pub wide : size m ≡ size m′
@@ -98,13 +98,13 @@ module _ (m : Memory) (v : View) (n : PageName) (g : ℕ) (answer : List ℕ) (m
     pub rows : m .rows ≡ m′ .rows
     pub inserted : m .control .inserted ≡ m′ .control .inserted
     pub flushed : highest (ledgerOf m v) (storeBlocks (m .rows)) back (m .control .flushed) ≡ m′ .control .flushed
-    pub kept : Kept m′ (viewPin v answer g)
+    pub kept : Kept m′ (viewPin v o answer g)
     pub others : (h : ℕ) → h < storeBlocks (m .rows) → back h ≡ false → block (size m) h (m′ .store) ≡ block (size m) h (m .store)
     pub long : length (m′ .store) ≡ length (m .store)
     pub stored : (h : ℕ) → back h ≡ true → bare (block (size m) h (m′ .store)) ≡ bare (v .bytes h)
 
   -- this is all, whichever way the pin got its buffer
-  pub pin-accepted : placeOf (m .rows) n ≡ found g → PinAccepted → Accepted m v (Pin n) answer [] m′
+  pub pin-accepted : placeOf (m .rows) n ≡ found g → PinAccepted → Accepted m v (Pin o n) answer [] m′
   unfolding acceptedBy shelfAfter pinnedAt backBy newBy putBy saidFlushed flushedAfter
   pin-accepted place a =
       let s = shelfOf m v in
@@ -116,12 +116,12 @@ module _ (m : Memory) (v : View) (n : PageName) (g : ℕ) (answer : List ℕ) (m
         many = a .many;
         wide = a .wide;
         cap = a .cap;
-        rows = ap (λ (f : Found). pinnedAt s b f .rows) place ∙ a .rows;
-        inserted = ap (λ (f : Found). pinnedAt s b f .inserted) place ∙ a .inserted;
+        rows = ap (λ (f : Found). pinnedAt s o b f .rows) place ∙ a .rows;
+        inserted = ap (λ (f : Found). pinnedAt s o b f .inserted) place ∙ a .inserted;
         flushed = a .flushed;
-        kept = kept-alike m′ (viewPin v answer g) (viewOf (ledgerThen m v (Pin n) answer)) (pin-view m v n g place answer) (a .kept);
+        kept = kept-alike m′ (viewPin v o answer g) (viewOf (ledgerThen m v (Pin o n) answer)) (pin-view m v o n g place answer) (a .kept);
         others = λ h l e. a .others h l (sym (or-false (back h)) ∙ e);
         long = a .long;
-        stored = λ h t. a .stored h (sym (or-false (back h)) ∙ t) ∙ sym (ap (λ (f : Found). bare (pinnedAt s b f .bytes h)) place);
+        stored = λ h t. a .stored h (sym (or-false (back h)) ∙ t) ∙ sym (ap (λ (f : Found). bare (pinnedAt s o b f .bytes h)) place);
         settled = λ q. absurd (not-checkpoint refl q);
       }

@@ -1,6 +1,6 @@
 -- A pin that takes the victim of a sweep agrees with the shelf: a dirty one is written back, it is released, the page is loaded there.
 use Prim.Native.Nat.{ℕ, _<_}
-use mathlib.Core.Path.{_≡_, refl, sym, _∙_, subst}
+use mathlib.Core.Path.{_≡_, refl, sym, ap, _∙_, subst}
 use mathlib.Core.Bool.{Bool, true, false}
 use mathlib.Core.List.{List, [], _∷_}
 use lib.Dec.{eqb}
@@ -16,7 +16,8 @@ use Rattle.buftag.specs.Link.{linkOf}
 use Rattle.bufmodel.specs.Word.{pinned, dirty}
 use Rattle.bufmodel.specs.Checksum.{bare}
 use Rattle.bufmodel.specs.Rows.{storeBlocks, placeOf}
-use Rattle.bufmodel.specs.Memory.{Memory, buffers, size, capOf, wordOf, nameOf, withStates, withHand}
+use Rattle.bufmodel.specs.Memory.{Memory, buffers, size, capOf, wordOf, nameOf, withStates, withCounts, withHand}
+use Rattle.bufmodel.specs.Counts.{maxHolders, setCount}
 use Rattle.bufmodel.specs.Sweep.{Swept, Sweeps, sweepAll}
 use Rattle.bufmodel.specs.Moves.{writeBack, release, loadAt, load}
 use Rattle.bufmodel.specs.Pin.{heldIn}
@@ -26,7 +27,7 @@ use Rattle.bufmodel.proofs.SweepLaws.{SweptFrom}
 use Rattle.bufmodel.proofs.LessUsedLaws.{less-pinned, less-dirty}
 use Rattle.bufmodel.proofs.ReleaseLaws.{release-buffers, release-top}
 use Rattle.bufmodel.proofs.FreeListLaws.{top-end}
-use Rattle.bufmodel.proofs.LoadLaws.{load-is, load-buffers}
+use Rattle.bufmodel.proofs.LoadLaws.{loadedFor, load-is, load-buffers}
 use Rattle.shelf.specs.Shelf.{refuses}
 use Rattle.shelf.specs.Ledger.{bufferIn, wroteIn}
 use Rattle.shelf.proofs.PublishedPin.{sweep-published}
@@ -52,7 +53,7 @@ sweepOf m = sweepAll (capOf m) (m .states) (m .control .hand)
 
 -- ---- a buffer with a clean unpinned page is released, and another page that no buffer has is loaded there
 module _ (m : Memory) (v : View) (k : Kept m v) (w h : ℕ) (own : Has m w h) (free : pinned (wordOf m w) ≡ false)
-    (clean : dirty (wordOf m w) ≡ false) (n : PageName) (g : ℕ) (place : placeOf (m .rows) n ≡ found g) (none : Nobody m g)
+    (clean : dirty (wordOf m w) ≡ false) (o : ℕ) (few : o < maxHolders) (n : PageName) (g : ℕ) (place : placeOf (m .rows) n ≡ found g) (none : Nobody m g)
     (fine : v .bad g ≡ false) where
   released : Kept (release m w) v
   released = kept-release m v k w h own free clean
@@ -64,13 +65,13 @@ module _ (m : Memory) (v : View) (k : Kept m v) (w h : ℕ) (own : Has m w h) (f
   changed-is : load (release m w) n ≡ loadAt (release m w) n w g
   changed-is = load-is (release m w) n w g (release-top m w) released-place
 
-  kept-changed : Kept (loadAt (release m w) n w g) (viewLoad v w g)
+  kept-changed : Kept (loadedFor (release m w) o n w g) (viewLoad v o w g)
   kept-changed =
-      kept-load (release m w) v released n w g (release-top m w) released-place
+      kept-load (release m w) v released o few n w g (release-top m w) released-place
       (nobody-held (release m w) (released .good) n g released-place (λ i x. none i (has-release m w (own .below) i g x .1))) fine
 
 -- ---- the victim
-module _ (m : Memory) (v : View) (k : Kept m v) (n : PageName) (w g : ℕ) (new : heldIn m n ≡ Nowhere)
+module _ (m : Memory) (v : View) (k : Kept m v) (o : ℕ) (few : o < maxHolders) (n : PageName) (w g : ℕ) (new : heldIn m n ≡ Nowhere)
     (top : linkOf (m .control .top) ≡ End) (place : placeOf (m .rows) n ≡ found g) (fine : v .bad g ≡ false) where
   abbrev s : Swept
   s = sweepOf m
@@ -116,13 +117,16 @@ module _ (m : Memory) (v : View) (k : Kept m v) (n : PageName) (w g : ℕ) (new 
     backed-place = place
 
     abbrev after : Memory
-    after = loadAt (release backed w) n w g
+    after = loadedFor (release backed w) o n w g
 
-    after-is : load (release backed w) n ≡ after
-    after-is = changed-is backed _ (back .kept) w (page .0) (back .has) (back .free) (back .clean) n g backed-place none fine
+    after-is : withCounts (setCount (m .counts) w o 1) (load (release backed w) n) ≡ after
+    unfolding release writeBack
+    after-is =
+        ap (withCounts (setCount (m .counts) w o 1))
+        (changed-is backed _ (back .kept) w (page .0) (back .has) (back .free) (back .clean) o few n g backed-place none fine)
 
-    after-kept : Kept after (viewLoad (viewWrote v (wroteIn answer) w) w g)
-    after-kept = kept-changed backed _ (back .kept) w (page .0) (back .has) (back .free) (back .clean) n g backed-place none fine
+    after-kept : Kept after (viewLoad (viewWrote v (wroteIn answer) w) o w g)
+    after-kept = kept-changed backed _ (back .kept) w (page .0) (back .has) (back .free) (back .clean) o few n g backed-place none fine
 
     after-many : buffers m ≡ buffers after
     after-many =
@@ -138,7 +142,7 @@ module _ (m : Memory) (v : View) (k : Kept m v) (n : PageName) (w g : ℕ) (new 
         subst (λ (j : ℕ). bare (block (size m) j (backed .store)) ≡ bare (v .bytes j)) e
         (let same = back .kept .same w (page .0) (back .has) in same .clean (back .clean) ∙ sym (same .bytes))
 
-    victim-new : refuses (shelfOf m v) (Pin n) ≡ 0 → PinAccepted m v n g answer after
+    victim-new : refuses (shelfOf m v) (Pin o n) ≡ 0 → PinAccepted m v o n g answer after
     unfolding loadAt release writeBack bufferIn
     victim-new number =
         record {
@@ -161,10 +165,10 @@ module _ (m : Memory) (v : View) (k : Kept m v) (n : PageName) (w g : ℕ) (new 
         }
 
   -- the pin as the program makes it, accepted
-  pub victim-accepted : s .victim ≡ found w → refuses (shelfOf m v) (Pin n) ≡ 0
+  pub victim-accepted : s .victim ≡ found w → refuses (shelfOf m v) (Pin o n) ≡ 0
       → let m′ = load (release (writeBack (withHand (s .hand) (withStates (s .words) m)) w) w) n in
-      Accepted m v (Pin n) answer [] m′
+      Accepted m v (Pin o n) answer [] (withCounts (setCount (m .counts) w o 1) m′)
   victim-accepted victim number =
       let e = after-is victim in
-      subst (λ (o : Memory). Accepted m v (Pin n) answer [] o) (sym e)
-      (pin-accepted m v n g answer (after victim) place (victim-new victim number))
+      subst (λ (x : Memory). Accepted m v (Pin o n) answer [] x) (sym e)
+      (pin-accepted m v o n g answer (after victim) place (victim-new victim number))

@@ -6,7 +6,22 @@ use mathlib.Core.Logic.{_≢_}
 use Rattle.buftag.specs.declared.name.PageName.{PageName}
 use Rattle.bufmodel.specs.Memory.{Memory, buffers, capOf}
 use Rattle.bufmodel.specs.Outcome.{Outcome}
-use Rattle.bufmodel.specs.Step.{Call, Pin, Unpin, Read, Write, Flush, Checkpoint, Peek, Extend, Drop, LogInserted, LogFlushed, step}
+use Rattle.bufmodel.specs.Step.{
+  Call,
+  Pin,
+  Unpin,
+  Read,
+  Write,
+  Flush,
+  GiveBack,
+  Checkpoint,
+  Peek,
+  Extend,
+  Drop,
+  LogInserted,
+  LogFlushed,
+  step,
+}
 use Rattle.bufmodel.proofs.GoodLaws.{Good}
 use Rattle.bufmodel.proofs.FixedLaws.{step-fixed}
 use Rattle.shelf.specs.Published.{Sought, Published, Demand2}
@@ -19,6 +34,7 @@ use Rattle.shelf.proofs.PublishedCalls.{
   read-says,
   write-says,
   flush-says,
+  give-says,
   peek-says,
   extend-says,
   inserted-says,
@@ -33,7 +49,11 @@ pub refused-same : (m : Memory) (c : Call) → step m c .refusal ≢ 0 → step 
 refused-same m c h = ap (λ (o : Outcome). o .after) (step-refused m c h)
 
 -- ---- what a call does is as published
-pin-same : {a b : PageName} → Pin a ≡ Pin b → a ≡ b
+-- a pin names one holder and one page
+abbrev SoughtBy : Memory → Outcome → ℕ × PageName → Type 0
+SoughtBy m o x = Sought m (x .0) (x .1) (capOf m) (buffers m) o
+
+pin-same : {a b : ℕ} {n p : PageName} → Pin a n ≡ Pin b p → _≡_ {A = ℕ × PageName} (a, n) (b, p)
 pin-same e = cc
 
 -- no call changes the cap
@@ -44,25 +64,26 @@ cap-stays m c = ap (λ (x : ℕ × ℕ). x .1) (step-fixed m c)
 other-published : {m : Memory} {c : Call} → isPin c ≡ false → Says m c → Published m (capOf m) (buffers m) c (step m c)
 other-published {m} {c} h says =
     record {
-      sought = λ n e. absurd (not-pin h n e);
+      sought = λ o n e. absurd (not-pin h o n e);
       accepts = says;
       stays = cap-stays m c;
       same = refused-same m c;
     }
 
--- write, flush and checkpoint set a word's flags, and so ask what flags it had
+-- write, flush and checkpoint set a word's flags, and so ask what flags it had; give back asks that words have 32 bits
 pub published : (m : Memory) (c : Call) → Good m → HeldWords m → Published m (capOf m) (buffers m) c (step m c)
-published m (Pin n) k held =
+published m (Pin h n) k held =
     record {
-      sought = λ n′ e. subst (λ (x : PageName). Sought m x (capOf m) (buffers m) (step m (Pin n))) (pin-same e) (pin-sought m k n);
+      sought = λ h′ n′ e. subst (SoughtBy m (step m (Pin h n))) (pin-same e) (pin-sought m k h n);
       accepts = λ z. tt;
-      stays = cap-stays m (Pin n);
-      same = refused-same m (Pin n);
+      stays = cap-stays m (Pin h n);
+      same = refused-same m (Pin h n);
     }
-published m (Unpin i) k held = other-published refl (unpin-says m i)
-published m (Read i from out) k held = other-published refl (read-says m i from out)
-published m (Write i from bytes at) k held = other-published refl (write-says m k held i from bytes at)
-published m (Flush i) k held = other-published refl (flush-says m i k held)
+published m (Unpin h i) k held = other-published refl (unpin-says m h i k)
+published m (Read h i from out) k held = other-published refl (read-says m h i from out)
+published m (Write h i from bytes at) k held = other-published refl (write-says m k held h i from bytes at)
+published m (Flush h i) k held = other-published refl (flush-says m h i k held)
+published m (GiveBack h) k held = other-published refl (give-says m k held h)
 published m Checkpoint k held = other-published refl (checkpoint-says m k held)
 published m (Peek n) k held = other-published refl (peek-says m n)
 published m (Extend f) k held = other-published refl (extend-says m k f)

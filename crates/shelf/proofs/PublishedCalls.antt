@@ -1,68 +1,77 @@
--- What the calls on one buffer, peek, extend and the log calls leave, where they are accepted.
-use Prim.Native.Nat.{ℕ, _+_, _≤_, _<_}
-use mathlib.Core.Path.{_≡_, refl, ap, _∙_}
+-- What the calls on one buffer, give back, peek, extend and the log calls leave, where they are accepted.
+use Prim.Native.Nat.{ℕ, _+_, _-_, _≤_, _<_}
+use mathlib.Core.Path.{_≡_, refl, sym, ap, _∙_, subst}
+use mathlib.Core.Logic.{_≢_, ⊎-elim}
 use mathlib.Core.Bool.{false, _||_}
 use mathlib.Core.List.{List, [], _∷_}
 use native.Mathlib.Omega.{arith}
 use lib.Dec.{ltb}
 use lib.ListN.{length, replicate, length-replicate}
-use borrow.Author.Tests.{eqb-false, ltb-false}
+use borrow.Author.Tests.{eq-eqb, ne-eqb, eqb-false, leb-false, ltb-false}
 use Rattle.laws.specs.First.{Found, found, missing}
-use Rattle.laws.proofs.Tests.{or-neither}
+use Rattle.laws.proofs.Tests.{eq-or-ne, or-neither}
 use Rattle.laws.proofs.Block.{length-block}
 use Rattle.buftag.specs.declared.lookup.Held.{Held}
 use Rattle.buftag.specs.declared.name.FileName.{FileName}
 use Rattle.buftag.specs.declared.name.PageName.{PageName}
-use Rattle.bufmodel.specs.Word.{dirty}
+use Rattle.bufmodel.specs.Word.{pins, dirty}
 use Rattle.bufmodel.specs.Position.{written}
 use Rattle.bufmodel.specs.Rows.{blocksAt, capacityAt, rowOf, startOf, storeBlocks}
 use Rattle.bufmodel.specs.Memory.{Memory, buffers, size, wordOf, pageOf}
+use Rattle.bufmodel.specs.Counts.{countAt}
 use Rattle.bufmodel.specs.Moves.{writeBack}
 use Rattle.bufmodel.specs.Outcome.{place, zeros, one, two, done}
-use Rattle.bufmodel.specs.Pin.{noRow, heldIn}
-use Rattle.bufmodel.specs.Calls.{bufferPlaces, unpin, read, writePlaces, writeTo, write, flush, offsetOf, partOf, peek}
-use Rattle.bufmodel.specs.Calls.{fileFull, extendAt, extend, logInserted, logFlushed}
-use Rattle.bufmodel.specs.Step.{Call, Unpin, Read, Write, Flush, Peek, Extend, LogInserted, LogFlushed, step}
-use Rattle.bufmodel.proofs.WordLaws.{pinned-pins}
+use Rattle.bufmodel.specs.Pin.{holderPlace, noRow, heldIn}
+use Rattle.bufmodel.specs.Calls.{bufferPlaces, unpinAt, unpin, read, writePlaces, writeTo, write, flush, offsetOf, partOf, peek}
+use Rattle.bufmodel.specs.Calls.{giveUpTo, giveBack, fileFull, extendAt, extend, logInserted, logFlushed}
+use Rattle.bufmodel.specs.Step.{Call, Unpin, Read, Write, Flush, GiveBack, Peek, Extend, LogInserted, LogFlushed, step}
+use Rattle.bufmodel.proofs.WordLaws.{pins-pinned}
+use Rattle.bufmodel.proofs.CountLaws.{pin-some}
 use Rattle.bufmodel.proofs.PositionLaws.{length-written}
 use Rattle.bufmodel.proofs.RowsLaws.{row-found, start-in}
 use Rattle.bufmodel.proofs.GoodLaws.{Good}
 use Rattle.bufmodel.proofs.OutcomeLaws.{refusal-passed}
+use Rattle.bufmodel.proofs.RecountLaws.{Given, given-all}
 use Rattle.bufmodel.proofs.HeldLaws.{pinned-full}
 use Rattle.shelf.specs.Shelf.{with, writtenPage}
-use Rattle.shelf.specs.Published.{Accepts, Peeks, Words, extendedBy}
+use Rattle.shelf.specs.Published.{Accepts, Peeks, Words, countsBy, extendedBy}
 use Rattle.shelf.proofs.WrittenLaws.{written-is}
 use Rattle.shelf.proofs.MemoryPlaces.{number-passed}
-use Rattle.shelf.proofs.PublishedWords.{HeldWords, less-pins, dirtied-is, cleaned-is, dirty-held}
+use Rattle.shelf.proofs.PublishedWords.{HeldWords, less-word-is, given-word-is, dirtied-is, narrow-words, cleaned-is, dirty-held}
 use Rattle.shelf.proofs.PublishedStore.{put-with, back-blocks}
-use Rattle.shelf.proofs.PublishedLeaves.{ind-cond, Pages, Blocks, stays-whole, stays-set, call-done}
+use Rattle.shelf.proofs.PublishedLeaves.{ind-cond, Pages, Blocks, stays-whole, stays-set, pins-left, pins-set, call-done}
 
 -- what an accepted call leaves
 abbrev pub Says : Memory → Call → Type 0
 Says m c = step m c .refusal ≡ 0 → Accepts m c (step m c)
 
 -- ---- calls on a buffer
-module _ (m : Memory) (i : ℕ) where
-  pub unpin-says : Says m (Unpin i)
-  unfolding step unpin
-  unpin-says =
-      call-done m (bufferPlaces m i []) [] (done zeros [] _) refl (Accepts m (Unpin i))
-      (λ e.
-      let p = number-passed m i [] e in
-      stays-set m _ refl refl (p .0) (less-pins (wordOf m i) (pinned-pins (wordOf m i) (p .1))) refl (λ j l. refl) (λ g l. refl))
+-- a buffer on which a holder has pins counts one at least
+some-pins : (m : Memory) → Good m → (h i : ℕ) → h < 64 → i < buffers m → countAt (m .counts) i h ≢ 0 → 0 < pins (wordOf m i)
+some-pins m k h i few l ne = omega (arith, pin-some (m .counts) i h few ne, k .books .counts i l)
 
-  pub read-says : (from : ℕ) (out : List ℕ) → Says m (Read i from out)
+module _ (m : Memory) (h i : ℕ) where
+  pub unpin-says : Good m → Says m (Unpin h i)
+  unfolding step unpin unpinAt countAt
+  unpin-says k =
+      call-done m (bufferPlaces m h i []) [] (done zeros [] (unpinAt m h i)) refl (Accepts m (Unpin h i))
+      (λ e.
+      let p = number-passed m h i [] e in
+      let c = countsBy m h i in
+      pins-set m zeros h k (p .3) i (c - 1) (p .0) (less-word-is c (wordOf m i) (some-pins m k h i (p .3) (p .0))))
+
+  pub read-says : (from : ℕ) (out : List ℕ) → Says m (Read h i from out)
   unfolding step read
   read-says from out =
-      call-done m (bufferPlaces m i _) out (done zeros _ m) refl (Accepts m (Read i from out))
+      call-done m (bufferPlaces m h i _) out (done zeros _ m) refl (Accepts m (Read h i from out))
       (λ e. (stays-whole m _ refl refl refl (λ j l. refl) (λ g l. refl), refl))
 
-  pub flush-says : Good m → HeldWords m → Says m (Flush i)
+  pub flush-says : Good m → HeldWords m → Says m (Flush h i)
   unfolding step flush writeBack
   flush-says k held =
-      call-done m (bufferPlaces m i []) [] (done _ [] (writeBack m i)) refl (Accepts m (Flush i))
+      call-done m (bufferPlaces m h i []) [] (done _ [] (writeBack m i)) refl (Accepts m (Flush h i))
       (λ e.
-      let p = number-passed m i [] e in (
+      let p = number-passed m h i [] e in (
         stays-set m _ refl refl (p .0) (cleaned-is (wordOf m i) (dirty-held m held i (p .0))) refl (λ j l. refl)
             (λ g l. back-blocks m i k (p .0) (m .store) (k .sizes .store) g),
         ap one (ind-cond (dirty (wordOf m i))),
@@ -79,25 +88,48 @@ write-fits size from at bytes page e h =
     let behind : 8 ≤ from = ltb-false _ _ (n .1) in
     (length-written at from bytes page (omega arith) (omega arith) ∙ e, written-is at from bytes page behind (omega arith))
 
-module _ (m : Memory) (k : Good m) (held : HeldWords m) (i from : ℕ) (bytes : List ℕ) (at : ℕ) where
+module _ (m : Memory) (k : Good m) (held : HeldWords m) (h i from : ℕ) (bytes : List ℕ) (at : ℕ) where
   write-pages : i < buffers m → (ltb (size m) (from + length bytes) || ltb from 8) ≡ false
       → Pages m (writeTo m i from bytes at) (with i (writtenPage at from bytes (pageOf m i)) (pageOf m))
   unfolding writeTo
-  write-pages h fits j l =
-      let page = length-block (size m) (buffers m) i (m .pool) (k .sizes .pool) h in
+  write-pages b fits j l =
+      let page = length-block (size m) (buffers m) i (m .pool) (k .sizes .pool) b in
       let w = write-fits (size m) from at bytes (pageOf m i) page fits in
-      put-with (size m) (buffers m) _ (m .pool) (k .sizes .pool) (w .0) i h j
+      put-with (size m) (buffers m) _ (m .pool) (k .sizes .pool) (w .0) i b j
       ∙ ap (λ (x : List ℕ). with i x (pageOf m) j) (w .1)
 
-  pub write-says : Says m (Write i from bytes at)
+  pub write-says : Says m (Write h i from bytes at)
   unfolding step write writePlaces writeTo
   write-says =
-      call-done m (writePlaces m i from bytes at) bytes (done zeros bytes (writeTo m i from bytes at)) refl
-      (Accepts m (Write i from bytes at))
+      call-done m (writePlaces m h i from bytes at) bytes (done zeros bytes (writeTo m i from bytes at)) refl
+      (Accepts m (Write h i from bytes at))
       (λ e.
-      let p = number-passed m i _ e in
-      stays-set m _ refl refl (p .0) (dirtied-is (held i (p .0) (pinned-full m i (p .1)))) refl
+      let p = number-passed m h i _ e in
+      let full = pinned-full m i (pins-pinned (wordOf m i) (some-pins m k h i (p .3) (p .0) (p .1))) in
+      stays-set m _ refl refl (p .0) (dirtied-is (held i (p .0) full)) refl
       (write-pages (p .0) (refusal-passed 9 _ _ (omega arith) (p .2) .0)) (λ g l. refl))
+
+-- ---- give back
+module _ (m : Memory) (k : Good m) (held : HeldWords m) (h : ℕ) where
+  give-leaves : h < 64 → {d : Memory} → Given m h (buffers m) d → Accepts m (GiveBack h) (done zeros [] d)
+  unfolding countAt
+  give-leaves few {d} x =
+      subst (λ (y : Memory). Accepts m (GiveBack h) (done zeros [] y)) (sym (x .rest))
+      (pins-left m zeros h (λ i. 0) (d .states) (d .counts) (x .many)
+      (λ i l. x .word i l ∙ given-word-is (countsBy m h i) (wordOf m i) (some-pins m k h i few l))
+      (λ i o l t.
+      ⊎-elim
+      (λ e. rw (eq-eqb o h e, e) (x .count i l))
+      (λ ne. rw (ne-eqb o h ne) (x .others i o t ne))
+      (eq-or-ne o h)))
+
+  pub give-says : Says m (GiveBack h)
+  unfolding step giveBack holderPlace
+  give-says =
+      call-done m (holderPlace h ∷ []) [] (done zeros [] (giveUpTo h (buffers m) m)) refl (Accepts m (GiveBack h))
+      (λ e.
+      let few = leb-false _ _ (refusal-passed 19 _ _ (omega arith) e .0) in
+      give-leaves few (given-all m h few k (narrow-words m held)))
 
 -- ---- calls that change no word
 module _ (m : Memory) where

@@ -1,18 +1,22 @@
--- What a call leaves: calls that change one word or none, and how a call is accepted.
+-- What a call leaves: calls that change one word or none, or words and one holder's counts, and how a call is accepted.
 use Prim.Native.Nat.{ℕ, _<_}
+use native.Mathlib.Omega.{arith}
 use mathlib.Core.Path.{_≡_, refl, sym, ap, _∙_, subst}
 use mathlib.Core.Bool.{Bool, true, false, cond}
-use mathlib.Core.List.{List}
+use mathlib.Core.List.{List, []}
 use lib.ListN.{length, getD, set, length-set}
 use Rattle.laws.specs.Sum.{ind}
 use Rattle.laws.specs.Block.{block}
 use Rattle.bufmodel.specs.Rows.{storeBlocks}
-use Rattle.bufmodel.specs.Memory.{Memory, buffers, size, wordOf, pageOf}
-use Rattle.bufmodel.specs.Outcome.{Outcome, Place, refusalOf, checked, outcome}
-use Rattle.bufmodel.proofs.GoodLaws.{checked-passed}
+use Rattle.bufmodel.specs.Memory.{Memory, buffers, size, wordOf, pageOf, withStates, withCounts}
+use Rattle.bufmodel.specs.Counts.{setCount}
+use Rattle.bufmodel.specs.Outcome.{Outcome, Place, refusalOf, checked, done, outcome}
+use Rattle.bufmodel.proofs.GoodLaws.{Good, checked-passed}
 use Rattle.bufmodel.proofs.OutcomeLaws.{outcome-done, outcome-number}
+use Rattle.bufmodel.proofs.RecountLaws.{recounted}
 use Rattle.shelf.specs.Shelf.{with}
-use Rattle.shelf.specs.Published.{Marks, marksOf, withWords, Alike, Leaves, Words}
+use Rattle.shelf.specs.Published.{Marks, marksOf, withWords, Alike, Leaves, Words, Pins, countsBy}
+use Rattle.shelf.proofs.PublishedCounts.{countsIn, count-by}
 use Rattle.shelf.proofs.PublishedMarks.{set-with}
 
 -- 1 or 0 by a test, as the pool counts and as the statement says it
@@ -48,6 +52,7 @@ module _ (m : Memory) (o : Outcome) (wide : length (o .after .heads) ≡ length 
               links = λ i l. refl;
               chains = λ i l. refl;
               heads = λ j l. refl;
+              counts = λ i h l q. refl;
               hand = refl;
               top = refl;
             });
@@ -69,6 +74,39 @@ module _ (m : Memory) (o : Outcome) (wide : length (o .after .heads) ≡ length 
       words-left (ap length e ∙ length-set (m .states) b x)
       (λ i h. ap (λ (xs : List ℕ). getD xs i 0) e ∙ set-with (m .states) b x 0 l i ∙ ap (λ (y : ℕ). with b y (wordOf m) i) q)
       pages blocks
+
+-- ---- other words and other counts by holder h, and nothing else
+module _ (m : Memory) (answer : List ℕ) (h : ℕ) where
+  pub pins-left : {word : ℕ → ℕ} (count : ℕ → ℕ) (words counts : List ℕ) → length words ≡ buffers m
+      → ((i : ℕ) → i < buffers m → getD words i 0 ≡ word i)
+      → ((i o : ℕ) → i < buffers m → o < 64 → countsIn counts i o ≡ with h (count i) (countsIn (m .counts) i) o)
+      → Pins m (done answer [] (withCounts counts (withStates words m))) word h count
+  pins-left count words counts many same held =
+      record {
+        many = many;
+        wide = refl;
+        alike =
+            record {
+              words = same;
+              names = λ i l. refl;
+              links = λ i l. refl;
+              chains = λ i l. refl;
+              heads = λ j l. refl;
+              counts = held;
+              hand = refl;
+              top = refl;
+            };
+        pages = λ i l. refl;
+        blocks = λ g l. refl;
+      }
+
+  -- of one buffer
+  pub pins-set : Good m → h < 64 → (i c : ℕ) → i < buffers m → {x w : ℕ} → x ≡ w
+      → Pins m (done answer [] (recounted m h i x c)) (with i w (wordOf m)) h (with i c (countsBy m h))
+  pins-set k few i c l {x} e =
+      pins-left (with i c (countsBy m h)) (set (m .states) i x) (setCount (m .counts) i h c) (length-set (m .states) i x)
+      (λ j q. set-with (m .states) i x 0 l j ∙ ap (λ (y : ℕ). with i y (wordOf m) j) e)
+      (λ j o q t. count-by (m .counts) i h c (omega (arith, k .sizes .counts)) few j o t)
 
 -- ---- an accepted call ends as it does where none of its places refuses
 pub call-done : (m : Memory) (own : List Place) (bytes : List ℕ) (o : Outcome) → o .refusal ≡ 0 → (P : Outcome → Type 0)

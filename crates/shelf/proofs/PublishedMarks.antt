@@ -22,10 +22,12 @@ use Rattle.bufmodel.specs.Word.{loaded}
 use Rattle.bufmodel.specs.Memory.{Memory, buffers}
 use Rattle.bufmodel.specs.Moves.{off, release, loadAt}
 use Rattle.bufmodel.proofs.GoodLaws.{Good}
+use Rattle.bufmodel.proofs.LoadLaws.{loadedFor}
 use Rattle.shelf.specs.Shelf.{with}
 use Rattle.shelf.specs.Published.{Marks, marksOf, withWords, ledPast, emptied, loadedInto, Alike}
 use Rattle.shelf.proofs.WithLaws.{with-same, with-other}
 use Rattle.shelf.proofs.PublishedWords.{loaded-is}
+use Rattle.shelf.proofs.PublishedCounts.{count-with}
 
 -- ---- alike
 module _ {n b : ℕ} where
@@ -37,6 +39,7 @@ module _ {n b : ℕ} where
         links = λ i h. refl;
         chains = λ i h. refl;
         heads = λ j h. refl;
+        counts = λ i o h l. refl;
         hand = refl;
         top = refl;
       }
@@ -49,6 +52,7 @@ module _ {n b : ℕ} where
         links = λ i h. x .links i h ∙ y .links i h;
         chains = λ i h. x .chains i h ∙ y .chains i h;
         heads = λ j h. x .heads j h ∙ y .heads j h;
+        counts = λ i o h l. x .counts i o h l ∙ y .counts i o h l;
         hand = x .hand ∙ y .hand;
         top = x .top ∙ y .top;
       }
@@ -69,6 +73,7 @@ module _ {n b : ℕ} {k l : Marks} where
         links = λ j q. with-both i j (x .top) (λ ne. x .links j q);
         chains = λ j q. with-both i j refl (λ ne. ap₂ (ledPast i) (x .chains i h) (x .chains j q));
         heads = λ j q. ap₂ (ledPast i) (x .chains i h) (x .heads j q);
+        counts = x .counts;
         hand = x .hand;
         top = refl;
       }
@@ -76,16 +81,21 @@ module _ {n b : ℕ} {k l : Marks} where
   pub emptied-alike : (i : ℕ) → i < n → Alike n b k l → Alike n b (emptied i k) (emptied i l)
   emptied-alike i h x = emptied-past i h (k .word) (λ j ne. refl) x
 
-  pub loaded-alike : (c : ℕ) → c < b → (p : PageName) (i : ℕ) → i < n → Alike n b k l
-      → Alike n b (loadedInto c p i k) (loadedInto c p i l)
+  pub loaded-alike : (c : ℕ) → c < b → (o : ℕ) (p : PageName) (i : ℕ) → i < n → Alike n b k l
+      → Alike n b (loadedInto c o p i k) (loadedInto c o p i l)
   unfolding loadedInto
-  loaded-alike c w p i h x =
+  loaded-alike c w o p i h x =
       record {
         words = λ j q. with-both i j refl (λ ne. x .words j q);
         names = λ j q. with-both i j refl (λ ne. x .names j q);
         links = λ j q. with-both i j refl (λ ne. x .links j q);
         chains = λ j q. with-both i j (x .heads c w) (λ ne. x .chains j q);
         heads = λ j q. with-both c j refl (λ ne. x .heads j q);
+        counts = λ j t q d.
+            ⊎-elim
+            (λ e. rw (eq-eqb j i e) (with-both o t refl (λ ne. x .counts i t h d)))
+            (λ ne. rw (ne-eqb j i ne) (x .counts j t q d))
+            (eq-or-ne j i);
         hand = x .hand;
         top = x .links i h;
       }
@@ -114,10 +124,18 @@ pub record Shape (n b : ℕ) (m : Memory) : Type 0 where
   pub names : length (m .names) ≡ nameWords * n
   pub free : length (m .free) ≡ n
   pub chain : length (m .chain) ≡ n
+  pub counts : length (m .counts) ≡ n * 64
 
 pub good-shape : (m : Memory) → Good m → Shape (buffers m) (length (m .heads)) m
 good-shape m k =
-    record { many = refl; wide = refl; names = k .sizes .names; free = k .sizes .free; chain = k .sizes .chain }
+    record {
+      many = refl;
+      wide = refl;
+      names = k .sizes .names;
+      free = k .sizes .free;
+      chain = k .sizes .chain;
+      counts = k .sizes .counts;
+    }
 
 module _ {n b : ℕ} (m : Memory) (s : Shape n b m) (i : ℕ) (l : i < n) where
   -- ---- release
@@ -130,6 +148,7 @@ module _ {n b : ℕ} (m : Memory) (s : Shape n b m) (i : ℕ) (l : i < n) where
         names = length-setName (m .names) i noName ∙ s .names;
         free = length-set (m .free) i (m .control .top) ∙ s .free;
         chain = length-unchain (m .chain) i ∙ s .chain;
+        counts = s .counts;
       }
 
   pub release-marks : Alike n b (marksOf (release m i)) (emptied i (marksOf m))
@@ -144,6 +163,7 @@ module _ {n b : ℕ} (m : Memory) (s : Shape n b m) (i : ℕ) (l : i < n) where
             set-with (map (past i own) (m .chain)) i none (pos 0) (rw length-map (omega (arith, s .chain))) j
             ∙ with-both i j refl (λ ne. map-past (m .chain) i own j (omega (arith, s .chain)));
         heads = λ j q. map-past (m .heads) i own j (omega (arith, s .wide));
+        counts = λ j o q t. refl;
         hand = refl;
         top = refl;
       }
@@ -154,9 +174,11 @@ module _ {n b : ℕ} (m : Memory) (s : Shape n b m) (i : ℕ) (l : i < n) where
     unfolding loadAt enterHeads
     load-wide = length-set (m .heads) (bucketOf p (length (m .heads))) (pos i) ∙ s .wide
 
-    pub load-marks : bucketOf p b < b → Alike n b (marksOf (loadAt m p i g)) (loadedInto (bucketOf p b) p i (marksOf m))
+    -- once holder o has its pin
+    pub load-marks : (o : ℕ) → o < 64 → bucketOf p b < b
+        → Alike n b (marksOf (loadedFor m o p i g)) (loadedInto (bucketOf p b) o p i (marksOf m))
     unfolding loadAt loadedInto enterHeads enterChain
-    load-marks w =
+    load-marks o few w =
         let c = bucketOf p (length (m .heads)) in
         let e : c ≡ bucketOf p b = ap (bucketOf p) (s .wide) in
         record {
@@ -171,6 +193,7 @@ module _ {n b : ℕ} (m : Memory) (s : Shape n b m) (i : ℕ) (l : i < n) where
           heads = λ j q.
               ap (λ (x : ℕ). numberAt (set (m .heads) x (pos i)) j) e
               ∙ set-with (m .heads) (bucketOf p b) (pos i) (pos 0) (omega (arith, s .wide)) j;
+          counts = λ j t q d. count-with (m .counts) i o 1 (omega (arith, s .counts)) few j t d;
           hand = refl;
           top = refl;
         }

@@ -13,7 +13,7 @@ use Rattle.bufmodel.proofs.GoodLaws.{checked-good}
 use Rattle.shelf.specs.Shelf.{refuses}
 use Rattle.shelf.specs.Ledger.{ledgerAfter, puts}
 use Rattle.shelf.specs.Statement.{own}
-use Rattle.shelf.proofs.KeptLaws.{page-held, sums-kept}
+use Rattle.shelf.proofs.KeptLaws.{page-held, counts-held, sums-kept}
 use Rattle.shelf.proofs.ShelfPlaces.{six-of}
 use Rattle.shelf.proofs.Kept.{View, shelfOf, Kept, Ended}
 
@@ -55,6 +55,7 @@ module _ (m : Memory) (v : View) (c : Call) (kept : Kept m v) where
               long = refl;
               stored = λ g l e. never e refl;
               held = page-held m v kept;
+              counts = counts-held m v kept;
               sums = sums-kept m v kept;
               settled = λ q z. absurd (omega arith);
             };

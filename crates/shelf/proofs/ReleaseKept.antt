@@ -10,9 +10,11 @@ use Rattle.bufmodel.specs.Checksum.{bare}
 use Rattle.bufmodel.specs.Word.{pins, pinned, dirty}
 use Rattle.bufmodel.specs.Rows.{placeOf}
 use Rattle.bufmodel.specs.Memory.{Memory, buffers, size, capOf, wordOf, nameOf}
+use Rattle.bufmodel.specs.Counts.{maxHolders}
 use Rattle.bufmodel.specs.Books.{emptyAt}
 use Rattle.bufmodel.specs.Moves.{release}
 use Rattle.bufmodel.proofs.WordLaws.{unpinned-none, Held}
+use Rattle.bufmodel.proofs.CountLaws.{holders-none}
 use Rattle.bufmodel.proofs.HeldLaws.{empty-unpinned}
 use Rattle.bufmodel.proofs.ReleaseLaws.{release-buffers, release-word, release-name, release-kept, release-empty, release-good}
 use Rattle.shelf.proofs.Kept.{View, Has, Nobody, Same, Kept}
@@ -60,8 +62,11 @@ module _ (m : Memory) (v : View) (k : Kept m v) (i g : ℕ) (own : Has m i g) (f
   left : Same m v i g
   left = k .same i g own
 
-  left-pins : v .counts g ≡ 0
-  left-pins = left .counts ∙ unpinned-none (wordOf m i) free
+  idle : pins (wordOf m i) ≡ 0
+  idle = unpinned-none (wordOf m i) free
+
+  left-pins : (h : ℕ) → h < maxHolders → v .counts h g ≡ 0
+  left-pins h l = left .counts h l ∙ holders-none (m .counts) i h l (sym (k .good .books .counts i (own .below)) ∙ idle)
 
   left-clean : v .dirty g ≡ false
   left-clean = left .marked ∙ clean
@@ -77,7 +82,7 @@ module _ (m : Memory) (v : View) (k : Kept m v) (i g : ℕ) (own : Has m i g) (f
       let w = release-word m i j ne in
       record {
         bytes = q .bytes;
-        counts = q .counts ∙ ap pins (sym w);
+        counts = q .counts;
         marked = q .marked ∙ ap dirty (sym w);
         last = q .last;
         clean = λ d. q .clean (ap dirty (sym w) ∙ d);
@@ -106,10 +111,10 @@ module _ (m : Memory) (v : View) (k : Kept m v) (i g : ℕ) (own : Has m i g) (f
   unfolding release
   kept-release =
       record {
-        good = release-good m (k .good) i (own .below) (own .full);
+        good = release-good m (k .good) i (own .below) (own .full) idle;
         words = release-words;
         same = λ j h x. let y = has-release m i (own .below) j h x in release-same j h (y .0) (y .1);
-        unpinned = λ h none. ⊎-elim (λ n. k .unpinned h n) (λ e. rw e left-pins) (gone h none);
+        unpinned = λ h none. ⊎-elim (λ n. k .unpinned h n) (λ e. subst (λ (y : ℕ). (o : ℕ) → o < maxHolders → v .counts o y ≡ 0) (sym e) left-pins) (gone h none);
         unmarked = λ h none. ⊎-elim (λ n. k .unmarked h n) (λ e. rw e left-clean) (gone h none);
         stored = λ n h e none. ⊎-elim (λ z. k .stored n h e z) (λ q. rw q left-stored) (gone h none);
         passed = k .passed;

@@ -1,5 +1,5 @@
 -- Set up is accepted exactly where lengths and rows keep the rules and the cap is from 1 to 15, and leaves the books of empty buffers.
-use Prim.Native.Nat.{ℕ, zero, suc, _+_, _<_}
+use Prim.Native.Nat.{ℕ, zero, suc, _+_, _<_, _*_}
 use mathlib.Core.Path.{_≡_, refl, sym, ap, _∙_, subst}
 use mathlib.Core.Logic.{⊎-elim, inl, inr}
 use mathlib.Core.Bool.{Bool, true, false, not, cond}
@@ -10,6 +10,7 @@ use lib.IntN.{pos}
 use lib.Dec.{eqb}
 use borrow.Author.Tests.{eq-eqb, ne-eqb, eqb-true, eqb-false}
 use Rattle.laws.specs.Says.{Says}
+use Rattle.laws.proofs.Lists.{getD-replicate-all}
 use Rattle.laws.proofs.Tests.{eq-or-ne, never}
 use Rattle.laws.proofs.Says.{says-le, says-and}
 use Rattle.buftag.specs.Link.{none, numberAt}
@@ -58,6 +59,7 @@ module _ (m : Lent) (p at cap : ℕ) (s : SizedFor p (opened m)) where
             free-number 0 (buffers k) i l ∙ ap (λ (t : ℕ). cond (eqb (suc i) (buffers k)) listEnd (pos (suc t))) (omega arith);
         chains = λ i l. getD-replicate (length (m .chain)) i none (pos 0) (omega (arith, s .chain));
         heads = λ i l. getD-replicate (length (m .heads)) i none (pos 0) l;
+        counts = λ i h l few. getD-replicate-all (length (m .counts)) (i * 64 + h) 0;
         hand = refl;
         top = refl;
       }

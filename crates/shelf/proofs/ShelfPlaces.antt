@@ -25,25 +25,26 @@ unfolding refuses
 refuses-is s c = first-is (places s c)
 
 -- ---- 6 exactly when N pages have pins and the wanted one is not among them
--- where the four places above pass, the fifth decides
-last-decides : (a b c d t : Bool) → firstOf (place 3 a ∷ place 4 b ∷ place 17 c ∷ place 5 d ∷ []) ≡ 0
-    → firstOf (place 3 a ∷ place 4 b ∷ place 17 c ∷ place 5 d ∷ place 6 t ∷ []) ≡ cond t 6 0
+-- where the five places above pass, the sixth decides
+last-decides : (h a b c d t : Bool) → firstOf (place 19 h ∷ place 3 a ∷ place 4 b ∷ place 17 c ∷ place 5 d ∷ []) ≡ 0
+    → firstOf (place 19 h ∷ place 3 a ∷ place 4 b ∷ place 17 c ∷ place 5 d ∷ place 6 t ∷ []) ≡ cond t 6 0
 unfolding firstOf
-last-decides true b c d t e = absurd (omega arith)
-last-decides false true c d t e = absurd (omega arith)
-last-decides false false true d t e = absurd (omega arith)
-last-decides false false false true t e = absurd (omega arith)
-last-decides false false false false t e = refl
+last-decides true a b c d t e = absurd (omega arith)
+last-decides false true b c d t e = absurd (omega arith)
+last-decides false false true c d t e = absurd (omega arith)
+last-decides false false false true d t e = absurd (omega arith)
+last-decides false false false false true t e = absurd (omega arith)
+last-decides false false false false false t e = refl
 
 six-test : (t : Bool) → _≡_ {A = ℕ} (cond t 6 0) 6 ↔ (t ≡ true)
 six-test true = (λ e. refl, λ e. refl)
 six-test false = (λ e. absurd (omega arith), λ e. absurd (let z : _≡_ {A = ℕ} 0 1 = cc in omega arith))
 
-module _ (s : Shelf) (n : PageName) (passed : firstOf (above s n) ≡ 0) (g : ℕ) (e : placeOf (s .rows) n ≡ found g) where
-  six-number : refuses s (Pin n) ≡ cond (noBuffer s (found g)) 6 0
+module _ (s : Shelf) (o : ℕ) (n : PageName) (passed : firstOf (above s o n) ≡ 0) (g : ℕ) (e : placeOf (s .rows) n ≡ found g) where
+  six-number : refuses s (Pin o n) ≡ cond (noBuffer s (found g)) 6 0
   unfolding refuses places above pageFirst
   six-number =
-      last-decides _ _ _ _ _ passed ∙ ap (λ (f : Found). cond (noBuffer s f) 6 0) e
+      last-decides _ _ _ _ _ _ passed ∙ ap (λ (f : Found). cond (noBuffer s f) 6 0) e
 
   six-pages : (noBuffer s (found g) ≡ true) ↔ ((pinnedPages s ≡ s .buffers) × (hasPins s g ≡ false))
   unfolding noBuffer
@@ -52,10 +53,10 @@ module _ (s : Shelf) (n : PageName) (passed : firstOf (above s n) ≡ 0) (g : �
     λ p. and-true (ap not (p .1)) (eq-eqb (pinnedPages s) (s .buffers) (p .0)),
   )
 
-pub six-of : (s : Shelf) (c : Call) {k : ℕ} → k ≡ refuses s c → (n : PageName) → c ≡ Pin n → firstOf (above s n) ≡ 0 → (g : ℕ)
+pub six-of : (s : Shelf) (c : Call) {k : ℕ} → k ≡ refuses s c → (o : ℕ) (n : PageName) → c ≡ Pin o n → firstOf (above s o n) ≡ 0 → (g : ℕ)
     → placeOf (s .rows) n ≡ found g → (k ≡ 6) ↔ ((pinnedPages s ≡ s .buffers) × (hasPins s g ≡ false))
-six-of s c number n q passed g e =
-    let is = number ∙ ap (refuses s) q ∙ six-number s n passed g e in
+six-of s c number o n q passed g e =
+    let is = number ∙ ap (refuses s) q ∙ six-number s o n passed g e in
     let t = six-test (noBuffer s (found g)) in
-    let w = six-pages s n passed g e in
+    let w = six-pages s o n passed g e in
     (λ z. w .0 (t .0 (sym is ∙ z)), λ p. is ∙ t .1 (w .1 p))

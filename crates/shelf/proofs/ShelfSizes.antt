@@ -4,9 +4,23 @@ use mathlib.Core.Path.{_≡_, refl}
 use mathlib.Core.List.{List}
 use Rattle.laws.specs.First.{Found, found, missing}
 use Rattle.bufmodel.specs.Rows.{rowOf, storeBlocks, placeOf}
-use Rattle.bufmodel.specs.Step.{Call, Pin, Unpin, Read, Write, Flush, Checkpoint, Peek, Extend, Drop, LogInserted, LogFlushed}
+use Rattle.bufmodel.specs.Step.{
+  Call,
+  Pin,
+  Unpin,
+  Read,
+  Write,
+  Flush,
+  GiveBack,
+  Checkpoint,
+  Peek,
+  Extend,
+  Drop,
+  LogInserted,
+  LogFlushed,
+}
 use Rattle.bufmodel.proofs.RowsLaws.{store-set}
-use Rattle.shelf.specs.Shelf.{Shelf, pinnedAt, unpinnedAt, writtenAt, extendedAt, droppedAt, shelfAfter}
+use Rattle.shelf.specs.Shelf.{Shelf, pinnedAt, unpinnedAt, givenBack, writtenAt, extendedAt, droppedAt, shelfAfter}
 
 pub record SameSizes (s t : Shelf) : Type 0 where
   pub buffers : t .buffers ≡ s .buffers
@@ -17,15 +31,19 @@ same-sizes : {s : Shelf} → SameSizes s s
 same-sizes = record { buffers = refl; size = refl; blocks = refl }
 
 module _ (s : Shelf) where
-  pinned-sizes : (b : ℕ) (g : Found) → SameSizes s (pinnedAt s b g)
+  pinned-sizes : (h b : ℕ) (g : Found) → SameSizes s (pinnedAt s h b g)
   unfolding pinnedAt
-  pinned-sizes b (found g) = record { buffers = refl; size = refl; blocks = refl }
-  pinned-sizes b missing = same-sizes
+  pinned-sizes h b (found g) = record { buffers = refl; size = refl; blocks = refl }
+  pinned-sizes h b missing = same-sizes
 
-  unpinned-sizes : (b : ℕ) (g : Found) → SameSizes s (unpinnedAt s b g)
+  unpinned-sizes : (h b : ℕ) (g : Found) → SameSizes s (unpinnedAt s h b g)
   unfolding unpinnedAt
-  unpinned-sizes b (found g) = record { buffers = refl; size = refl; blocks = refl }
-  unpinned-sizes b missing = same-sizes
+  unpinned-sizes h b (found g) = record { buffers = refl; size = refl; blocks = refl }
+  unpinned-sizes h b missing = same-sizes
+
+  given-sizes : (h : ℕ) → SameSizes s (givenBack s h)
+  unfolding givenBack
+  given-sizes h = record { buffers = refl; size = refl; blocks = refl }
 
   written-sizes : (from : ℕ) (bytes : List ℕ) (at : ℕ) (g : Found) → SameSizes s (writtenAt s from bytes at g)
   unfolding writtenAt
@@ -44,11 +62,12 @@ module _ (s : Shelf) where
 
   pub sizes-after : (c : Call) (b : ℕ) → SameSizes s (shelfAfter s c b)
   unfolding shelfAfter
-  sizes-after (Pin n) b = pinned-sizes b (placeOf (s .rows) n)
-  sizes-after (Unpin i) b = unpinned-sizes i (s .holds i)
-  sizes-after (Read i from out) b = same-sizes
-  sizes-after (Write i from bytes at) b = written-sizes from bytes at (s .holds i)
-  sizes-after (Flush i) b = same-sizes
+  sizes-after (Pin h n) b = pinned-sizes h b (placeOf (s .rows) n)
+  sizes-after (Unpin h i) b = unpinned-sizes h i (s .holds i)
+  sizes-after (Read h i from out) b = same-sizes
+  sizes-after (Write h i from bytes at) b = written-sizes from bytes at (s .holds i)
+  sizes-after (Flush h i) b = same-sizes
+  sizes-after (GiveBack h) b = given-sizes h
   sizes-after Checkpoint b = same-sizes
   sizes-after (Peek n) b = same-sizes
   sizes-after (Extend f) b = extended-sizes (rowOf (s .rows) f)

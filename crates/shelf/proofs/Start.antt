@@ -54,7 +54,7 @@ module _ (m : Memory) (p at cap : ℕ) where
         good = fresh-good m p at cap s c;
         words = λ i l e. never (fresh-empty m p at cap i) e;
         same = λ i g x. never (fresh-empty m p at cap i) (x .full);
-        unpinned = λ g x. refl;
+        unpinned = λ g x h l. refl;
         unmarked = λ g x. refl;
         stored = λ n g e x. refl;
         passed = bad-first (m .rows) (s .rows) p (m .store);

@@ -93,7 +93,7 @@ module _ (m : Memory) (v : View) (k : Kept m v) (r : BackUpTo m v (buffers m)) w
             kept-alike now (viewWith v (r .marks) (r .puts)) _
             (record {
               bytes = λ h. refl;
-              counts = λ h. refl;
+              counts = λ o h. refl;
               holds = λ b. refl;
               bads = λ h. refl;
               marks = λ h. not-and-self (v .dirty h) ∙ sym (none-dirty h);

@@ -41,7 +41,7 @@ module _ (m : Memory) (v : View) (f : FileName) (r : ℕ) (e : rowOf (m .rows) f
   view-dropped =
       record {
         bytes = λ g. ap (λ (s : Shelf). s .bytes g) (shelf-dropped _);
-        counts = λ g. ap (λ (s : Shelf). s .counts g) (shelf-dropped _);
+        counts = λ o g. ap (λ (s : Shelf). s .counts o g) (shelf-dropped _);
         holds = λ b. ap (λ (s : Shelf). s .holds b) (shelf-dropped _);
         bads = λ g. ap (λ (s : Shelf). s .bad g) (shelf-dropped _);
         marks = λ g. ap (λ (x : Found). not (inRow (m .rows) x g) && v .dirty g) e;
@@ -91,7 +91,7 @@ module _ (m : Memory) (v : View) (k : Kept m v) (f : FileName) where
 
     drop-accepted : Accepted m v (Drop f) zeros [] (rowsInto (setBlocks (m .rows) r 0) (releaseUpTo f (buffers m) m))
     drop-accepted =
-        let x = released-all m f (k .good) in
+        let x = released-all m f none (k .good) in
         subst (λ (d : Memory). Accepted m v (Drop f) zeros [] (rowsInto (setBlocks (m .rows) r 0) d)) (sym (x .rest)) (drop-onto _ x)
 
   drop-done : (r : Found) → rowOf (m .rows) f ≡ r → refuses (shelfOf m v) (Drop f) ≡ 0

@@ -61,7 +61,7 @@ module _ (m : Memory) (v : View) (k : Kept m v) (f : FileName) (r : ℕ) (e : ro
   alike-then =
       record {
         bytes = λ g. ap (λ (s : Shelf). s .bytes g) shelf-then;
-        counts = λ g. ap (λ (s : Shelf). s .counts g) shelf-then;
+        counts = λ o g. ap (λ (s : Shelf). s .counts o g) shelf-then;
         holds = λ b. ap (λ (s : Shelf). s .holds b) shelf-then;
         bads = λ g. ap (λ (s : Shelf). s .bad g) shelf-then;
         marks = λ g. refl;

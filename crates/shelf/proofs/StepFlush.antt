@@ -32,7 +32,7 @@ use Rattle.shelf.proofs.BackKept.{backOf, back-has, back-own, back-dirt
 use Rattle.shelf.proofs.BackKept.{place-below, back-long, back-other, viewBack, kept-backOf}
 use Rattle.shelf.proofs.BufferPlaces.{number-same, number-neither, number-page}
 
-module _ (m : Memory) (v : View) (k : Kept m v) (i g : ℕ) (x : Has m i g) (held : v .holds i ≡ found g) where
+module _ (m : Memory) (v : View) (k : Kept m v) (o i g : ℕ) (x : Has m i g) (held : v .holds i ≡ found g) where
   abbrev back : ℕ → Bool
   back h = isPlace (v .holds i) h && v .dirty h
 
@@ -45,13 +45,13 @@ module _ (m : Memory) (v : View) (k : Kept m v) (i g : ℕ) (x : Has m i g) (hel
       (λ ne. rw (isPlace-other g h ne))
       (eq-or-ne h g))
 
-  module _ (number : refuses (shelfOf m v) (Flush i) ≡ 0) (count : ℕ) where
+  module _ (number : refuses (shelfOf m v) (Flush o i) ≡ 0) (count : ℕ) where
     -- ---- a page that is not dirty
     module _ (d : dirty (wordOf m i) ≡ false) where
       back-none : (h : ℕ) → back h ≡ false
       back-none h = back-is h ∙ rw d (and-false (isPlace (found g) h))
 
-      clean-accepted : Accepted m v (Flush i) (one count) [] m
+      clean-accepted : Accepted m v (Flush o i) (one count) [] m
       unfolding acceptedBy shelfAfter dirtyAfter dirtiedBy backBy newBy putBy lastAfter flushedAfter saidFlushed
       clean-accepted =
           record {
@@ -68,7 +68,7 @@ module _ (m : Memory) (v : View) (k : Kept m v) (i g : ℕ) (x : Has m i g) (hel
                 kept-alike m v _
                 (record {
                   bytes = λ h. refl;
-                  counts = λ h. refl;
+                  counts = λ u h. refl;
                   holds = λ b. refl;
                   bads = λ h. refl;
                   marks = λ h. rw (back-none h);
@@ -99,7 +99,7 @@ module _ (m : Memory) (v : View) (k : Kept m v) (i g : ℕ) (x : Has m i g) (hel
           (let same = kept-backOf m v k i g x d .same i g (back-has m v k i g x i g x) in
           same .clean (back-own m v k i g x) ∙ sym (same .bytes))
 
-      dirty-accepted : Accepted m v (Flush i) (one count) [] (backOf m i g)
+      dirty-accepted : Accepted m v (Flush o i) (one count) [] (backOf m i g)
       unfolding acceptedBy shelfAfter dirtyAfter dirtiedBy backBy newBy putBy lastAfter flushedAfter saidFlushed
       dirty-accepted =
           record {
@@ -116,7 +116,7 @@ module _ (m : Memory) (v : View) (k : Kept m v) (i g : ℕ) (x : Has m i g) (hel
                 kept-alike (backOf m i g) (viewBack v g) _
                 (record {
                   bytes = λ h. refl;
-                  counts = λ h. refl;
+                  counts = λ u h. refl;
                   holds = λ b. refl;
                   bads = λ h. refl;
                   marks = λ h. rw (back-one h);
@@ -130,23 +130,23 @@ module _ (m : Memory) (v : View) (k : Kept m v) (i g : ℕ) (x : Has m i g) (hel
             settled = λ q. absurd (not-checkpoint refl q);
           }
 
-    flush-ended : Ended m v (Flush i) (done (one count) [] (writeBack m i))
+    flush-ended : Ended m v (Flush o i) (done (one count) [] (writeBack m i))
     flush-ended =
         ⊎-elim
         (λ d.
-        subst (λ (o : Memory). Ended m v (Flush i) (done (one count) [] o)) (sym (back-dirty m i g (x .place) d))
-        (accepted-ended m v (Flush i) (one count) [] _ (dirty-accepted d)))
+        subst (λ (y : Memory). Ended m v (Flush o i) (done (one count) [] y)) (sym (back-dirty m i g (x .place) d))
+        (accepted-ended m v (Flush o i) (one count) [] _ (dirty-accepted d)))
         (λ d.
-        subst (λ (o : Memory). Ended m v (Flush i) (done (one count) [] o)) (sym (back-clean m i d))
-        (accepted-ended m v (Flush i) (one count) [] _ (clean-accepted d)))
+        subst (λ (y : Memory). Ended m v (Flush o i) (done (one count) [] y)) (sym (back-clean m i d))
+        (accepted-ended m v (Flush o i) (one count) [] _ (clean-accepted d)))
         (true-or-false (dirty (wordOf m i)))
 
-pub flush-step : (m : Memory) (v : View) → Kept m v → (i : ℕ) → Ended m v (Flush i) (step m (Flush i))
+pub flush-step : (m : Memory) (v : View) → Kept m v → (o i : ℕ) → Ended m v (Flush o i) (step m (Flush o i))
 unfolding step flush places
-flush-step m v k i =
-    let number = number-same m v k i [] [] (λ h e. refl) ∙ sym (refuses-is (shelfOf m v) (Flush i)) in
-    call-step m v (Flush i) k (bufferPlaces m i []) (done (one (ind (dirty (wordOf m i)))) [] (writeBack m i)) refl
-    number (number-neither m i [] neither-none)
+flush-step m v k o i =
+    let number = number-same m v k o i [] [] (λ h e. refl) ∙ sym (refuses-is (shelfOf m v) (Flush o i)) in
+    call-step m v (Flush o i) k (bufferPlaces m o i []) (done (one (ind (dirty (wordOf m i)))) [] (writeBack m i)) refl
+    number (number-neither m o i [] neither-none)
     (λ e.
-    let p = number-page m v k i [] e in
-    flush-ended m v k i (p .page) (p .has) (p .holds) (sym number ∙ e) (ind (dirty (wordOf m i))))
+    let p = number-page m v k o i [] e in
+    flush-ended m v k o i (p .page) (p .has) (p .holds) (sym number ∙ e) (ind (dirty (wordOf m i))))

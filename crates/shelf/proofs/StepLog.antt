@@ -34,7 +34,7 @@ module _ (m : Memory) (v : View) (k : Kept m v) (p : ℕ) where
         good =
             like-good m (k .good) (m .control .hand) inserted flushed (m .states) (m .pool) (m .store) (g .hand) h refl refl refl
             (λ i b. refl)
-            (g .words) (λ i b d. omega (arith, g .low i b d));
+            (g .words) (λ i b d. omega (arith, g .low i b d)) (λ i b. refl);
         words = k .words;
         same = λ i q x.
             let s = k .same i q (record { below = x .below; full = x .full; place = x .place }) in

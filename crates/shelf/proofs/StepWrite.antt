@@ -60,29 +60,29 @@ module _ (m : Memory) (from : ℕ) (bytes : List ℕ) (at : ℕ) where
       let n = or-neither (ltb (size m) (from + length bytes)) (ltb from 8) (a .0) in
       record { inside = ltb-false _ _ (n .0); behind = ltb-false _ _ (n .1); low = ltb-false _ _ (c .0) }
 
-module _ (m : Memory) (v : View) (k : Kept m v) (i from : ℕ) (bytes : List ℕ) (at : ℕ) where
+module _ (m : Memory) (v : View) (k : Kept m v) (o i from : ℕ) (bytes : List ℕ) (at : ℕ) where
   -- the page in the pool is the shelf's, so their positions are one
   low-same : PinnedPage m v i → ltb at (position (pageOf m i)) ≡ tooLow (shelfOf m v) at (v .holds i)
   unfolding tooLow
   low-same p =
       ap (ltb at) (sym (same-position (p .same))) ∙ ap (λ (f : Found). tooLow (shelfOf m v) at f) (sym (p .holds))
 
-  write-number : refusalOf (writePlaces m i from bytes at) ≡ refuses (shelfOf m v) (Write i from bytes at)
+  write-number : refusalOf (writePlaces m o i from bytes at) ≡ refuses (shelfOf m v) (Write o i from bytes at)
   unfolding writePlaces places
   write-number =
-      number-same m v k i _ _ (λ h e. later-same m from bytes at (low-same (pinned-page m v k i h e))) ∙ sym (refuses-is _ _)
+      number-same m v k o i _ _ (λ h e. later-same m from bytes at (low-same (pinned-page m v k i h e))) ∙ sym (refuses-is _ _)
 
-  write-neither : Neither (refusalOf (writePlaces m i from bytes at))
+  write-neither : Neither (refusalOf (writePlaces m o i from bytes at))
   unfolding writePlaces
-  write-neither = number-neither m i _ (later-neither m from bytes at _)
+  write-neither = number-neither m o i _ (later-neither m from bytes at _)
 
   -- an accepted write is to a pinned buffer's page, and fits there
-  write-passed : refusalOf (writePlaces m i from bytes at) ≡ 0 → PinnedPage m v i × WriteFits m from bytes at
+  write-passed : refusalOf (writePlaces m o i from bytes at) ≡ 0 → PinnedPage m v i × WriteFits m from bytes at
   unfolding writePlaces
-  write-passed e = (number-page m v k i _ e, later-fits m from bytes at _ (number-passed m i _ e .2))
+  write-passed e = (number-page m v k o i _ e, later-fits m from bytes at _ (number-passed m o i _ e .2))
 
-  write-accepted : at < 2 ^ 64 → refusalOf (writePlaces m i from bytes at) ≡ 0
-      → Accepted m v (Write i from bytes at) zeros bytes (writeTo m i from bytes at)
+  write-accepted : at < 2 ^ 64 → refusalOf (writePlaces m o i from bytes at) ≡ 0
+      → Accepted m v (Write o i from bytes at) zeros bytes (writeTo m i from bytes at)
   unfolding writeTo acceptedBy shelfAfter writtenAt dirtyAfter dirtiedBy backBy newBy putBy lastAfter flushedAfter saidFlushed
   write-accepted short e =
       let p = write-passed e in
@@ -103,11 +103,11 @@ module _ (m : Memory) (v : View) (k : Kept m v) (i from : ℕ) (bytes : List ℕ
         settled = λ q. absurd (not-checkpoint refl q);
       }
 
-pub write-step : (m : Memory) (v : View) → Kept m v → (i from : ℕ) (bytes : List ℕ) (at : ℕ) → at < 2 ^ 64
-    → Ended m v (Write i from bytes at) (step m (Write i from bytes at))
+pub write-step : (m : Memory) (v : View) → Kept m v → (o i from : ℕ) (bytes : List ℕ) (at : ℕ) → at < 2 ^ 64
+    → Ended m v (Write o i from bytes at) (step m (Write o i from bytes at))
 unfolding step write
-write-step m v k i from bytes at short =
-    call-step m v (Write i from bytes at) k (writePlaces m i from bytes at) (done zeros bytes (writeTo m i from bytes at)) refl
-    (write-number m v k i from bytes at) (write-neither m v k i from bytes at)
+write-step m v k o i from bytes at short =
+    call-step m v (Write o i from bytes at) k (writePlaces m o i from bytes at) (done zeros bytes (writeTo m i from bytes at)) refl
+    (write-number m v k o i from bytes at) (write-neither m v k o i from bytes at)
     (λ e.
-    accepted-ended m v (Write i from bytes at) zeros bytes _ (write-accepted m v k i from bytes at short e))
+    accepted-ended m v (Write o i from bytes at) zeros bytes _ (write-accepted m v k o i from bytes at short e))

@@ -47,7 +47,7 @@ module _ (m : Memory) (v : View) (k : Kept m v) (s : Swept) (sweeps : Sweeps (bu
       let b = k .good .books in
       like-good m (k .good) (s .hand) (m .control .inserted) (m .control .flushed) (s .words) (m .pool) (m .store)
       (swept-from .hand-lt) (b .log) (swept-from .same-length) refl refl swept-empty (λ i l. less-sound (less i) (k .words i l))
-      (λ i l d. b .low i l (sym (less-dirty (less i)) ∙ d))
+      (λ i l d. b .low i l (sym (less-dirty (less i)) ∙ d)) (λ i l. less i .same-pins)
 
   -- what the ledger says of a page
   swept-same : (i g : ℕ) → Has m i g → Same (sweptIn m s) v i g
@@ -55,7 +55,7 @@ module _ (m : Memory) (v : View) (k : Kept m v) (s : Swept) (sweeps : Sweeps (bu
       let q = k .same i g h in
       record {
         bytes = q .bytes;
-        counts = q .counts ∙ sym (less i .same-pins);
+        counts = q .counts;
         marked = q .marked ∙ sym (less-dirty (less i));
         last = q .last;
         clean = λ d. q .clean (sym (less-dirty (less i)) ∙ d);

@@ -53,7 +53,7 @@ module _ (m : Memory) (v : View) (k : Kept m v) (w h : ℕ) (own : Has m w h) (f
     alike =
         record {
           bytes = λ g. refl;
-          counts = λ g. refl;
+          counts = λ o g. refl;
           holds = λ b. refl;
           bads = λ g. refl;
           marks = λ g. ap (λ (f : Found). not (isPlace f g) && v .dirty g) last;

@@ -47,7 +47,7 @@ module _ (m : Memory) (v : View) (k : Kept m v) (i g : ℕ) (x : Has m i g) wher
       let p = k .good .sizes .pool in
       let w = make-dirty (k .words i (x .below) (x .full)) in
       let own = block-put-same (size m) (buffers m) page (m .pool) p e i (x .below) in
-      turn-kept m v k i g x (m .control .flushed) (makeDirty (wordOf m i)) (putBlock (size m) i page (m .pool)) (m .store) _
+      turn-kept m v k i g x (m .control .flushed) (makeDirty (wordOf m i)) (putBlock (size m) i page (m .pool)) (m .store) (m .counts) _
       (record {
         held = w .held;
         log = b .log;
@@ -55,18 +55,21 @@ module _ (m : Memory) (v : View) (k : Kept m v) (i g : ℕ) (x : Has m i g) wher
         pages = λ j l ne. block-put-other (size m) (buffers m) page (m .pool) p e i (x .below) j ne;
         sizeStore = refl;
         blocks = λ h l ne. refl;
+        sizeCounts = refl;
+        rows = λ j ne h l. refl;
+        holders = w .pins ∙ b .counts i (x .below);
         low = λ d. omega (arith, ap position own);
         clean = λ d. never (w .dirty) d;
         sum = block-passes m v k i g x;
         bads = λ h. refl;
         bytes = ap bare (with-same g shelf (v .bytes)) ∙ alike ∙ ap bare (sym own);
-        counts = s .counts ∙ sym (w .pins);
+        counts = s .counts;
         marked = rw (isPlace-self g) (sym (w .dirty));
         holds = k .holds i (x .below) ∙ rw (x .place, w .pins);
         last = s .last;
         elsewhere = record {
           bytes = with-other g shelf (v .bytes);
-          counts = λ h ne. refl;
+          counts = λ o h ne. refl;
           marks = λ h ne. rw (isPlace-other g h ne);
           holds = λ j ne. refl;
           last = λ j ne. refl;
