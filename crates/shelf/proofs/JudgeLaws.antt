@@ -21,7 +21,21 @@ use Rattle.bufmodel.specs.Sizes.{sizedFor}
 use Rattle.bufmodel.specs.Books.{isFound}
 use Rattle.bufmodel.specs.Outcome.{Outcome, one, two}
 use Rattle.bufmodel.specs.Calls.{part}
-use Rattle.bufmodel.specs.Step.{Call, Pin, Unpin, Read, Write, Flush, Checkpoint, Peek, Extend, Drop, LogInserted, LogFlushed}
+use Rattle.bufmodel.specs.Step.{
+  Call,
+  Pin,
+  Unpin,
+  Read,
+  Write,
+  Flush,
+  GiveBack,
+  Checkpoint,
+  Peek,
+  Extend,
+  Drop,
+  LogInserted,
+  LogFlushed,
+}
 use Rattle.bufmodel.specs.Lent.{Lent, Called, answerWords, opened}
 use Rattle.bufmodel.proofs.SizesLaws.{sizes-say}
 use Rattle.bufmodel.proofs.BooksLaws.{books-say}
@@ -61,6 +75,8 @@ use Rattle.shelf.specs.Judge.{
   othersTest,
   storedTest,
   heldTest,
+  holdersAt,
+  holdersTest,
   sumsTest,
   agreesTests,
   leftTests,
@@ -89,10 +105,12 @@ use Rattle.shelf.proofs.TestLaws.{
   starts-same,
   bare-starts,
   bare-start-same,
+  few-holders,
   words-pass,
   names-pass,
   links-pass,
   chains-pass,
+  counts-pass,
 }
 use Rattle.shelf.proofs.JudgePublishedLaws.{said-pass, leaves-after, clock-pass, name-pass, page-pass}
 
@@ -104,10 +122,12 @@ fresh-pass m k p at cap h =
     (and-true
     (and-true
     (and-true
+    (and-true
     (and-true (and-true (eq-eqb _ _ (h .many)) (eq-eqb _ _ (h .wide))) (sizes-say p (opened k) .shown (h .sizes))) (words-pass (h .alike)))
     (names-pass (h .alike)))
     (links-pass (h .alike)))
-    (chains-pass (h .alike))
+    (chains-pass (h .alike)))
+    (counts-pass (h .alike))
 
 -- the number that refuses
 number-pass : (m : Lent) (p k : ℕ) → ((k ≡ 1) × (Lends m p → ⊥)) ⊎ ((k ≡ 18) × Lends m p)
@@ -140,11 +160,12 @@ set-up-pass m p at cap r h =
 -- ---- Agrees
 answers-pass : (o : Outcome) (c : Call) → Answers o c → answersTest (o .answer) c ≡ true
 unfolding answersTest
-answers-pass o (Pin n) h = ap (λ (a : List ℕ). eqb (length a) answerWords) (h .4)
-answers-pass o (Unpin b) h = same-list h
-answers-pass o (Read b from out) h = same-list h
-answers-pass o (Write b from bytes at) h = same-list h
-answers-pass o (Flush b) h = ap (λ (a : List ℕ). sameList a (one (getD a 0 0))) (h .1) ∙ list-same (one (h .0))
+answers-pass o (Pin w n) h = ap (λ (a : List ℕ). eqb (length a) answerWords) (h .4)
+answers-pass o (Unpin w b) h = same-list h
+answers-pass o (Read w b from out) h = same-list h
+answers-pass o (Write w b from bytes at) h = same-list h
+answers-pass o (Flush w b) h = ap (λ (a : List ℕ). sameList a (one (getD a 0 0))) (h .1) ∙ list-same (one (h .0))
+answers-pass o (GiveBack w) h = same-list h
 answers-pass o Checkpoint h = ap (λ (a : List ℕ). sameList a (one (getD a 0 0))) (h .1) ∙ list-same (one (h .0))
 answers-pass o (Peek n) h = ap (λ (a : List ℕ). sameList a (two (getD a 0 0) (getD a 1 0))) (h .2) ∙ list-same (two (h .0) (h .1))
 answers-pass o (Extend f) h = ap (λ (a : List ℕ). sameList a (one (getD a 0 0))) (h .1) ∙ list-same (one (h .0))
@@ -164,12 +185,13 @@ module _ (s : Shelf) (o : Outcome) where
 
   shows-pass : (c : Call) → Shows s o c → showsTest s o c ≡ true
   unfolding showsTest
-  shows-pass (Pin n) h = and-true (at-place (pinRuleTest s o) (h .1) (rule-pass (h .0) (h .2))) (same-list (h .3))
-  shows-pass (Unpin b) h = same-list h
-  shows-pass (Read b from out) h =
+  shows-pass (Pin w n) h = and-true (at-place (pinRuleTest s o) (h .1) (rule-pass (h .0) (h .2))) (same-list (h .3))
+  shows-pass (Unpin w b) h = same-list h
+  shows-pass (Read w b from out) h =
       at-place (λ g. sameList (bareFrom from (o .bytes)) (take (length out) (drop from (bare (s .bytes g))))) (h .1) (same-list (h .2))
-  shows-pass (Write b from bytes at) h = same-list h
-  shows-pass (Flush b) h = same-list h
+  shows-pass (Write w b from bytes at) h = same-list h
+  shows-pass (Flush w b) h = same-list h
+  shows-pass (GiveBack w) h = same-list h
   shows-pass Checkpoint h = same-list h
   shows-pass (Peek n) h =
       and-true
@@ -192,14 +214,16 @@ module _ (s : Shelf) (o : Outcome) where
       both (says-eq _ _) (says-and (says-eq _ _) (says-as (not-true _) (ap not) (says-it (not (hasPins s g))))) (h g refl)
   six-at missing h = refl
 
-  six-pass : (c : Call) → ((n : PageName) → c ≡ Pin n → firstOf (above s n) ≡ 0 → (g : ℕ) → placeOf (s .rows) n ≡ found g → SixAt g)
+  six-pass : (c : Call)
+      → ((w : ℕ) (n : PageName) → c ≡ Pin w n → firstOf (above s w n) ≡ 0 → (g : ℕ) → placeOf (s .rows) n ≡ found g → SixAt g)
       → sixTest s o c ≡ true
   unfolding sixTest
-  six-pass (Pin n) h = then-true (eqb (firstOf (above s n)) 0) (λ t. six-at (placeOf (s .rows) n) (h n refl (eqb-true _ _ t)))
-  six-pass (Unpin b) h = refl
-  six-pass (Read b from out) h = refl
-  six-pass (Write b from bytes at) h = refl
-  six-pass (Flush b) h = refl
+  six-pass (Pin w n) h = then-true (eqb (firstOf (above s w n)) 0) (λ t. six-at (placeOf (s .rows) n) (h w n refl (eqb-true _ _ t)))
+  six-pass (Unpin w b) h = refl
+  six-pass (Read w b from out) h = refl
+  six-pass (Write w b from bytes at) h = refl
+  six-pass (Flush w b) h = refl
+  six-pass (GiveBack w) h = refl
   six-pass Checkpoint h = refl
   six-pass (Peek n) h = refl
   six-pass (Extend f) h = refl
@@ -217,11 +241,12 @@ module _ (s : Shelf) (o : Outcome) where
 
   settled-pass : (c : Call) → (c ≡ Checkpoint → AllSettled) → settledTest s o c ≡ true
   unfolding settledTest
-  settled-pass (Pin n) h = refl
-  settled-pass (Unpin b) h = refl
-  settled-pass (Read b from out) h = refl
-  settled-pass (Write b from bytes at) h = refl
-  settled-pass (Flush b) h = refl
+  settled-pass (Pin w n) h = refl
+  settled-pass (Unpin w b) h = refl
+  settled-pass (Read w b from out) h = refl
+  settled-pass (Write w b from bytes at) h = refl
+  settled-pass (Flush w b) h = refl
+  settled-pass (GiveBack w) h = refl
   settled-pass Checkpoint h = all-settled (h refl)
   settled-pass (Peek n) h = refl
   settled-pass (Extend f) h = refl
@@ -247,6 +272,12 @@ module _ {m : Memory} {l : Ledger} {c : Call} {o : Outcome} {l′ : Ledger} (a :
   held-pass =
       all-of _ _ (λ i k. else-true (eqb (wordOf (o .after) i) 0)
       (λ f. if-place _ _ (λ g e. bare-start-same _ _ _ _ (a .held i g k (eqb-false _ _ f) e))))
+
+  holders-pass : holdersTest m l c o l′ ≡ true
+  unfolding holdersTest holdersAt
+  holders-pass =
+      all-of _ _ (λ i k. else-true (eqb (wordOf (o .after) i) 0)
+      (λ f. if-place _ _ (λ g e. all-of _ _ (λ h q. eq-eqb _ _ (a .counts h i g (few-holders q) k (eqb-false _ _ f) e)))))
 
   sums-pass : sumsTest m l c o l′ ≡ true
   unfolding sumsTest
@@ -274,6 +305,7 @@ module _ {m : Memory} {l : Ledger} {c : Call} {o : Outcome} {l′ : Ledger} (a :
       & if-done (o .refusal) (λ z. settled-pass (l .shelf) o c (λ e. a .settled e z))
       & stored-pass
       & held-pass
+      & holders-pass
       & sums-pass
       & all
 

@@ -90,5 +90,7 @@ pub mod TestLaws
 pub mod JudgePublishedLaws
 pub mod JudgeLaws
 pub mod Computes
-pub mod ShutOut
+pub mod Trials
 pub mod ShutCaps
+pub mod ShutHolders
+pub mod ShutOut

@@ -19,11 +19,11 @@ use Rattle.bufmodel.proofs.BooksLaws.{books-say}
 use Rattle.shelf.specs.Published.{Demand2For}
 use Rattle.shelf.specs.Statement.{Pool, calling}
 use Rattle.shelf.specs.Guards.{Demand1For}
-use Rattle.shelf.specs.Trial.{size, log, cap, bench, sales, pin, slice, allBelow}
+use Rattle.shelf.specs.Trial.{size, log, cap, bench, sales, pinBy, pin, slice, allBelow}
 use Rattle.shelf.specs.Changes.{Change, ifAccepted, stepping, leaving, withControlWords, lends}
 use Rattle.shelf.specs.WrongCaps.{withCap}
 use Rattle.shelf.proofs.Computes.{computes}
-use Rattle.shelf.proofs.ShutOut.{below}
+use Rattle.shelf.proofs.Trials.{below}
 
 -- ---- calls that take another cap
 -- the right pool's calls over a memory with another cap word
@@ -41,8 +41,8 @@ greatest (w ∷ ws) = max (usage w) (greatest ws)
 abbrev pub raises : Pool
 raises = lends (λ m. capWord (max (greatest (m .states))) m)
 
--- a memory of one buffer with this cap: set up, and with a page pinned twice
-abbrev begun : Lent
+-- a memory of one buffer with this cap: set up, and with a page pinned by two holders
+abbrev pub begun : Lent
 begun = calling step .setsUp size log cap (bench 1) slice .lent
 
 abbrev capped : ℕ → Lent
@@ -51,16 +51,16 @@ capped k = capWord (λ w. k) begun
 abbrev usedTwice : ℕ → Lent
 usedTwice k =
     let once = calling step .calls (pin sales 0) begun [] slice .lent in
-    capWord (λ w. k) (calling step .calls (pin sales 0) once [] slice .lent)
+    capWord (λ w. k) (calling step .calls (pinBy 1 sales 0) once [] slice .lent)
 
 -- a checkpoint that is accepted over books that are not sound
-record Trusts (pool : Pool) (m : Lent) : Type 0 where
-  sized : sizedFor (opened m .control .size) (opened m) ≡ true
-  long : length (m .control) ≡ 6
-  unsound : sound (opened m) ≡ false
-  accepted : pool .calls Checkpoint m [] slice .result ≡ 0
+pub record Trusts (pool : Pool) (m : Lent) : Type 0 where
+  pub sized : sizedFor (opened m .control .size) (opened m) ≡ true
+  pub long : length (m .control) ≡ 6
+  pub unsound : sound (opened m) ≡ false
+  pub accepted : pool .calls Checkpoint m [] slice .result ≡ 0
 
-shut : (pool : Pool) (m : Lent) → Trusts pool m → Demand1For pool → ⊥
+pub shut : (pool : Pool) (m : Lent) → Trusts pool m → Demand1For pool → ⊥
 shut pool m t d =
     let h = d .calls Checkpoint m slice .books refl (sizes-say _ (opened m) .holds (t .sized), t .long)
     (λ b. never (books-say (opened m) .shown b) (t .unsound)) in

@@ -1,5 +1,5 @@
 -- Laws of the tests that the judge is made of: each passes where what it tests holds.
-use Prim.Native.Nat.{ℕ, zero, suc, _*_, min}
+use Prim.Native.Nat.{ℕ, zero, suc, _*_, _<_, min}
 use native.Mathlib.Omega.{arith}
 use mathlib.Core.Path.{_≡_, refl, sym, ap, _∙_}
 use mathlib.Core.Bool.{Bool, true, false, cond, Bool·beq}
@@ -36,10 +36,12 @@ use Rattle.shelf.specs.Tests.{
   sameLent,
   some,
   start,
+  few,
   wordsTest,
   namesTest,
   linksTest,
   chainsTest,
+  countsTest,
 }
 
 -- ---- a row of tests: each passes
@@ -123,6 +125,7 @@ lent-same m =
       list-same (m .rows),
       list-same (m .pool),
       list-same (m .store),
+      list-same (m .counts),
     )
 
 pub same-name : {a b : PageName} → a ≡ b → sameName a b ≡ true
@@ -157,6 +160,10 @@ pub bare-start-same : (p g : ℕ) (xs ys : List ℕ) → bare (block p g xs) ≡
 bare-start-same p g xs ys e =
     ap (λ (zs : List ℕ). sameList (bareFrom 0 zs) (bare (take some ys))) (start-is p g xs) ∙ bare-starts (block p g xs) ys e
 
+-- the first few are holders
+pub few-holders : {h : ℕ} → h < few → h < 64
+few-holders l = omega arith
+
 -- ---- Alike
 module _ {n b : ℕ} {k l : Marks} (a : Alike n b k l) where
   pub words-pass : wordsTest n b k l ≡ true
@@ -174,3 +181,7 @@ module _ {n b : ℕ} {k l : Marks} (a : Alike n b k l) where
   pub chains-pass : chainsTest n b k l ≡ true
   unfolding chainsTest
   chains-pass = and-true (all-of _ _ (λ i l. same-link (a .chains i l))) (all-of _ _ (λ j l. same-link (a .heads j l)))
+
+  pub counts-pass : countsTest n b k l ≡ true
+  unfolding countsTest
+  counts-pass = all-of _ _ (λ i l. all-of _ _ (λ h f. eq-eqb _ _ (a .counts i h l (few-holders f))))

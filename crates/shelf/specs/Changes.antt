@@ -1,38 +1,56 @@
 -- How wrong pools are made of the right one.
 use Prim.Native.Nat.{ℕ}
-use mathlib.Core.Bool.{Bool, cond}
+use mathlib.Core.Bool.{Bool, _&&_, cond}
 use mathlib.Core.List.{List}
 use lib.ListN.{getD, set}
 use lib.Dec.{eqb}
 use Rattle.buftag.specs.declared.name.PageName.{PageName}
 use Rattle.buftag.specs.Names.{noName}
 use Rattle.bufmodel.specs.Memory.{Memory, capOf, wordOf, withStates, withStore}
+use Rattle.bufmodel.specs.Counts.{countAt}
 use Rattle.bufmodel.specs.Sweep.{Swept}
 use Rattle.bufmodel.specs.Outcome.{Outcome}
 use Rattle.bufmodel.specs.Pin.{pinSwept}
-use Rattle.bufmodel.specs.Step.{Call, Pin, Unpin, Read, Write, Flush, Checkpoint, Peek, Extend, Drop, LogInserted, LogFlushed, step}
+use Rattle.bufmodel.specs.Step.{
+  Call,
+  Pin,
+  Unpin,
+  Read,
+  Write,
+  Flush,
+  GiveBack,
+  Checkpoint,
+  Peek,
+  Extend,
+  Drop,
+  LogInserted,
+  LogFlushed,
+  step,
+}
 use Rattle.bufmodel.specs.Lent.{Lent, Called, opened, closed}
 use Rattle.shelf.specs.Statement.{Pool, calling}
 
 -- ---- the right one, but for some of its calls
--- a call's kind, its first number (buffer, block or log position) and its page, where it has them
+-- a call's kind, its holder, its first number (buffer, block or log position) and its page, where it has them
 pub record Parts : Type 0 where
   pub kind : ℕ
+  pub holder : ℕ
   pub number : ℕ
   pub page : PageName
 
 abbrev pub parts : Call → Parts
-parts (Pin n) = record { kind = 1; number = n .block .0; page = n }
-parts (Unpin b) = record { kind = 2; number = b; page = noName }
-parts (Read b from out) = record { kind = 3; number = b; page = noName }
-parts (Write b from bytes at) = record { kind = 4; number = b; page = noName }
-parts (Flush b) = record { kind = 5; number = b; page = noName }
-parts Checkpoint = record { kind = 6; number = 0; page = noName }
-parts (Peek n) = record { kind = 7; number = n .block .0; page = n }
-parts (Extend f) = record { kind = 8; number = 0; page = noName }
-parts (Drop f) = record { kind = 9; number = 0; page = noName }
-parts (LogInserted p) = record { kind = 10; number = p; page = noName }
-parts (LogFlushed p) = record { kind = 11; number = p; page = noName }
+parts (Pin h n) = record { kind = 1; holder = h; number = n .block .0; page = n }
+parts (Unpin h b) = record { kind = 2; holder = h; number = b; page = noName }
+parts (Read h b from out) = record { kind = 3; holder = h; number = b; page = noName }
+parts (Write h b from bytes at) = record { kind = 4; holder = h; number = b; page = noName }
+parts (Flush h b) = record { kind = 5; holder = h; number = b; page = noName }
+parts Checkpoint = record { kind = 6; holder = 0; number = 0; page = noName }
+parts (Peek n) = record { kind = 7; holder = 0; number = n .block .0; page = n }
+parts (Extend f) = record { kind = 8; holder = 0; number = 0; page = noName }
+parts (Drop f) = record { kind = 9; holder = 0; number = 0; page = noName }
+parts (LogInserted p) = record { kind = 10; holder = 0; number = p; page = noName }
+parts (LogFlushed p) = record { kind = 11; holder = 0; number = p; page = noName }
+parts (GiveBack h) = record { kind = 12; holder = h; number = 0; page = noName }
 
 -- another outcome, made of the memory before, the call's parts and the right outcome
 abbrev pub Change : Type 0
@@ -87,6 +105,9 @@ logInserts = otherwise (λ c. eqb (c .kind) 10)
 abbrev pub logFlushes : Change → Pool
 logFlushes = otherwise (λ c. eqb (c .kind) 11)
 
+abbrev pub givesBack : Change → Pool
+givesBack = otherwise (λ c. eqb (c .kind) 12)
+
 -- an outcome with another answer, with one word of the answer changed, with other bytes in the caller's slice, with a changed memory
 abbrev pub answering : List ℕ → Outcome → Outcome
 answering a o = record { refusal = o .refusal; answer = a; bytes = o .bytes; after = o .after }
@@ -108,17 +129,21 @@ unwritten m o = leaving (withStore (m .store)) o
 abbrev pub said : Outcome → ℕ → ℕ
 said o i = getD (o .answer) i 0
 
--- another word, of the cap and the former word, for a page that is pinned again; another sweep
+-- another word, of the cap and the former word, for a held page that a holder pins first; another sweep
 abbrev pub pinsAgain : (ℕ → ℕ → ℕ) → Pool
 pinsAgain word =
     pins
     (λ m c o.
     let b = said o 0 in
     let o′ = leaving (withStates (set (m .states) b (word (capOf m) (wordOf m b)))) o in
-    cond (eqb (said o 1) 1) o′ o)
+    cond (eqb (said o 1) 1 && eqb (countAt (m .counts) b (c .holder)) 0) o′ o)
 
 abbrev pub sweeps : (ℕ → List ℕ → ℕ → Swept) → Pool
-sweeps by = pins (λ m c o. let o′ = pinSwept m (c .page) (by (capOf m) (m .states) (m .control .hand)) in cond (eqb (said o 3) 0) o o′)
+sweeps by =
+    pins
+    (λ m c o.
+    let o′ = pinSwept m (c .holder) (c .page) (by (capOf m) (m .states) (m .control .hand)) in
+    cond (eqb (said o 3) 0) o o′)
 
 -- ---- on the lent memory
 abbrev pub lending : Lent → Called → Called
@@ -136,6 +161,7 @@ withControlWords x m =
       chain = m .chain;
       rows = m .rows;
       store = m .store;
+      counts = m .counts;
     }
 
 -- calls that change what they find and what they leave; that leave another memory, accepted or refused

@@ -16,7 +16,21 @@ use Rattle.bufmodel.specs.Sizes.{sizedFor}
 use Rattle.bufmodel.specs.Books.{isFound, sound}
 use Rattle.bufmodel.specs.Outcome.{Outcome, zeros, one, two}
 use Rattle.bufmodel.specs.Calls.{part}
-use Rattle.bufmodel.specs.Step.{Call, Pin, Unpin, Read, Write, Flush, Checkpoint, Peek, Extend, Drop, LogInserted, LogFlushed}
+use Rattle.bufmodel.specs.Step.{
+  Call,
+  Pin,
+  Unpin,
+  Read,
+  Write,
+  Flush,
+  GiveBack,
+  Checkpoint,
+  Peek,
+  Extend,
+  Drop,
+  LogInserted,
+  LogFlushed,
+}
 use Rattle.bufmodel.specs.Lent.{Lent, Called, answerWords, opened}
 use Rattle.shelf.specs.Sums.{fails}
 use Rattle.shelf.specs.Shelf.{Shelf, firstOf, hasPins, pinnedPages, above, refuses}
@@ -48,6 +62,7 @@ use Rattle.shelf.specs.Tests.{
   Settled,
   Stored,
   Held,
+  Holders,
   Same,
   Control,
   Sizes,
@@ -65,10 +80,12 @@ use Rattle.shelf.specs.Tests.{
   sameLent,
   some,
   start,
+  few,
   wordsTest,
   namesTest,
   linksTest,
   chainsTest,
+  countsTest,
 }
 use Rattle.shelf.specs.JudgePublished.{marksAfter, pagesAfter, blocksAfter, saidTests, clockTests, nameTests, pageTests}
 
@@ -82,6 +99,7 @@ freshTest m p k =
     && namesTest n b now (freshMarks n)
     && linksTest n b now (freshMarks n)
     && chainsTest n b now (freshMarks n)
+    && countsTest n b now (freshMarks n)
 
 unfoldable pub setUpTests : Lent → ℕ → ℕ → ℕ → Called → List Test
 setUpTests m p at cap r =
@@ -100,11 +118,12 @@ setUpTests m p at cap r =
 
 -- ---- Agrees
 unfoldable pub answersTest : List ℕ → Call → Bool
-answersTest a (Pin n) = eqb (length a) answerWords
-answersTest a (Unpin b) = sameList a zeros
-answersTest a (Read b from out) = sameList a zeros
-answersTest a (Write b from bytes at) = sameList a zeros
-answersTest a (Flush b) = sameList a (one (getD a 0 0))
+answersTest a (Pin h n) = eqb (length a) answerWords
+answersTest a (Unpin h b) = sameList a zeros
+answersTest a (Read h b from out) = sameList a zeros
+answersTest a (Write h b from bytes at) = sameList a zeros
+answersTest a (Flush h b) = sameList a (one (getD a 0 0))
+answersTest a (GiveBack h) = sameList a zeros
 answersTest a Checkpoint = sameList a (one (getD a 0 0))
 answersTest a (Peek n) = sameList a (two (getD a 0 0) (getD a 1 0))
 answersTest a (Extend f) = sameList a (one (getD a 0 0))
@@ -119,12 +138,13 @@ module _ (s : Shelf) (o : Outcome) where
       ltb b (s .buffers) && cond (hasPins s g) (isPlace (s .holds b) g) (not (isFound (s .holds b)))
 
   unfoldable pub showsTest : Call → Bool
-  showsTest (Pin n) = atPlace (placeOf (s .rows) n) pinRuleTest && sameList (o .bytes) []
-  showsTest (Unpin b) = sameList (o .bytes) []
-  showsTest (Read b from out) =
+  showsTest (Pin h n) = atPlace (placeOf (s .rows) n) pinRuleTest && sameList (o .bytes) []
+  showsTest (Unpin h b) = sameList (o .bytes) []
+  showsTest (Read h b from out) =
       atPlace (s .holds b) (λ g. sameList (bareFrom from (o .bytes)) (take (length out) (drop from (bare (s .bytes g)))))
-  showsTest (Write b from bytes at) = sameList (o .bytes) bytes
-  showsTest (Flush b) = sameList (o .bytes) []
+  showsTest (Write h b from bytes at) = sameList (o .bytes) bytes
+  showsTest (Flush h b) = sameList (o .bytes) []
+  showsTest (GiveBack h) = sameList (o .bytes) []
   showsTest Checkpoint = sameList (o .bytes) []
   showsTest (Peek n) =
       atPlace (placeOf (s .rows) n) (λ g. sameList (bare (take some (part o))) (bare (take some (s .bytes g)))) && sameList (o .bytes) []
@@ -140,11 +160,12 @@ module _ (s : Shelf) (o : Outcome) where
   sixAt missing = true
 
   unfoldable pub sixTest : Call → Bool
-  sixTest (Pin n) = cond (eqb (firstOf (above s n)) 0) (sixAt (placeOf (s .rows) n)) true
-  sixTest (Unpin b) = true
-  sixTest (Read b from out) = true
-  sixTest (Write b from bytes at) = true
-  sixTest (Flush b) = true
+  sixTest (Pin h n) = cond (eqb (firstOf (above s h n)) 0) (sixAt (placeOf (s .rows) n)) true
+  sixTest (Unpin h b) = true
+  sixTest (Read h b from out) = true
+  sixTest (Write h b from bytes at) = true
+  sixTest (Flush h b) = true
+  sixTest (GiveBack h) = true
   sixTest Checkpoint = true
   sixTest (Peek n) = true
   sixTest (Extend f) = true
@@ -158,11 +179,12 @@ module _ (s : Shelf) (o : Outcome) where
       sameList (bare (start (s .size) g (o .after .store))) (bare (take some (s .bytes g)))))
 
   unfoldable pub settledTest : Call → Bool
-  settledTest (Pin n) = true
-  settledTest (Unpin b) = true
-  settledTest (Read b from out) = true
-  settledTest (Write b from bytes at) = true
-  settledTest (Flush b) = true
+  settledTest (Pin h n) = true
+  settledTest (Unpin h b) = true
+  settledTest (Read h b from out) = true
+  settledTest (Write h b from bytes at) = true
+  settledTest (Flush h b) = true
+  settledTest (GiveBack h) = true
   settledTest Checkpoint = settledAll
   settledTest (Peek n) = true
   settledTest (Extend f) = true
@@ -195,6 +217,16 @@ module _ (m : Memory) (l : Ledger) (c : Call) (o : Outcome) (l′ : Ledger) wher
       (λ g. sameList (bare (start (size (o .after)) i (o .after .pool))) (bare (take some (l′ .shelf .bytes g)))) in
       cond (eqb (wordOf (o .after) i) 0) true same)
 
+  -- a buffer in use, its page at place g
+  unfoldable pub holdersAt : ℕ → ℕ → Bool
+  holdersAt i g = all few (λ h. eqb (marksOf (o .after) .count i h) (l′ .shelf .counts h g))
+
+  unfoldable pub holdersTest : Bool
+  holdersTest =
+      all (buffers (o .after))
+      (λ i. let same = ifPlace (placeOf (o .after .rows) (nameOf (o .after) i)) (holdersAt i) in
+      cond (eqb (wordOf (o .after) i) 0) true same)
+
   -- of the blocks that it puts there, those of pages held before it
   unfoldable pub sumsTest : Bool
   sumsTest =
@@ -224,6 +256,7 @@ module _ (m : Memory) (l : Ledger) (c : Call) (o : Outcome) (l′ : Ledger) wher
       ∷ test Settled (ifDone (o .refusal) (settledTest (l .shelf) o c))
       ∷ test Stored storedTest
       ∷ test Held heldTest
+      ∷ test Holders holdersTest
       ∷ test Sums sumsTest
       ∷ []
 

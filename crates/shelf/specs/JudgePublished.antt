@@ -19,12 +19,27 @@ use Rattle.bufmodel.specs.Memory.{Memory, buffers, size, wordOf, pageOf}
 use Rattle.bufmodel.specs.Sweep.{Swept, sweep}
 use Rattle.bufmodel.specs.Outcome.{Outcome, one, two}
 use Rattle.bufmodel.specs.Pin.{heldIn}
-use Rattle.bufmodel.specs.Step.{Call, Pin, Unpin, Read, Write, Flush, Checkpoint, Peek, Extend, Drop, LogInserted, LogFlushed}
+use Rattle.bufmodel.specs.Step.{
+  Call,
+  Pin,
+  Unpin,
+  Read,
+  Write,
+  Flush,
+  GiveBack,
+  Checkpoint,
+  Peek,
+  Extend,
+  Drop,
+  LogInserted,
+  LogFlushed,
+}
 use Rattle.shelf.specs.Shelf.{with, writtenPage}
 use Rattle.shelf.specs.Published.{
   Marks,
   marksOf,
   withWords,
+  withPins,
   morePins,
   dirtied,
   cleaned,
@@ -35,6 +50,7 @@ use Rattle.shelf.specs.Published.{
   backed,
   backedTo,
   extendedBy,
+  countsBy,
 }
 use Rattle.shelf.specs.Tests.{
   Probes,
@@ -42,6 +58,7 @@ use Rattle.shelf.specs.Tests.{
   Counts,
   Part,
   Words,
+  Private,
   Hand,
   FreeList,
   Names,
@@ -58,6 +75,7 @@ use Rattle.shelf.specs.Tests.{
   namesTest,
   linksTest,
   chainsTest,
+  countsTest,
 }
 
 -- the cap and the number of buffers as the statement has them
@@ -69,26 +87,35 @@ module _ (cap many : ℕ) (m : Memory) where
   abbrev pub otherWords : (ℕ → ℕ) → Marks
   otherWords word = withWords word (m .control .hand) (marksOf m)
 
-  unfoldable pub sweptMarks : PageName → Swept → Found → Marks
-  sweptMarks n s (found v) = loaded m n v (emptied v (withWords (λ i. getD (s .words) i 0) (s .hand) (marksOf m)))
-  sweptMarks n s missing = marksOf m
+  abbrev pub otherPins : (ℕ → ℕ) → ℕ → (ℕ → ℕ) → Marks
+  otherPins word h count = withPins word h count (marksOf m)
 
-  unfoldable pub newMarks : PageName → Link → Marks
-  newMarks n (To i) = loaded m n i (marksOf m)
-  newMarks n End = sweptMarks n sweepOf (sweepOf .victim)
-  newMarks n Off = marksOf m
-  newMarks n Bad = marksOf m
+  unfoldable pub sweptMarks : ℕ → PageName → Swept → Found → Marks
+  sweptMarks h n s (found v) = loaded m h n v (emptied v (withWords (λ i. getD (s .words) i 0) (s .hand) (marksOf m)))
+  sweptMarks h n s missing = marksOf m
 
-  unfoldable pub pinMarks : PageName → HeldAt → Marks
-  pinMarks n (At b) = otherWords (with (b .0) (morePins cap (wordOf m (b .0))) (wordOf m))
-  pinMarks n Nowhere = newMarks n (linkOf (m .control .top))
+  unfoldable pub newMarks : ℕ → PageName → Link → Marks
+  newMarks h n (To i) = loaded m h n i (marksOf m)
+  newMarks h n End = sweptMarks h n sweepOf (sweepOf .victim)
+  newMarks h n Off = marksOf m
+  newMarks h n Bad = marksOf m
+
+  unfoldable pub pinMarks : ℕ → PageName → HeldAt → Marks
+  pinMarks h n (At b) =
+      let i = b .0 in
+      let c = countsBy m h i in
+      otherPins (with i (cond (eqb c 0) (morePins cap (wordOf m i)) (wordOf m i)) (wordOf m)) h (with i (c + 1) (countsBy m h))
+  pinMarks h n Nowhere = newMarks h n (linkOf (m .control .top))
 
   unfoldable pub marksAfter : Call → Marks
-  marksAfter (Pin n) = pinMarks n (heldIn m n)
-  marksAfter (Unpin b) = otherWords (with b (wordOf m b - 1) (wordOf m))
-  marksAfter (Read b from out) = otherWords (wordOf m)
-  marksAfter (Write b from bytes at) = otherWords (with b (dirtied (wordOf m b)) (wordOf m))
-  marksAfter (Flush b) = otherWords (with b (cleaned (wordOf m b)) (wordOf m))
+  marksAfter (Pin h n) = pinMarks h n (heldIn m n)
+  marksAfter (Unpin h b) =
+      let c = countsBy m h b in
+      otherPins (with b (cond (eqb c 1) (wordOf m b - 1) (wordOf m b)) (wordOf m)) h (with b (c - 1) (countsBy m h))
+  marksAfter (Read h b from out) = otherWords (wordOf m)
+  marksAfter (Write h b from bytes at) = otherWords (with b (dirtied (wordOf m b)) (wordOf m))
+  marksAfter (Flush h b) = otherWords (with b (cleaned (wordOf m b)) (wordOf m))
+  marksAfter (GiveBack h) = otherPins (λ i. cond (eqb (countsBy m h i) 0) (wordOf m i) (wordOf m i - 1)) h (λ i. 0)
   marksAfter Checkpoint = otherWords (λ i. cleaned (wordOf m i))
   marksAfter (Peek n) = otherWords (wordOf m)
   marksAfter (Extend f) = otherWords (wordOf m)
@@ -130,11 +157,12 @@ module _ (cap many : ℕ) (m : Memory) where
   pinBlocks Nowhere = newBlocks (linkOf (m .control .top))
 
   unfoldable pub pagesAfter : Call → ℕ → List ℕ
-  pagesAfter (Pin n) = pinPages n (heldIn m n)
-  pagesAfter (Unpin b) = pageOf m
-  pagesAfter (Read b from out) = pageOf m
-  pagesAfter (Write b from bytes at) = with b (writtenPage at from bytes (pageOf m b)) (pageOf m)
-  pagesAfter (Flush b) = pageOf m
+  pagesAfter (Pin h n) = pinPages n (heldIn m n)
+  pagesAfter (Unpin h b) = pageOf m
+  pagesAfter (Read h b from out) = pageOf m
+  pagesAfter (Write h b from bytes at) = with b (writtenPage at from bytes (pageOf m b)) (pageOf m)
+  pagesAfter (Flush h b) = pageOf m
+  pagesAfter (GiveBack h) = pageOf m
   pagesAfter Checkpoint = pageOf m
   pagesAfter (Peek n) = pageOf m
   pagesAfter (Extend f) = pageOf m
@@ -143,11 +171,12 @@ module _ (cap many : ℕ) (m : Memory) where
   pagesAfter (LogFlushed p) = pageOf m
 
   unfoldable pub blocksAfter : Call → ℕ → List ℕ
-  blocksAfter (Pin n) = pinBlocks (heldIn m n)
-  blocksAfter (Unpin b) = blocksOf m
-  blocksAfter (Read b from out) = blocksOf m
-  blocksAfter (Write b from bytes at) = blocksOf m
-  blocksAfter (Flush b) = backed m b (blocksOf m)
+  blocksAfter (Pin h n) = pinBlocks (heldIn m n)
+  blocksAfter (Unpin h b) = blocksOf m
+  blocksAfter (Read h b from out) = blocksOf m
+  blocksAfter (Write h b from bytes at) = blocksOf m
+  blocksAfter (Flush h b) = backed m b (blocksOf m)
+  blocksAfter (GiveBack h) = blocksOf m
   blocksAfter Checkpoint = backedTo m (buffers m)
   blocksAfter (Peek n) = blocksOf m
   blocksAfter (Extend f) = extendedBy m (rowOf (m .rows) f)
@@ -176,11 +205,12 @@ module _ (cap many : ℕ) (m : Memory) where
     peekTest n Nowhere = ifPlace (placeOf (m .rows) n) (λ g. sameList a (two 0 (g * size m)))
 
     unfoldable pub saidTests : List ℕ → Call → List Test
-    saidTests bytes (Pin n) = test Probes (pinTest (heldIn m n)) ∷ []
-    saidTests bytes (Unpin b) = []
-    saidTests bytes (Read b from out) = test Bytes (sameList bytes (take (length out) (drop from (pageOf m b)))) ∷ []
-    saidTests bytes (Write b from new at) = []
-    saidTests bytes (Flush b) = test Counts (sameList a (one (cond (dirty (wordOf m b)) 1 0))) ∷ []
+    saidTests bytes (Pin h n) = test Probes (pinTest (heldIn m n)) ∷ []
+    saidTests bytes (Unpin h b) = []
+    saidTests bytes (Read h b from out) = test Bytes (sameList bytes (take (length out) (drop from (pageOf m b)))) ∷ []
+    saidTests bytes (Write h b from new at) = []
+    saidTests bytes (Flush h b) = test Counts (sameList a (one (cond (dirty (wordOf m b)) 1 0))) ∷ []
+    saidTests bytes (GiveBack h) = []
     saidTests bytes Checkpoint = test Counts (sameList a (one (count (buffers m) (λ i. dirty (wordOf m i))))) ∷ []
     saidTests bytes (Peek n) = test Part (peekTest n (heldIn m n)) ∷ []
     saidTests bytes (Extend f) = []
@@ -188,13 +218,14 @@ module _ (cap many : ℕ) (m : Memory) where
     saidTests bytes (LogInserted p) = []
     saidTests bytes (LogFlushed p) = []
 
--- what it leaves: the clock and the free list; names and chains; pages and blocks
+-- what it leaves: words, private counts, the clock and the free list; names and chains; pages and blocks
 module _ (m : Memory) where
   module _ (o : Outcome) (k : Marks) where
     unfoldable pub clockTests : List Test
     clockTests =
         let now = marksOf (o .after) in
         test Words (eqb (buffers (o .after)) (buffers m) && wordsTest (buffers m) (length (m .heads)) now k)
+        ∷ test Private (countsTest (buffers m) (length (m .heads)) now k)
         ∷ test Hand (eqb (now .hand) (k .hand))
         ∷ test FreeList (linksTest (buffers m) (length (m .heads)) now k)
         ∷ []

@@ -18,4 +18,5 @@ pub mod WrongBooks
 pub mod WrongLent
 pub mod WrongSums
 pub mod WrongCaps
+pub mod WrongHolders
 pub mod WrongPools

@@ -1,5 +1,5 @@
--- Document 01's own numbers, and the public header's of a checksum: what the statement and the pool both use, each as an equation for all
--- arguments, under its sentence. −1 is `negsuc 0`, −2 is `negsuc 1`.
+-- Document 01's own numbers, document 02's, and the public header's of a checksum: what the statement and the pool both use, each as an
+-- equation for all arguments, under its sentence. −1 is `negsuc 0`, −2 is `negsuc 1`.
 use Prim.Native.Nat.{ℕ, suc, _+_, _-_, _*_, _/_, _%_, _≤_, _<_}
 use mathlib.Core.Path.{_≡_}
 use mathlib.Core.Logic.{_≢_, _⊎_, _↔_}
@@ -9,6 +9,7 @@ use lib.ListN.{length, getD, take, drop, set}
 use lib.IntN.{pos, negsuc}
 use lib.Bits.{bitXor}
 use lib.Dec.{eqb, ltb}
+use Rattle.laws.specs.Sum.{count}
 use Rattle.laws.specs.First.{found, missing, first}
 use Rattle.laws.specs.Block.{block}
 use Rattle.buftag.specs.declared.link.Link.the-variants.{To, End, Off, Bad}
@@ -19,11 +20,12 @@ use Rattle.buftag.specs.declared.name.PageName.{PageName}
 use Rattle.buftag.specs.Name.{fileOf, nameOf, Fits, nameBytes, hashOf, bucketOf, sameFile}
 use Rattle.buftag.specs.Names.{nameAt, noName}
 use Rattle.buftag.specs.Link.{linkOf}
-use Rattle.bufmodel.specs.Word.{maxPins, pins, usage, dirty, valid, tagValid, justDirtied, permanent, empty, soundWord, pinned, useLess}
+use Rattle.bufmodel.specs.Word.{pins, usage, dirty, valid, tagValid, justDirtied, permanent, empty, soundWord, pinned, useLess}
 use Rattle.bufmodel.specs.Position.{position, positionBytes}
 use Rattle.bufmodel.specs.Checksum.{bareFrom, sumStarts, sums, mixSum, wordsIn, sumTo, sumOf, foldTo, checksum}
 use Rattle.bufmodel.specs.Rows.{files, fileAt, blocksAt, capacityAt, setBlocks, rowOf, startOf, storeBlocks, placeOf}
-use Rattle.bufmodel.specs.Memory.{Memory, memory, pageOf}
+use Rattle.bufmodel.specs.Memory.{Memory, memory, pageOf, withCounts}
+use Rattle.bufmodel.specs.Counts.{holdersOf}
 use Rattle.bufmodel.specs.Sizes.{RowsSound, SizedFor}
 use Rattle.bufmodel.specs.Sweep.{next}
 use Rattle.bufmodel.specs.Outcome.{zeros, one, two, done, refused}
@@ -80,9 +82,10 @@ pub record Numbers : Type 0 where
       × (w / 134217728 % 2 ≡ 0)
       × (w / 536870912 % 2 ≡ 0)
       × (w / 1073741824 % 2 ≡ 0))
-  -- pinned is passed; 5: pin count 262143
+  -- pinned is passed
   pub pinnedWord : (w : ℕ) → pinned w ≡ not (eqb (w % 262144) 0)
-  pub mostPins : maxPins ≡ 262143
+  -- the word counts the holders whose private count isn't 0: N × 64, buffer by buffer (document 02)
+  pub holders : (counts : List ℕ) (i : ℕ) → holdersOf counts i ≡ count 64 (λ h. not (eqb (getD counts (i * 64 + h) 0) 0))
   -- unpinned with usage above 0 loses one
   pub lowered : (w : ℕ) → 0 < w / 262144 % 16 → useLess w ≡ w - 262144
   -- moves the hand on, wrapping at N
@@ -91,7 +94,8 @@ pub record Numbers : Type 0 where
   -- Control record: P, the hand, top of the free list (−1 when it is empty), inserted and flushed log positions, the cap; −1 as 64 one bits
   pub control : (m : Lent) → let c = m .control in
       opened m
-      ≡ memory
+      ≡ withCounts (m .counts)
+      (memory
       (record {
         size = getD c 0 0;
         hand = getD c 1 0;
@@ -100,7 +104,7 @@ pub record Numbers : Type 0 where
         flushed = getD c 4 0;
         cap = getD c 5 0;
       })
-      (m .states) (m .names) (m .pool) (m .free) (m .heads) (m .chain) (m .rows) (m .store)
+      (m .states) (m .names) (m .pool) (m .free) (m .heads) (m .chain) (m .rows) (m .store))
   -- N names (five words each); empty buffers have names of zeros
   pub names : (ws : List ℕ) (i : ℕ) → nameAt ws i
       ≡ nameOf (getD ws (5 * i) 0) (getD ws (5 * i + 1) 0) (getD ws (5 * i + 2) 0) (getD ws (5 * i + 3) 0) (getD ws (5 * i + 4) 0)
@@ -174,13 +178,15 @@ pub record Numbers : Type 0 where
       × ((r : ℕ) → r < length rows / 6 → getD rows (6 * r + 3) 0 ≤ 2)
       × ((r : ℕ) → r < length rows / 6 → getD rows (6 * r + 4) 0 ≤ getD rows (6 * r + 5) 0)
       × ((r s : ℕ) → r < length rows / 6 → s < r → fileAt rows s ≢ fileAt rows r))
-  -- N from 1 to 1,024; P is 1024, 2048, 4096, 8192, 16384 or 32768; B from N to 4,096; the store: P × (sum of capacities) bytes
+  -- N from 1 to 1,024; P is 1024, 2048, 4096, 8192, 16384 or 32768; B from N to 4,096; the store: P × (sum of capacities) bytes; N × 64
+  -- private counts
   pub sizes : (p : ℕ) (m : Memory) → let n = length (m .states) in
       SizedFor p m
       ↔ (((p ≡ 1024) ⊎ (p ≡ 2048) ⊎ (p ≡ 4096) ⊎ (p ≡ 8192) ⊎ (p ≡ 16384) ⊎ (p ≡ 32768))
       × (1 ≤ n) × (n ≤ 1024) × (n ≤ length (m .heads)) × (length (m .heads) ≤ 4096)
       × (length (m .names) ≡ 5 * n) × (length (m .pool) ≡ n * p) × (length (m .free) ≡ n) × (length (m .chain) ≡ n)
-      × RowsSound (m .rows) × (length (m .store) ≡ storeBlocks (m .rows) * p))
+      × RowsSound (m .rows) × (length (m .store) ≡ storeBlocks (m .rows) * p)
+      × (length (m .counts) ≡ n * 64))
   -- ---- the answer's parts in four words, unused ones 0; with 1 for pool; a peeked part as pool or store and a byte offset; refused: empty
   pub answer : (answerWords ≡ 4) × (zeros ≡ 0 ∷ 0 ∷ 0 ∷ 0 ∷ [])
   pub parts : (a b : ℕ) → (one a ≡ a ∷ 0 ∷ 0 ∷ 0 ∷ []) × (two a b ≡ a ∷ b ∷ 0 ∷ 0 ∷ [])

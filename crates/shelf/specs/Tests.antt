@@ -16,12 +16,12 @@ pub data Clause : Type 0 where
   -- of `SetsUp`: which are accepted; then the books, the control record, all else; a refusal; the answer and the caller's bytes
   Accepted Fresh Begun Untouched Refused Zeros : Clause
   -- of `Agrees`
-  Neither Six Number Answers Shows Blank Kept Rows Inserted Cap Flushed Ordered Others Long Settled Stored Held Sums : Clause
+  Neither Six Number Answers Shows Blank Kept Rows Inserted Cap Flushed Ordered Others Long Settled Stored Held Holders Sums : Clause
   -- of `Left`; of the opened memory, `Published.same` says what `Same` does
   Same Control Sizes Books : Clause
   -- of `Published`: what a pin answers, the bytes that a read fills, the count written, the part that a peek hands back; then the marks,
-  -- the pool's pages, the store's blocks
-  Probes Bytes Counts Part Words Hand FreeList Names Chains Pages Store : Clause
+  -- private counts among them, the pool's pages, the store's blocks
+  Probes Bytes Counts Part Words Private Hand FreeList Names Chains Pages Store : Clause
 
 -- none fails, or the first that does
 pub data Verdict : Type 0 where
@@ -85,6 +85,7 @@ sameLent a b =
     && sameList (a .rows) (b .rows)
     && sameList (a .pool) (b .pool)
     && sameList (a .store) (b .store)
+    && sameList (a .counts) (b .counts)
 
 -- so many first bytes of a page are compared, its log position among them
 abbrev pub some : ℕ
@@ -93,6 +94,10 @@ some = 16
 -- those of block g
 unfoldable pub start : ℕ → ℕ → List ℕ → List ℕ
 start p g xs = take (min some p) (drop (g * p) xs)
+
+-- so many first holders' counts are compared
+abbrev pub few : ℕ
+few = 4
 
 -- ---- Alike
 module _ (n b : ℕ) (k l : Marks) where
@@ -107,3 +112,6 @@ module _ (n b : ℕ) (k l : Marks) where
 
   unfoldable pub chainsTest : Bool
   chainsTest = all n (λ i. sameLink (k .chain i) (l .chain i)) && all b (λ j. sameLink (k .head j) (l .head j))
+
+  unfoldable pub countsTest : Bool
+  countsTest = all n (λ i. all few (λ h. eqb (k .count i h) (l .count i h)))

@@ -1,5 +1,5 @@
 -- A trial of a pool: a bench, a set up, calls as a till makes them, and the verdict.
-use Prim.Native.Nat.{ℕ, _-_, _*_, _^_}
+use Prim.Native.Nat.{ℕ, zero, suc, _-_, _*_, _^_}
 use mathlib.Core.Bool.{Bool, true, _&&_}
 use mathlib.Core.List.{List, [], _∷_, _++_, map}
 use lib.ListN.{replicate}
@@ -10,7 +10,21 @@ use Rattle.buftag.specs.declared.name.FileName.{FileName}
 use Rattle.buftag.specs.declared.name.PageName.{PageName}
 use Rattle.buftag.specs.Name.{fileOf}
 use Rattle.buftag.specs.Names.{nameWords}
-use Rattle.bufmodel.specs.Step.{Call, Pin, Unpin, Read, Write, Flush, Checkpoint, Peek, Extend, Drop, LogInserted, LogFlushed}
+use Rattle.bufmodel.specs.Step.{
+  Call,
+  Pin,
+  Unpin,
+  Read,
+  Write,
+  Flush,
+  GiveBack,
+  Checkpoint,
+  Peek,
+  Extend,
+  Drop,
+  LogInserted,
+  LogFlushed,
+}
 use Rattle.bufmodel.specs.Lent.{Lent}
 use Rattle.shelf.specs.Statement.{Pool, Made}
 use Rattle.shelf.specs.Tests.{Clause, Verdict}
@@ -45,6 +59,7 @@ benchWith n page =
       chain = replicate n (pos 0);
       rows = 1663 ∷ 5 ∷ 16384 ∷ 0 ∷ n ∷ n ∷ 1663 ∷ 5 ∷ 16385 ∷ 0 ∷ 1 ∷ 1 ∷ [];
       store = replicate (n * size) 0 ++ page;
+      counts = replicate (n * 64) 9;
     }
 
 abbrev pub bench : ℕ → Lent
@@ -61,32 +76,50 @@ summed n = benchWith n (blockWith 15 223 77)
 abbrev pub unsummed : ℕ → Lent
 unsummed n = benchWith n (blockWith 0 0 77)
 
--- ---- the till's calls: a page of a file; one byte, or two bytes, behind the checksum; the log position
+-- ---- the tills' calls, holder 0's and others': a page of a file; one byte, or two bytes, behind the checksum; the log position
 abbrev pub blockOf : FileName → ℕ → PageName
 blockOf f b = record { file = f; block = record { 0 = b } }
 
+abbrev pub pinBy : ℕ → FileName → ℕ → Call
+pinBy h f b = Pin h (blockOf f b)
+
 abbrev pub pin : FileName → ℕ → Call
-pin f b = Pin (blockOf f b)
+pin = pinBy 0
+
+abbrev pub unpin : ℕ → Call
+unpin buffer = Unpin 0 buffer
+
+abbrev pub flush : ℕ → Call
+flush buffer = Flush 0 buffer
 
 abbrev pub peek : FileName → ℕ → Call
 peek f b = Peek (blockOf f b)
 
 abbrev pub write : ℕ → ℕ → ℕ → Call
-write buffer byte at = Write buffer 10 (byte ∷ []) at
+write buffer byte at = Write 0 buffer 10 (byte ∷ []) at
 
 abbrev pub read : ℕ → Call
-read buffer = Read buffer 10 (0 ∷ 0 ∷ [])
+read buffer = Read 0 buffer 10 (0 ∷ 0 ∷ [])
 
 abbrev pub readPosition : ℕ → Call
-readPosition buffer = Read buffer 0 (replicate 8 0)
+readPosition buffer = Read 0 buffer 0 (replicate 8 0)
+
+-- a call by each of the first holders
+unfoldable pub byEach : ℕ → (ℕ → Call) → List Call
+byEach zero c = []
+byEach (suc n) c = byEach n c ++ (c n ∷ [])
+
+-- the first page of sales, pinned by each of so many holders
+abbrev pub hits : ℕ → List Call
+hits n = byEach n (λ h. pinBy h sales 0)
 
 -- both pages of sales in two buffers, unpinned
 abbrev pub unpinned : List Call
-unpinned = pin sales 0 ∷ pin sales 1 ∷ Unpin 0 ∷ Unpin 1 ∷ []
+unpinned = pin sales 0 ∷ pin sales 1 ∷ unpin 0 ∷ unpin 1 ∷ []
 
 -- a dirty page of sales gives way to the page of stock
 abbrev pub exchange : List Call
-exchange = pin sales 0 ∷ write 0 77 100 ∷ Unpin 0 ∷ pin stock 0 ∷ []
+exchange = pin sales 0 ∷ write 0 77 100 ∷ unpin 0 ∷ pin stock 0 ∷ []
 
 -- ---- the verdict: with set up's block size, log position and cap, the bench's or others
 -- an answer slice, as someone left it
@@ -124,6 +157,7 @@ fitsLent m =
     ∷ allSigned (m .chain)
     ∷ allBelow (2 ^ 32) (m .rows)
     ∷ allBelow (2 ^ 8) (m .store)
+    ∷ allBelow (2 ^ 16) (m .counts)
     ∷ [])
 
 unfoldable pub fitsFile : FileName → Bool
@@ -133,11 +167,13 @@ unfoldable pub fitsName : PageName → Bool
 fitsName n = every (fitsFile (n .file) ∷ ltb (n .block .0) (2 ^ 32) ∷ [])
 
 unfoldable pub fitsCall : Call → Bool
-fitsCall (Pin n) = fitsName n
-fitsCall (Unpin b) = ltb b (2 ^ 64)
-fitsCall (Read b from out) = every (ltb b (2 ^ 64) ∷ ltb from (2 ^ 64) ∷ allBelow (2 ^ 8) out ∷ [])
-fitsCall (Write b from bytes at) = every (ltb b (2 ^ 64) ∷ ltb from (2 ^ 64) ∷ allBelow (2 ^ 8) bytes ∷ ltb at (2 ^ 64) ∷ [])
-fitsCall (Flush b) = ltb b (2 ^ 64)
+fitsCall (Pin h n) = every (ltb h (2 ^ 64) ∷ fitsName n ∷ [])
+fitsCall (Unpin h b) = every (ltb h (2 ^ 64) ∷ ltb b (2 ^ 64) ∷ [])
+fitsCall (Read h b from out) = every (ltb h (2 ^ 64) ∷ ltb b (2 ^ 64) ∷ ltb from (2 ^ 64) ∷ allBelow (2 ^ 8) out ∷ [])
+fitsCall (Write h b from bytes at) =
+    every (ltb h (2 ^ 64) ∷ ltb b (2 ^ 64) ∷ ltb from (2 ^ 64) ∷ allBelow (2 ^ 8) bytes ∷ ltb at (2 ^ 64) ∷ [])
+fitsCall (Flush h b) = every (ltb h (2 ^ 64) ∷ ltb b (2 ^ 64) ∷ [])
+fitsCall (GiveBack h) = ltb h (2 ^ 64)
 fitsCall Checkpoint = true
 fitsCall (Peek n) = fitsName n
 fitsCall (Extend f) = fitsFile f

@@ -27,9 +27,24 @@ use Rattle.bufmodel.specs.Memory.{
 }
 use Rattle.bufmodel.specs.Sweep.{Swept, swept, next, sweep, sweepAll}
 use Rattle.bufmodel.specs.Moves.{release}
-use Rattle.bufmodel.specs.Step.{Pin, Unpin, LogFlushed, step}
-use Rattle.shelf.specs.Tests.{Six, Answers, Stored, Held, Books, Probes, Words, Hand, Names, Chains}
-use Rattle.shelf.specs.Trial.{size, unsummed, sales, stock, blockOf, pin, write, unpinned, exchange, Wrong, wrongOn, wrong}
+use Rattle.bufmodel.specs.Step.{Pin, LogFlushed, step}
+use Rattle.shelf.specs.Tests.{Six, Answers, Stored, Held, Holders, Books, Probes, Words, Hand, Names, Chains}
+use Rattle.shelf.specs.Trial.{
+  size,
+  unsummed,
+  sales,
+  stock,
+  blockOf,
+  pin,
+  unpin,
+  write,
+  hits,
+  unpinned,
+  exchange,
+  Wrong,
+  wrongOn,
+  wrong,
+}
 use Rattle.shelf.specs.Changes.{ifAccepted, pins, unpins, logFlushes, saying, leaving, unwritten, said, pinsAgain, sweeps}
 
 -- both of two buffers are free; the free list 1, 0 of two buffers
@@ -74,7 +89,7 @@ exchanged m =
 unfoldable pub wrongBuffers : List Wrong
 wrongBuffers =
     -- the last place of the free list is taken
-    wrong (pins (λ m c o. cond (bothFree m) (step (otherEnd m) (Pin (c .page))) o)) 2 (pin sales 0 ∷ []) Probes
+    wrong (pins (λ m c o. cond (bothFree m) (step (otherEnd m) (Pin (c .holder) (c .page))) o)) 2 (pin sales 0 ∷ []) Probes
     -- a dirty victim is not written back
     ∷ wrong (pins (λ m c o. unwritten m o)) 1 exchange Stored
     -- a dirty victim's buffer is loaded before it is written back
@@ -96,10 +111,10 @@ wrongBuffers =
     -- log flushed reorders a chain
     ∷ wrong (logFlushes (λ m c o. leaving rising o)) 2 (pin sales 1 ∷ pin stock 0 ∷ LogFlushed 100 ∷ []) Chains
     -- a buffer gets another name when its last pin goes
-    ∷ wrongOn (unsummed 1) (unpins (λ m c o. leaving (withNames (wordsOf (blockOf stock 0))) o)) (pin sales 0 ∷ Unpin 0 ∷ []) Held
+    ∷ wrongOn (unsummed 1) (unpins (λ m c o. leaving (withNames (wordsOf (blockOf stock 0))) o)) (pin sales 0 ∷ unpin 0 ∷ []) Held
     -- it gets the other name and its page, and the next pin of its own is a load
     ∷ wrongOn (unsummed 1) (unpins (λ m c o. leaving (λ k. withNames (wordsOf (blockOf stock 0)) (withPool (drop size (k .store)) k)) o))
-    (pin sales 0 ∷ Unpin 0 ∷ []) Names
+    (pin sales 0 ∷ unpin 0 ∷ []) Names
     -- log flushed exchanges two buffers
     ∷ wrong (logFlushes (λ m c o. leaving exchanged o)) 2 (unpinned ++ (LogFlushed 100 ∷ [])) Names
     ∷ []
@@ -108,35 +123,35 @@ wrongBuffers =
 unfoldable pub wrongCounts : List Wrong
 wrongCounts =
     -- document 004's lowers first and tests after
-    wrong (sweeps (λ cap words hand. lowersFirst (length words) 0 words hand)) 1 (pin sales 0 ∷ Unpin 0 ∷ pin stock 0 ∷ []) Probes
+    wrong (sweeps (λ cap words hand. lowersFirst (length words) 0 words hand)) 1 (pin sales 0 ∷ unpin 0 ∷ pin stock 0 ∷ []) Probes
     -- and gives up after N tries
     ∷ wrong (sweeps (λ cap words hand. sweep (length words) (length words) 0 0 hand words)) 1
-    (pin sales 0 ∷ Unpin 0 ∷ pin stock 0 ∷ []) Six
+    (pin sales 0 ∷ unpin 0 ∷ pin stock 0 ∷ []) Six
     -- a sweep lowers the usage of pinned buffers
     ∷ wrong (sweeps (λ cap words hand. lowersPinned (sweepAll cap words hand))) 2
-    (pin sales 0 ∷ pin sales 1 ∷ Unpin 1 ∷ pin stock 0 ∷ []) Words
+    (pin sales 0 ∷ pin sales 1 ∷ unpin 1 ∷ pin stock 0 ∷ []) Words
     -- a sweep leaves the hand
     ∷ wrong (pins (λ m c o. leaving (withHand (m .control .hand)) o)) 2 (unpinned ++ (pin stock 0 ∷ [])) Hand
     -- ---- pins and usage
     -- usage is never raised
-    ∷ wrong (pinsAgain (λ cap w. w + 1)) 1 (pin sales 0 ∷ pin sales 0 ∷ []) Words
+    ∷ wrong (pinsAgain (λ cap w. w + 1)) 1 (hits 2) Words
     -- usage has no cap
-    ∷ wrong (pinsAgain (λ cap w. w + 1 + 0x40000)) 1 (replicate 6 (pin sales 0)) Words
+    ∷ wrong (pinsAgain (λ cap w. w + 1 + 0x40000)) 1 (hits 6) Words
     -- usage has a cap of 7
-    ∷ wrong (pinsAgain (λ cap w. cond (ltb (usage w) 7) (w + 1 + 0x40000) (w + 1))) 1 (replicate 6 (pin sales 0)) Words
+    ∷ wrong (pinsAgain (λ cap w. cond (ltb (usage w) 7) (w + 1 + 0x40000) (w + 1))) 1 (hits 6) Words
     -- unpin does nothing
-    ∷ wrong (unpins (λ m c o. leaving (λ k. m) o)) 1 (pin sales 0 ∷ Unpin 0 ∷ []) Words
+    ∷ wrong (unpins (λ m c o. leaving (λ k. m) o)) 1 (pin sales 0 ∷ unpin 0 ∷ []) Holders
     -- unpin lowers the usage
-    ∷ wrong (unpins (λ m c o. leaving (λ k. withStates (map useLess (k .states)) k) o)) 1 (pin sales 0 ∷ Unpin 0 ∷ []) Words
+    ∷ wrong (unpins (λ m c o. leaving (λ k. withStates (map useLess (k .states)) k) o)) 1 (pin sales 0 ∷ unpin 0 ∷ []) Words
     -- unpin answers a number
-    ∷ wrong (unpins (ifAccepted (λ m c o. saying 0 1 o))) 1 (pin sales 0 ∷ Unpin 0 ∷ []) Answers
+    ∷ wrong (unpins (ifAccepted (λ m c o. saying 0 1 o))) 1 (pin sales 0 ∷ unpin 0 ∷ []) Answers
     -- the fifth pin is not counted
-    ∷ wrong (pinsAgain (λ cap w. cond (eqb (w % 2 ^ 18) 4) w (pinMore cap w))) 1 (replicate 5 (pin sales 0)) Words
+    ∷ wrong (pinsAgain (λ cap w. cond (eqb (w % 2 ^ 18) 4) w (pinMore cap w))) 1 (hits 5) Words
     -- a page just loaded has usage 0
     ∷ wrong (pins (λ m c o. leaving (λ k. withStates (map useLess (k .states)) k) o)) 1 (pin sales 0 ∷ []) Words
     -- unpin empties the buffer
-    ∷ wrong (unpins (λ m c o. leaving (λ k. release k 0) o)) 1 (pin sales 0 ∷ Unpin 0 ∷ []) Words
+    ∷ wrong (unpins (λ m c o. leaving (λ k. release k 0) o)) 1 (pin sales 0 ∷ unpin 0 ∷ []) Words
     -- unpin loses a write
     ∷ wrong (unpins (λ m c o. leaving (λ k. withStates (map makeClean (k .states)) k) o)) 1
-    (pin sales 0 ∷ write 0 77 100 ∷ Unpin 0 ∷ []) Words
+    (pin sales 0 ∷ write 0 77 100 ∷ unpin 0 ∷ []) Words
     ∷ []

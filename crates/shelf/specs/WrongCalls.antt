@@ -30,7 +30,7 @@ use Rattle.bufmodel.specs.Memory.{
 }
 use Rattle.bufmodel.specs.Moves.{writeBack, writeUpTo, release}
 use Rattle.bufmodel.specs.Outcome.{zeros, two, done, refused}
-use Rattle.bufmodel.specs.Step.{Pin, Unpin, Read, Write, Flush, Checkpoint, Extend, Drop, LogInserted, LogFlushed, step}
+use Rattle.bufmodel.specs.Step.{Pin, Read, Write, Checkpoint, Extend, Drop, LogInserted, LogFlushed, step}
 use Rattle.shelf.specs.Tests.{
   Neither,
   Six,
@@ -46,6 +46,7 @@ use Rattle.shelf.specs.Tests.{
   Settled,
   Stored,
   Held,
+  Holders,
   Books,
   Probes,
   Counts,
@@ -62,6 +63,8 @@ use Rattle.shelf.specs.Trial.{
   sales,
   stock,
   pin,
+  unpin,
+  flush,
   peek,
   write,
   read,
@@ -113,13 +116,13 @@ wrongRefusals =
     -- 13 for a file that has no row
     ∷ wrong (extends (ifRefused (λ m c o. refused 13 [] m))) 1 (Extend (fileOf 1 2 3 0) ∷ []) Number
     -- 8 before 7
-    ∷ wrong (unpins (ifRefused (λ m c o. refused 8 [] m))) 1 (Unpin 1 ∷ []) Number
+    ∷ wrong (unpins (ifRefused (λ m c o. refused 8 [] m))) 1 (unpin 1 ∷ []) Number
     -- 10 before 9
-    ∷ wrong (writes (λ m c o. cond (eqb (length (o .bytes)) 0) (refused 10 [] m) o)) 1 (pin sales 0 ∷ Write 0 7 [] 100 ∷ []) Number
+    ∷ wrong (writes (λ m c o. cond (eqb (length (o .bytes)) 0) (refused 10 [] m) o)) 1 (pin sales 0 ∷ Write 0 0 7 [] 100 ∷ []) Number
     -- log flushed above inserted is accepted
     ∷ wrong (logFlushes (ifRefused (λ m c o. done zeros [] (withFlushed (c .number) m)))) 1 (LogFlushed 101 ∷ []) Number
     -- a refused call answers
-    ∷ wrong (calls (ifRefused (λ m c o. saying 0 1 o))) 1 (Unpin 0 ∷ []) Blank
+    ∷ wrong (calls (ifRefused (λ m c o. saying 0 1 o))) 1 (unpin 0 ∷ []) Blank
     -- a refused read changes out
     ∷ wrong (reads (ifRefused (λ m c o. filling (map suc (o .bytes)) o))) 1 (read 0 ∷ []) Kept
     -- 6 for a page that has pins, once every buffer is pinned
@@ -127,7 +130,7 @@ wrongRefusals =
     -- 3 for a block that its file does not have
     ∷ wrong (pins (ifRefused (λ m c o. refused 3 [] m))) 1 (pin sales 1 ∷ []) Number
     -- a read beyond the page's end is accepted
-    ∷ wrong (reads (ifRefused (λ m c o. done zeros (o .bytes) m))) 1 (pin sales 0 ∷ Read 0 1023 (0 ∷ 0 ∷ []) ∷ []) Number
+    ∷ wrong (reads (ifRefused (λ m c o. done zeros (o .bytes) m))) 1 (pin sales 0 ∷ Read 0 0 1023 (0 ∷ 0 ∷ []) ∷ []) Number
     -- a write above inserted is accepted
     ∷ wrong (writes (ifRefused (λ m c o. done zeros (o .bytes) m))) 1 (pin sales 0 ∷ write 0 77 101 ∷ []) Number
     -- and one below the page's own position
@@ -142,29 +145,29 @@ wrongRefusals =
 unfoldable pub wrongFlushes : List Wrong
 wrongFlushes =
     -- a flush writes nothing
-    wrong (flushes (λ m c o. unwritten m o)) 1 (pin sales 0 ∷ write 0 77 100 ∷ Flush 0 ∷ []) Stored
+    wrong (flushes (λ m c o. unwritten m o)) 1 (pin sales 0 ∷ write 0 77 100 ∷ flush 0 ∷ []) Stored
     -- a flush leaves its page dirty
-    ∷ wrong (flushes (λ m c o. leaving (withStates (m .states)) o)) 1 (pin sales 0 ∷ write 0 77 100 ∷ Flush 0 ∷ []) Words
+    ∷ wrong (flushes (λ m c o. leaving (withStates (m .states)) o)) 1 (pin sales 0 ∷ write 0 77 100 ∷ flush 0 ∷ []) Words
     -- a flush counts 0
-    ∷ wrong (flushes (λ m c o. saying 0 0 o)) 1 (pin sales 0 ∷ write 0 77 100 ∷ Flush 0 ∷ []) Counts
+    ∷ wrong (flushes (λ m c o. saying 0 0 o)) 1 (pin sales 0 ∷ write 0 77 100 ∷ flush 0 ∷ []) Counts
     -- a flush leaves flushed as it was
     ∷ wrong (flushes (λ m c o. leaving (withFlushed (m .control .flushed)) o)) 1
-    (LogInserted 200 ∷ pin sales 0 ∷ write 0 77 200 ∷ Flush 0 ∷ []) Flushed
+    (LogInserted 200 ∷ pin sales 0 ∷ write 0 77 200 ∷ flush 0 ∷ []) Flushed
     -- a flush puts a forged position into the store
     ∷ wrong (flushes (λ m c o. leaving (λ k. withStore (positionBytes 101 ++ drop 8 (k .store)) k) o)) 1
-    (pin sales 0 ∷ write 0 77 100 ∷ Flush 0 ∷ []) Ordered
+    (pin sales 0 ∷ write 0 77 100 ∷ flush 0 ∷ []) Ordered
     -- a flush puts the page at the next block
     ∷ wrong (flushes (λ m c o. leaving (withStore (putBlock size 1 (pageOf m 0) (m .store))) o)) 1
-    (pin sales 0 ∷ write 0 77 100 ∷ Flush 0 ∷ []) Others
+    (pin sales 0 ∷ write 0 77 100 ∷ flush 0 ∷ []) Others
     -- a flush writes every dirty page
     ∷ wrong (flushes (λ m c o. leaving (λ k. writeUpTo (buffers m) m) o)) 2
-    (pin sales 0 ∷ pin sales 1 ∷ write 0 77 100 ∷ write 1 78 100 ∷ Flush 0 ∷ []) Others
+    (pin sales 0 ∷ pin sales 1 ∷ write 0 77 100 ∷ write 1 78 100 ∷ flush 0 ∷ []) Others
     -- a flush puts the page without the bytes behind its position
     ∷ wrong (flushes (λ m c o. leaving (λ k. withStore (take 8 (k .store) ++ drop 8 (m .store)) k) o)) 1
-    (pin sales 0 ∷ write 0 77 100 ∷ Flush 0 ∷ []) Stored
+    (pin sales 0 ∷ write 0 77 100 ∷ flush 0 ∷ []) Stored
     -- a flush clears the dirty bit alone
     ∷ wrong (flushes (λ m c o. leaving (λ k. withStates (map (λ w. w + 0x10000000) (k .states)) k) o)) 1
-    (pin sales 0 ∷ write 0 77 100 ∷ Flush 0 ∷ []) Words
+    (pin sales 0 ∷ write 0 77 100 ∷ flush 0 ∷ []) Words
     ∷ []
 
 -- ---- checkpoint, what else is written back, and the log
@@ -178,7 +181,7 @@ wrongBacks =
     -- a checkpoint counts one too few
     ∷ wrong (checkpoints (λ m c o. saying 0 (said o 0 - 1) o)) 1 (pin sales 0 ∷ write 0 77 100 ∷ Checkpoint ∷ []) Counts
     -- a checkpoint empties an unpinned buffer
-    ∷ wrong (checkpoints (λ m c o. leaving (λ k. release k 0) o)) 1 (pin sales 0 ∷ Unpin 0 ∷ Checkpoint ∷ []) Words
+    ∷ wrong (checkpoints (λ m c o. leaving (λ k. release k 0) o)) 1 (pin sales 0 ∷ unpin 0 ∷ Checkpoint ∷ []) Words
     -- log flushed lowers flushed
     ∷ wrong (logFlushes (λ m c o. leaving (withFlushed (c .number)) o)) 1 (LogFlushed 50 ∷ []) Flushed
     -- log inserted raises flushed
@@ -200,11 +203,11 @@ wrongBacks =
     (LogInserted 200 ∷ pin sales 0 ∷ write 0 77 200 ∷ Checkpoint ∷ []) Flushed
     -- a victim's write-back leaves flushed as it was
     ∷ wrong (pins (λ m c o. leaving (withFlushed (m .control .flushed)) o)) 1
-    (LogInserted 200 ∷ pin sales 0 ∷ write 0 77 200 ∷ Unpin 0 ∷ pin stock 0 ∷ []) Flushed
+    (LogInserted 200 ∷ pin sales 0 ∷ write 0 77 200 ∷ unpin 0 ∷ pin stock 0 ∷ []) Flushed
     -- a write goes to the store at once
     ∷ wrong (writes (λ m c o. leaving (λ k. writeBack k 0) o)) 1 (pin sales 0 ∷ write 0 77 100 ∷ []) Others
     -- so does a dirty page at its last unpin
-    ∷ wrong (unpins (λ m c o. leaving (λ k. writeBack k 0) o)) 1 (pin sales 0 ∷ write 0 77 100 ∷ Unpin 0 ∷ []) Others
+    ∷ wrong (unpins (λ m c o. leaving (λ k. writeBack k 0) o)) 1 (pin sales 0 ∷ write 0 77 100 ∷ unpin 0 ∷ []) Others
     -- log inserted puts the hand back
     ∷ wrong (logInserts (λ m c o. leaving (withHand 0) o)) 2 (unpinned ++ (pin stock 0 ∷ LogInserted 100 ∷ [])) Hand
     ∷ []
@@ -253,7 +256,7 @@ wrongPages =
     -- a peek hands back the store's block of a clean page
     ∷ wrong (peeks (λ m c o. cond (dirty (wordOf m 0)) o (answering (two 0 0) o))) 1 (pin sales 0 ∷ peek sales 0 ∷ []) Part
     -- a peek loads the page
-    ∷ wrong (peeks (λ m c o. leaving (λ k. step k (Pin (c .page)) .after) o)) 1 (peek sales 0 ∷ []) Words
+    ∷ wrong (peeks (λ m c o. leaving (λ k. step k (Pin 0 (c .page)) .after) o)) 1 (peek sales 0 ∷ []) Holders
     -- a peek counts as a use
     ∷ wrong (peeks (λ m c o. leaving (λ k. withStates (map (λ w. w + 0x40000) (k .states)) k) o)) 1
     (pin sales 0 ∷ peek sales 0 ∷ []) Words
@@ -281,7 +284,7 @@ wrongFiles =
     ∷ wrong (extends (λ m c o. saying 0 1 o)) 1 (Drop stock ∷ Extend stock ∷ []) Shows
     -- a drop writes dirty pages
     ∷ wrong (drops (λ m c o. leaving (withStore (writeUpTo (buffers m) m .store)) o)) 1
-    (pin sales 0 ∷ write 0 77 100 ∷ Unpin 0 ∷ Drop sales ∷ []) Others
+    (pin sales 0 ∷ write 0 77 100 ∷ unpin 0 ∷ Drop sales ∷ []) Others
     -- a drop changes the store
     ∷ wrong (drops (λ m c o. leaving (λ k. withStore (map (λ b. 1) (k .store)) k) o)) 1 (Drop stock ∷ []) Others
     -- a drop leaves the blocks
@@ -290,20 +293,20 @@ wrongFiles =
     ∷ wrong (drops (λ m c o. leaving (λ k. withTop (pos 0) (withFree (pos 1 ∷ none ∷ []) k)) o)) 2
     (unpinned ++ (Drop sales ∷ [])) FreeList
     -- a drop keeps its buffers' words
-    ∷ wrong (drops (λ m c o. leaving (withStates (m .states)) o)) 1 (pin sales 0 ∷ Unpin 0 ∷ Drop sales ∷ []) Words
+    ∷ wrong (drops (λ m c o. leaving (withStates (m .states)) o)) 1 (pin sales 0 ∷ unpin 0 ∷ Drop sales ∷ []) Words
     -- a drop puts the hand back
     ∷ wrong (drops (λ m c o. leaving (withHand 0) o)) 2 (unpinned ++ (pin stock 0 ∷ Drop sales ∷ [])) Hand
     -- a drop empties the other file's buffers
-    ∷ wrong (drops (λ m c o. leaving (λ k. release k 0) o)) 1 (pin sales 0 ∷ Unpin 0 ∷ Drop stock ∷ []) Words
+    ∷ wrong (drops (λ m c o. leaving (λ k. release k 0) o)) 1 (pin sales 0 ∷ unpin 0 ∷ Drop stock ∷ []) Words
     -- a drop leaves names in empty buffers
-    ∷ wrong (drops (λ m c o. leaving (withNames (m .names)) o)) 1 (pin sales 0 ∷ Unpin 0 ∷ Drop sales ∷ []) Books
+    ∷ wrong (drops (λ m c o. leaving (withNames (m .names)) o)) 1 (pin sales 0 ∷ unpin 0 ∷ Drop sales ∷ []) Books
     -- a drop leaves its buffers in their chains
-    ∷ wrong (drops (λ m c o. leaving (withHeads (m .heads)) o)) 1 (pin sales 0 ∷ Unpin 0 ∷ Drop sales ∷ []) Books
+    ∷ wrong (drops (λ m c o. leaving (withHeads (m .heads)) o)) 1 (pin sales 0 ∷ unpin 0 ∷ Drop sales ∷ []) Books
     -- a drop clears its buffers' pages
     ∷ wrong (drops (λ m c o. leaving (λ k. withPool (map (λ b. 0) (k .pool)) k) o)) 1
-    (pin sales 0 ∷ write 0 77 100 ∷ Unpin 0 ∷ Drop sales ∷ []) Pages
+    (pin sales 0 ∷ write 0 77 100 ∷ unpin 0 ∷ Drop sales ∷ []) Pages
     -- an extend adds two blocks
     ∷ wrong (extends (λ m c o. leaving (λ k. step k (Extend sales) .after) o)) 2 (Drop sales ∷ Extend sales ∷ []) Rows
     -- an extend loads the new page
-    ∷ wrong (extends (λ m c o. leaving (λ k. step k (pin stock 0) .after) o)) 1 (Drop stock ∷ Extend stock ∷ []) Words
+    ∷ wrong (extends (λ m c o. leaving (λ k. step k (pin stock 0) .after) o)) 1 (Drop stock ∷ Extend stock ∷ []) Holders
     ∷ []

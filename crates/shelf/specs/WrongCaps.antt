@@ -10,7 +10,7 @@ use Rattle.bufmodel.specs.Sweep.{sweep}
 use Rattle.bufmodel.specs.Step.{Call, Unpin, Checkpoint, step}
 use Rattle.shelf.specs.Statement.{Pool, calling}
 use Rattle.shelf.specs.Tests.{Accepted, Begun, Refused, Six, Cap, Words}
-use Rattle.shelf.specs.Trial.{bench, sales, stock, pin, Wrong, wrong, wrongAt, wrongCap}
+use Rattle.shelf.specs.Trial.{bench, sales, stock, pin, unpin, byEach, hits, Wrong, wrong, wrongAt, wrongCap}
 use Rattle.shelf.specs.Changes.{
   ifAccepted,
   calls,
@@ -37,23 +37,23 @@ withCap x m = let c = m .control in
 abbrev takesFor : (ℕ → ℕ) → Pool
 takesFor f = record { setsUp = λ p at cap m answer. calling step .setsUp p at (f cap) m answer; calls = calling step .calls }
 
--- one page pinned so often, and given back
+-- one page pinned by so many holders, and unpinned
 abbrev warmed : ℕ → List Call
-warmed n = replicate n (pin sales 0) ++ replicate n (Unpin 0)
+warmed n = hits n ++ byEach n (λ h. Unpin h 0)
 
 -- ---- raising a count, the sweep, the control record
 unfoldable pub wrongRises : List Wrong
 wrongRises =
     -- the published cap of 5, whatever was given: above it, and below it
-    wrongAt 2 (pinsAgain (λ cap w. cond (ltb (usage w) 5) (w + 1 + 0x40000) (w + 1))) 1 (replicate 3 (pin sales 0)) Words
-    ∷ wrongAt 7 (pinsAgain (λ cap w. cond (ltb (usage w) 5) (w + 1 + 0x40000) (w + 1))) 1 (replicate 6 (pin sales 0)) Words
+    wrongAt 2 (pinsAgain (λ cap w. cond (ltb (usage w) 5) (w + 1 + 0x40000) (w + 1))) 1 (hits 3) Words
+    ∷ wrongAt 7 (pinsAgain (λ cap w. cond (ltb (usage w) 5) (w + 1 + 0x40000) (w + 1))) 1 (hits 6) Words
     -- usage rises past the cap
-    ∷ wrongAt 1 (pinsAgain (λ cap w. cond (leb (usage w) cap) (w + 1 + 0x40000) (w + 1))) 1 (replicate 2 (pin sales 0)) Words
+    ∷ wrongAt 1 (pinsAgain (λ cap w. cond (leb (usage w) cap) (w + 1 + 0x40000) (w + 1))) 1 (hits 2) Words
     -- usage stays one below it
-    ∷ wrongAt 2 (pinsAgain (λ cap w. cond (ltb (usage w + 1) cap) (w + 1 + 0x40000) (w + 1))) 1 (replicate 2 (pin sales 0)) Words
+    ∷ wrongAt 2 (pinsAgain (λ cap w. cond (ltb (usage w + 1) cap) (w + 1 + 0x40000) (w + 1))) 1 (hits 2) Words
     -- at the cap usage begins again
     ∷ wrongAt 2 (pinsAgain (λ cap w. cond (ltb (usage w) cap) (w + 1 + 0x40000) (w % 2 ^ 18 + 1 + w / 2 ^ 22 * 2 ^ 22))) 1
-    (replicate 3 (pin sales 0)) Words
+    (hits 3) Words
     -- a page just loaded has the cap for its usage
     ∷ wrongAt 2 (pins (λ m c o. leaving (λ k. withStates (map (λ w. w + 0x40000) (k .states)) k) o)) 1 (pin sales 0 ∷ []) Words
     -- a sweep gives up after six probes for each buffer
@@ -64,12 +64,12 @@ wrongRises =
     ∷ wrong (pins (ifAccepted (λ m c o. leaving (λ k. withCap (suc (capOf k)) k) o))) 1 (pin sales 0 ∷ []) Cap
     ∷ wrong (pins (ifAccepted (λ m c o. leaving (withCap 1) o))) 1 (pin sales 0 ∷ []) Cap
     -- an unpin lets the cap follow the usage
-    ∷ wrong (unpins (ifAccepted (λ m c o. leaving (λ k. withCap (usage (getD (k .states) 0 0)) k) o))) 1 (pin sales 0 ∷ Unpin 0 ∷ []) Cap
+    ∷ wrong (unpins (ifAccepted (λ m c o. leaving (λ k. withCap (usage (getD (k .states) 0 0)) k) o))) 1 (pin sales 0 ∷ unpin 0 ∷ []) Cap
     -- a checkpoint brings the published cap back
     ∷ wrongAt 2 (checkpoints (λ m c o. leaving (withCap 5) o)) 1 (Checkpoint ∷ []) Cap
     -- every call loses the cap; so does a refused one
     ∷ wrong (calls (ifAccepted (λ m c o. leaving (withCap 0) o))) 1 (Checkpoint ∷ []) Cap
-    ∷ wrong (refuses (withCap 1)) 1 (Unpin 0 ∷ []) Cap
+    ∷ wrong (refuses (withCap 1)) 1 (unpin 0 ∷ []) Cap
     ∷ []
 
 -- ---- set up

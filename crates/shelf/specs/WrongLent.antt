@@ -22,7 +22,7 @@ use Rattle.bufmodel.specs.Memory.{
   withInserted,
   withFlushed,
 }
-use Rattle.bufmodel.specs.Step.{Unpin, Checkpoint, LogInserted, LogFlushed}
+use Rattle.bufmodel.specs.Step.{Checkpoint, LogInserted, LogFlushed}
 use Rattle.bufmodel.specs.Lent.{Lent, opened, closed}
 use Rattle.shelf.specs.Tests.{
   Accepted,
@@ -45,7 +45,7 @@ use Rattle.shelf.specs.Tests.{
   Chains,
   Pages,
 }
-use Rattle.shelf.specs.Trial.{size, log, bench, sales, pin, slice, Wrong, wrong, wrongSetUp}
+use Rattle.shelf.specs.Trial.{size, log, bench, sales, pin, unpin, slice, Wrong, wrong, wrongSetUp}
 use Rattle.shelf.specs.Changes.{
   ifAccepted,
   calls,
@@ -82,11 +82,11 @@ wrongLent =
     ∷ wrong (lends (λ m. let k = opened m in closed (withInserted (k .control .flushed) (withFlushed (k .control .inserted) k)))) 1
     (LogInserted 200 ∷ []) Inserted
     -- a refused call writes into the pool
-    ∷ wrong (refuses (λ m. withPool (set (m .pool) 0 1) m)) 1 (Unpin 0 ∷ []) Same
+    ∷ wrong (refuses (λ m. withPool (set (m .pool) 0 1) m)) 1 (unpin 0 ∷ []) Same
     -- a refused call moves the hand
-    ∷ wrong (refuses (withHand 1)) 2 (Unpin 0 ∷ []) Same
+    ∷ wrong (refuses (withHand 1)) 2 (unpin 0 ∷ []) Same
     -- a refused call writes into the store
-    ∷ wrong (refuses (λ m. withStore (set (m .store) 8 1) m)) 1 (Unpin 0 ∷ []) Others
+    ∷ wrong (refuses (λ m. withStore (set (m .store) 8 1) m)) 1 (unpin 0 ∷ []) Others
     -- a refused log inserted sets inserted
     ∷ wrong (refuses (withInserted 50)) 1 (LogInserted 50 ∷ []) Inserted
     -- the pool's bytes grow
@@ -108,7 +108,7 @@ wrongLent =
     -- the empty free list's top is 32 one bits
     ∷ wrong (leaves (λ m. withControlWords (set (m .control) 2 (getD (m .control) 2 0 % 2 ^ 32)) m)) 1 (pin sales 0 ∷ []) FreeList
     -- a refused call leaves the answer slice as it was
-    ∷ wrong (slices (λ a r. cond (eqb (r .result) 0) (r .answer) a)) 1 (Unpin 0 ∷ []) Blank
+    ∷ wrong (slices (λ a r. cond (eqb (r .result) 0) (r .answer) a)) 1 (unpin 0 ∷ []) Blank
     -- a call that answers only done leaves the answer slice as it was
     ∷ wrong (slices (λ a r. cond (eqb (r .result) 0) a (r .answer))) 1 (LogFlushed 100 ∷ []) Answers
     ∷ []

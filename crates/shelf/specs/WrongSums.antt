@@ -16,7 +16,7 @@ use Rattle.bufmodel.specs.Memory.{Memory, capOf, wordOf, pageOf, withStates, wi
 use Rattle.bufmodel.specs.Sweep.{sweepAll}
 use Rattle.bufmodel.specs.Outcome.{two, done, refused}
 use Rattle.bufmodel.specs.Pin.{heldIn, pinTo}
-use Rattle.bufmodel.specs.Step.{Unpin, Read, Write, Flush, Checkpoint, Extend, Drop}
+use Rattle.bufmodel.specs.Step.{Read, Write, Checkpoint, Extend, Drop}
 use Rattle.bufmodel.specs.Lent.{Lent, opened, closed}
 use Rattle.shelf.specs.Statement.{Pool}
 use Rattle.shelf.specs.Tests.{Number, Others, Sums, Same, Bytes, Pages, Store}
@@ -29,6 +29,8 @@ use Rattle.shelf.specs.Trial.{
   sales,
   stock,
   pin,
+  unpin,
+  flush,
   peek,
   write,
   exchange,
@@ -72,7 +74,7 @@ stocked m = drop size (m .store)
 
 abbrev verifies : (List ℕ → Bool) → Pool
 verifies test =
-    pins (λ m c o. let taken = pinTo m (c .page) (heldIn m (c .page)) in cond (test (stocked m)) taken (refused 17 [] m))
+    pins (λ m c o. let taken = pinTo m (c .holder) (c .page) (heldIn m (c .page)) in cond (test (stocked m)) taken (refused 17 [] m))
 
 abbrev alwaysBad : Pool
 alwaysBad = pins (λ m c o. cond (sameFile (c .page .file) stock) (refused 17 [] m) o)
@@ -89,27 +91,27 @@ sweptBy m = let s = sweepAll (capOf m) (m .states) (m .control .hand) in withHan
 unfoldable pub wrongSums : List Wrong
 wrongSums =
     -- a flush sets no checksum
-    wrong (flushes (outAs 0 (λ page. page))) 1 (pin sales 0 ∷ write 0 77 100 ∷ Flush 0 ∷ []) Sums
+    wrong (flushes (outAs 0 (λ page. page))) 1 (pin sales 0 ∷ write 0 77 100 ∷ flush 0 ∷ []) Sums
     -- a checkpoint sets none
     ∷ wrong (checkpoints (outAs 0 (λ page. page))) 1 (pin sales 0 ∷ write 0 77 100 ∷ Checkpoint ∷ []) Sums
     -- a victim gets none
     ∷ wrong (pins (λ m c o. let o′ = outAs 0 (λ page. page) m c o in cond (eqb (said o 2) 1) o′ o)) 1 exchange Sums
     -- the page's place in the store is taken for its block number
-    ∷ wrong (flushes (outAs 1 (λ page. summedBy (checksum 1 page) page))) 1 (pin stock 0 ∷ write 0 77 100 ∷ Flush 0 ∷ []) Sums
+    ∷ wrong (flushes (outAs 1 (λ page. summedBy (checksum 1 page) page))) 1 (pin stock 0 ∷ write 0 77 100 ∷ flush 0 ∷ []) Sums
     -- the block number is left out
-    ∷ wrong (flushes (outAs 1 (λ page. summedBy (checksum 0 page) page))) 2 (pin sales 1 ∷ write 0 77 100 ∷ Flush 0 ∷ []) Sums
+    ∷ wrong (flushes (outAs 1 (λ page. summedBy (checksum 0 page) page))) 2 (pin sales 1 ∷ write 0 77 100 ∷ flush 0 ∷ []) Sums
     -- the high byte comes first
     ∷ wrong (flushes (outAs 0 (λ page. let s = checksum 0 page in paste 8 (s / 256 ∷ s % 256 ∷ []) page))) 1
-    (pin sales 0 ∷ write 0 77 100 ∷ Flush 0 ∷ []) Sums
+    (pin sales 0 ∷ write 0 77 100 ∷ flush 0 ∷ []) Sums
     -- the page's own two bytes count
     ∷ wrong (flushes (outAs 0 (λ page. summedBy (unclearedSum page) page))) 1
-    (pin sales 0 ∷ Write 0 8 (5 ∷ 6 ∷ []) 100 ∷ Flush 0 ∷ []) Sums
+    (pin sales 0 ∷ Write 0 0 8 (5 ∷ 6 ∷ []) 100 ∷ flush 0 ∷ []) Sums
     -- modulo 65,535, and not one more
-    ∷ wrong (flushes (outAs 0 (λ page. summedBy (checksum 0 page - 1) page))) 1 (pin sales 0 ∷ write 0 77 100 ∷ Flush 0 ∷ []) Sums
+    ∷ wrong (flushes (outAs 0 (λ page. summedBy (checksum 0 page - 1) page))) 1 (pin sales 0 ∷ write 0 77 100 ∷ flush 0 ∷ []) Sums
     -- a page of zeros is given a checksum
-    ∷ wrong (flushes (outAs 0 (λ page. summedBy (checksum 0 page) page))) 1 (pin sales 0 ∷ write 0 0 0 ∷ Flush 0 ∷ []) Store
+    ∷ wrong (flushes (outAs 0 (λ page. summedBy (checksum 0 page) page))) 1 (pin sales 0 ∷ write 0 0 0 ∷ flush 0 ∷ []) Store
     -- a page of zeros but for bytes 8 and 9 goes out as zeros
-    ∷ wrong (flushes (outAs 0 (λ page. replicate size 0))) 1 (pin sales 0 ∷ Write 0 8 (5 ∷ []) 0 ∷ Flush 0 ∷ []) Store
+    ∷ wrong (flushes (outAs 0 (λ page. replicate size 0))) 1 (pin sales 0 ∷ Write 0 0 8 (5 ∷ []) 0 ∷ flush 0 ∷ []) Store
     -- the block of an extend is given a checksum
     ∷ wrong (extends (outAs 1 (λ page. let blank = replicate size 0 in summedBy (checksum 0 blank) blank))) 1
     (Drop stock ∷ Extend stock ∷ []) Store
@@ -122,7 +124,7 @@ wrongSums =
 unfoldable pub wrongBytes : List Wrong
 wrongBytes =
     -- a flush puts the checksum there too
-    wrong (flushes (λ m c o. leaving (λ k. withPool (take size (k .store)) k) o)) 1 (pin sales 0 ∷ write 0 77 100 ∷ Flush 0 ∷ []) Pages
+    wrong (flushes (λ m c o. leaving (λ k. withPool (take size (k .store)) k) o)) 1 (pin sales 0 ∷ write 0 77 100 ∷ flush 0 ∷ []) Pages
     -- so does a checkpoint
     ∷ wrong (checkpoints (λ m c o. leaving (λ k. withPool (take size (k .store)) k) o)) 1
     (pin sales 0 ∷ write 0 77 100 ∷ Checkpoint ∷ []) Pages
@@ -130,13 +132,13 @@ wrongBytes =
     ∷ wrong (writes (λ m c o. leaving (λ k. withPool (sealed 0 (k .pool)) k) o)) 1 (pin sales 0 ∷ write 0 77 100 ∷ []) Pages
     -- a flush clears the two
     ∷ wrong (flushes (λ m c o. leaving (λ k. withPool (summedBy 0 (k .pool)) k) o)) 1
-    (pin sales 0 ∷ Write 0 8 (5 ∷ 6 ∷ []) 100 ∷ Flush 0 ∷ []) Pages
+    (pin sales 0 ∷ Write 0 0 8 (5 ∷ 6 ∷ []) 100 ∷ flush 0 ∷ []) Pages
     -- a write does not reach them
-    ∷ wrong (writes (λ m c o. leaving (λ k. withPool (summedBy 0 (k .pool)) k) o)) 1 (pin sales 0 ∷ Write 0 8 (5 ∷ 6 ∷ []) 100 ∷ []) Pages
+    ∷ wrong (writes (λ m c o. leaving (λ k. withPool (summedBy 0 (k .pool)) k) o)) 1 (pin sales 0 ∷ Write 0 0 8 (5 ∷ 6 ∷ []) 100 ∷ []) Pages
     -- a load clears them
     ∷ wrongOn (summed 1) (pins (λ m c o. leaving (λ k. withPool (summedBy 0 (k .pool)) k) o)) (pin stock 0 ∷ []) Pages
     -- a read fills others
-    ∷ wrong (reads (ifAccepted (λ m c o. filling (map suc (o .bytes)) o))) 1 (pin sales 0 ∷ Read 0 8 (0 ∷ 0 ∷ []) ∷ []) Bytes
+    ∷ wrong (reads (ifAccepted (λ m c o. filling (map suc (o .bytes)) o))) 1 (pin sales 0 ∷ Read 0 0 8 (0 ∷ 0 ∷ []) ∷ []) Bytes
     ∷ []
 
 -- ---- verified
@@ -184,7 +186,7 @@ wrongRefused =
     -- so is the drop of a file with a bad block
     ∷ wrongOn (unsummed 1) (drops (λ m c o. refused 17 [] m)) (Drop stock ∷ []) Number
     -- a victim is sought first
-    ∷ wrongOn (unsummed 1) (refuses sweptBy) (pin sales 0 ∷ Unpin 0 ∷ pin stock 0 ∷ []) Same
+    ∷ wrongOn (unsummed 1) (refuses sweptBy) (pin sales 0 ∷ unpin 0 ∷ pin stock 0 ∷ []) Same
     -- the block comes into the pool before it is refused
     ∷ wrongOn (unsummed 1) (refuses (λ m. withPool (stocked m) m)) (pin stock 0 ∷ []) Same
     -- the refused block gets its checksum
