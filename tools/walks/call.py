@@ -202,10 +202,21 @@ class Call(Subject):
             if known:
                 own = 'Rattle.%s.specs.' % self.core.crate
                 self.definitions.append((path.replace(own, 'Rattle.%s.' % self.core.crate), known))
-        sides = [words(side) for side in self.left.split(' ≡ ')]
-        if len(sides) != 2 or sides[0][1:2] != ['(r .%s)' % self.record_part] or sides[1][-1] != '.after':
+        sides = self.left.split(' ≡ ')
+        leaves, defined = memory_parts(sides[0]), words(sides[-1])
+        if len(sides) != 2 or leaves[0] != '(r .%s)' % self.record_part or defined[-1] != '.after':
             raise Unreadable('%s does not ensure what memory it leaves' % self.core.name)
-        self.lists, self.defined_by = len(sides[0]) - 2, sides[1][2:-1]
+        self.lists, self.defined_by = len(leaves) - 1, defined[2:-1]
+
+
+def memory_parts(text):
+    """The record and the lists of a memory: `memory RECORD LIST..`, or that with lists that a change lends beside them, each around what
+    was lent before: `withNAME LIST (MEMORY)`."""
+    head, *parts = words(text)
+    if not head.startswith('with'):
+        return parts
+    *beside, inner = parts
+    return memory_parts(inner[1:-1]) + beside
 
 
 def functions(crates, crate):

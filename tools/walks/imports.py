@@ -102,7 +102,7 @@ def functions(subject):
     return found + [
         (proofs + '.StoredLaws', 'mach back is-back %s stored' % fits),
         (proofs + '.LendLaws', 'borrowed lends comes-home'),
-        (proofs + '.WalkLaws', '_▹_ slice shared twice says-all says-none'),
+        (proofs + '.WalkLaws', '_▹_ Machines slice slice-typed shared twice says-all says-none'),
         ('%s.Key.{name as #%s}' % (own, dashed(subject.place.name)), None),
         (own + ' as f', None),
         (own + '.Statement as stated', None),

@@ -1,7 +1,7 @@
 """How a walk's text is laid out: lines of at most 140 characters, broken where few brackets are open."""
 WIDTH = 140  # a line's characters, the indentation among them
-LEAST = 70  # of a line that is broken so many are kept, the last space among them
-FILLED = 120  # short steps share a line up to so many
+LEAST = 90  # of a line that is broken so many are kept, the last space among them
+FILLED = 130  # short steps share a line up to so many
 
 
 def places(text):

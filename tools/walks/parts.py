@@ -1,5 +1,5 @@
 """Definitions that the files of all walks have, and how definitions are laid out."""
-from layout import WIDTH, wrap
+from layout import LEAST, WIDTH, wrap
 from terms import listed, over, paired, product, towered
 
 UNIVERSE = '{M : Type 1} (𝓤 : URA M) (H : Heap 𝓤) (A : Atoms 𝓤)'
@@ -7,7 +7,7 @@ OPENING = 'module _ %s (W : Given 𝓤 H A) (at-mem : Memory → SProp 𝓤) (ru
 ENTRY = '((lfts, shares, tt, x, at), tt)'
 CLAUSES = '(f.clauses 𝓤 H A at-mem run)'
 ENDS = 'ends-at 𝓤 H A f.ended stayed %s W %s' % (CLAUSES, ENTRY)
-ROOM = WIDTH - len('      ) $')  # of pairs in the exit's proof
+ROOM = WIDTH - LEAST  # of pairs in the exit's proof: a line is not broken within so many
 STATED = '''    walk : ent 𝓤 (onEntry 𝓤 H A f.signature lfts shares x at) (WpFn 𝓤 H C Λ code.function given Post)
     walk ='''
 
@@ -88,7 +88,7 @@ def tokens(subject):
 
 def machine_types(count):
     """The type of so many machine values."""
-    return product(['List Val'] * count)
+    return 'Machines %d' % count
 
 
 def machine_values(values):

@@ -60,7 +60,7 @@ class Slice:
 
     @property
     def typed(self):
-        return '(tt, (tt, (record { fits = room-%s .0 }, tt)))' % self.name
+        return '(slice-typed room-%s)' % self.name
 
     def stays(self, less=0):
         form = 'gave-slice (%d ∷ []) tt (plain (λ _. %s))' if self.mutable else 'stay-none-slice (%d ∷ []) tt (plain (λ _. %s)) yes'

@@ -1,4 +1,4 @@
--- The check of the books as the code makes it is the test of the definition.
+-- The check of the books as the code makes it, with that of the private counts, is the test of the definition.
 use mathlib.Core.Path.{_≡_, refl, sym, ap, _∙_}
 use mathlib.Core.Bool.{Bool, true, false, not, cond, _&&_}
 use mathlib.Core.Logic.{⊎-elim}
@@ -13,7 +13,7 @@ use Rattle.laws.specs.First.{found}
 use Rattle.laws.specs.Says.{Says}
 use Rattle.laws.specs.Sum.{count}
 use Rattle.laws.proofs.Every.{all-at, all-of}
-use Rattle.laws.proofs.Says.{says-it, says-le, says-lt, says-and, says-all, says-if}
+use Rattle.laws.proofs.Says.{says-it, says-eq, says-le, says-lt, says-and, says-all, says-if}
 use Rattle.laws.proofs.Sum.{count-not, count-all}
 use Rattle.laws.proofs.Tests.{and-true, and-left, and-right, never, same-tests, true-or-false}
 use Rattle.buftag.specs.declared.link.Link.{Link}
@@ -27,11 +27,12 @@ use Rattle.buftag.specs.Budget.{spend, spent}
 use Rattle.buftag.proofs.LinkLaws.{isEnd-true, holds-says}
 use Rattle.buftag.proofs.NameLaws.{says-same-name}
 use Rattle.buftag.proofs.TestLaws.{chains-say}
-use Rattle.bufmodel.specs.Word.{empty, dirty, bit, maxCap, soundCap, soundWord}
+use Rattle.bufmodel.specs.Word.{pins, empty, dirty, bit, maxCap, soundCap, soundWord}
 use Rattle.bufmodel.specs.Position.{position}
 use Rattle.bufmodel.specs.Rows.{placeOf}
 use Rattle.bufmodel.specs.Memory.{Memory, buffers, capOf, wordOf, nameOf, pageOf, withFree}
-use Rattle.bufmodel.specs.Books.{emptyAt, sound, BooksSound}
+use Rattle.bufmodel.specs.Counts.{holdersOf}
+use Rattle.bufmodel.specs.Books.{emptyAt, soundCounts, sound, BooksSound}
 use Rattle.bufmodel.proofs.BooksLaws.{says-off, says-found, books-say}
 use Rattle.bufbooks.specs.Words.{fine, fineAt, countsOf}
 use Rattle.bufbooks.specs.Lists.{listsTest}
@@ -208,9 +209,17 @@ module _ (m : Memory) where
         (says-and (says-and (says-and (says-and (says-le _ _) (says-le _ _)) (says-lt _ _)) (says-le _ _)) listed-says)
         (says-all (buffers m) (bufferTest m) Kept (λ i l. buffer-says i)))
 
-    tested-sound : Tested → BooksSound m
+    -- each word counts its buffer's holders
+    abbrev Counted : Type 0
+    Counted = (i : ℕ) → i < buffers m → pins (wordOf m i) ≡ holdersOf (m .counts) i
+
+    counted-says : Says (soundCounts m) Counted
+    unfolding soundCounts
+    counted-says = says-all (buffers m) _ _ (λ i l. says-eq _ _)
+
+    tested-sound : Tested → Counted → BooksSound m
     unfolding Tested Listed
-    tested-sound t =
+    tested-sound t counted =
         let lists = t .0 .1 in
         let fine = lists .0 .0 in
         let kept = t .1 in
@@ -230,6 +239,7 @@ module _ (m : Memory) where
           page = λ i l e. kept i l .1 e .1 .0;
           chains = chained .0;
           low = λ i l d. kept i l .1 (full-at i d) .0 d;
+          counts = counted;
         }
 
     sound-tested : BooksSound m → Tested
@@ -247,11 +257,15 @@ module _ (m : Memory) where
         ) in
         ((((k .cap, k .hand), k .log), ((fine, and-right stand linked chained), free-is (k .off) .shown (k .free))), kept)
 
-    pub books-is : booksTest m ≡ sound m
+    pub books-is : (booksTest m && soundCounts m) ≡ sound m
     books-is =
-        same-tests (booksTest m) (sound m)
-        (λ h. books-say m .shown (tested-sound (tested-says .holds h)))
-        (λ h. tested-says .shown (sound-tested (books-say m .holds h)))
+        let b = booksTest m in
+        let c = soundCounts m in
+        same-tests (b && c) (sound m)
+        (λ h. books-say m .shown (tested-sound (tested-says .holds (and-left b c h)) (counted-says .holds (and-right b c h))))
+        (λ h.
+        let k = books-say m .holds h in
+        and-true (tested-says .shown (sound-tested k)) (counted-says .shown (k .counts)))
 
 -- the test of a buffer does not look at the free links
 buffer-free : (m : Memory) (i : ℕ) → bufferTest (withFree [] m) i ≡ bufferTest m i
@@ -264,34 +278,30 @@ unfolding soundCap
 cap-few cap h = leb-true cap maxCap (and-right (leb 1 cap) (leb cap maxCap) h)
 
 -- ---- the tests, in the order in which the code makes them
-module _ (m : Memory) (fit : Fitting m) where
-  pub books-cap : soundCap (capOf m) ≡ false → false ≡ sound m
+module _ (m : Memory) where
+  pub books-cap : soundCap (capOf m) ≡ false → false ≡ booksTest m
   unfolding booksTest
-  books-cap h = rw (← books-is m fit, h)
+  books-cap h = rw h
 
   module _ (cap : soundCap (capOf m) ≡ true) where
-    pub books-hand : buffers m ≤ m .control .hand → false ≡ sound m
+    pub books-hand : buffers m ≤ m .control .hand → false ≡ booksTest m
     unfolding booksTest
-    books-hand h = rw (← books-is m fit, cap, le-ltb (m .control .hand) (buffers m) h)
+    books-hand h = rw (cap, le-ltb (m .control .hand) (buffers m) h)
 
     module _ (hand : m .control .hand < buffers m) where
-      pub books-log : m .control .inserted < m .control .flushed → false ≡ sound m
+      pub books-log : m .control .inserted < m .control .flushed → false ≡ booksTest m
       unfolding booksTest
-      books-log h =
-          rw
-          (← books-is m fit, cap, lt-ltb (m .control .hand) (buffers m) hand, lt-leb (m .control .flushed) (m .control .inserted) h)
+      books-log h = rw (cap, lt-ltb (m .control .hand) (buffers m) hand, lt-leb (m .control .flushed) (m .control .inserted) h)
 
       module _ (log : m .control .flushed ≤ m .control .inserted) where
         abbrev lists : Bool
         lists = listsTest (capOf m) (m .control .top) (m .states) (m .free) (m .heads) (m .chain)
 
-        books-rest : (lists && all (buffers m) (bufferTest m)) ≡ sound m
+        books-rest : (lists && all (buffers m) (bufferTest m)) ≡ booksTest m
         unfolding booksTest
-        books-rest =
-            rw
-            (← books-is m fit, cap, lt-ltb (m .control .hand) (buffers m) hand, le-leb (m .control .flushed) (m .control .inserted) log)
+        books-rest = rw (cap, lt-ltb (m .control .hand) (buffers m) hand, le-leb (m .control .flushed) (m .control .inserted) log)
 
-        pub books-lists : lists ≡ false → false ≡ sound m
+        pub books-lists : lists ≡ false → false ≡ booksTest m
         books-lists h = rw (← books-rest, h)
 
         buffers-free : all (buffers m) (bufferTest (withFree [] m)) ≡ all (buffers m) (bufferTest m)
@@ -300,5 +310,5 @@ module _ (m : Memory) (fit : Fitting m) where
             (λ h. all-of (bufferTest m) (buffers m) (λ i l. sym (buffer-free m i) ∙ all-at (bufferTest (withFree [] m)) (buffers m) h i l))
             (λ h. all-of (bufferTest (withFree [] m)) (buffers m) (λ i l. buffer-free m i ∙ all-at (bufferTest m) (buffers m) h i l))
 
-        pub books-buffers : lists ≡ true → all (buffers m) (bufferTest (withFree [] m)) ≡ sound m
+        pub books-buffers : lists ≡ true → all (buffers m) (bufferTest (withFree [] m)) ≡ booksTest m
         books-buffers h = rw (← books-rest, h) buffers-free

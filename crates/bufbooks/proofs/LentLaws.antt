@@ -1,7 +1,7 @@
 -- The places 1 and 2 over lent memory, in the order in which the code looks at them, and the check as a call.
-use Prim.Native.Nat.{ℕ, zero, suc, _^_, _<_}
+use Prim.Native.Nat.{ℕ, zero, suc, _*_, _^_, _≤_, _<_}
 use mathlib.Core.Path.{_≡_, refl, sym, ap, subst, _∙_}
-use mathlib.Core.Bool.{Bool, true, false, not}
+use mathlib.Core.Bool.{Bool, true, false, not, _&&_}
 use mathlib.Core.Logic.{_≢_, ⊎-elim}
 use mathlib.Core.List.{List, [], _∷_}
 use native.Mathlib.Omega.{arith}
@@ -9,24 +9,29 @@ use lib.Dec.{eqb, ltb}
 use lib.IntN.{ℤ, negsuc, pos}
 use lib.ListN.{length, getD}
 use borrow.Author.Tests.{eq-eqb, ne-eqb, ltb-false}
+use Rattle.laws.specs.Every.{all}
 use Rattle.laws.proofs.Tests.{never, true-or-false}
 use Rattle.buftag.specs.declared.link.Link.{Link}
 use Rattle.buftag.specs.declared.link.Link.the-variants.{To, Bad}
 use Rattle.buftag.specs.Link as link
 use Rattle.buftag.specs.Link.{linkOf, Links, step}
 use Rattle.bufmodel.specs.declared.control.Control.{Control}
-use Rattle.bufmodel.specs.Memory.{Memory, memory, size, withTop, withStore}
+use Rattle.bufmodel.specs.Memory.{Memory, memory, buffers, size, wordOf, withTop, withStore, withCounts}
 use Rattle.bufmodel.specs.Sizes.{sized, sizedFor}
-use Rattle.bufmodel.specs.Books.{emptyAt, soundWords, soundBlanks, soundFree, soundNames, soundPages, sound}
+use Rattle.bufmodel.specs.Word.{pins}
+use Rattle.bufmodel.specs.Counts.{maxHolders, holdersOf}
+use Rattle.bufmodel.specs.Books.{emptyAt, soundCounts, sound}
 use Rattle.bufmodel.specs.Outcome.{Outcome, place, refusalOf, checked, done, zeros}
 use Rattle.bufmodel.specs.Lent.{Lent, oneBits, controlWords, answerWords, topOf, controlOf, opened, ended, called}
 use Rattle.bufmodel.proofs.SizesLaws.{rows-say, sizes-say, sized-page}
 use Rattle.bufmodel.proofs.BooksLaws.{books-say}
 use Rattle.bufmodel.proofs.GoodLaws.{Good, good-sized, good-sound}
 use Rattle.bufmodel.proofs.OutcomeLaws.{refusal-past, refusal-at, refusal-none, outcome-number}
-use Rattle.bufbooks.specs.Buffers.{Fitting}
 use Rattle.bufmem.specs.Control.{topRead, controlRead}
+use Rattle.bufbooks.specs.Buffers.{Fitting, bufferTest}
+use Rattle.bufbooks.specs.Books.{booksTest}
 use Rattle.bufbooks.specs.Lent.{check}
+use Rattle.bufbooks.proofs.BooksLaws.{books-is}
 
 -- ---- the two places
 module _ (m : Memory) where
@@ -53,10 +58,13 @@ checked-same a b e alike =
     (λ s. sym (checked-sizes a (e ∙ s)) ∙ checked-sizes b s)
     (true-or-false (sized b))
 
--- ---- sizes that fit: the books are checked without the store
-pub sized-fits : (m : Memory) → sized m ≡ true → Fitting (withStore [] m)
+-- ---- sizes that fit: the books are checked without the store, and but for the last rule without the counts
+abbrev pub bare : Memory → Memory
+bare m = withCounts [] (withStore [] m)
+
+fits : (m : Memory) → sized m ≡ true → Fitting m
 unfolding sized
-sized-fits m h =
+fits m h =
     let s = sizes-say (size m) m .holds h in
     record {
       page = sized-page s .0;
@@ -70,10 +78,40 @@ sized-fits m h =
       rows = rows-say (m .rows) .shown (s .rows);
     }
 
--- the books say nothing of the store
-pub sound-store : (m : Memory) → sound (withStore [] m) ≡ sound m
-unfolding sound soundWords soundBlanks soundFree soundNames soundPages emptyAt
-sound-store m = refl
+books-bare : (m : Memory) → booksTest (bare m) ≡ booksTest m
+unfolding booksTest bufferTest emptyAt
+books-bare m = refl
+
+module _ (m : Memory) (s : sized m ≡ true) where
+  pub counts-fit : buffers m * maxHolders ≤ length (m .counts)
+  unfolding sized
+  counts-fit = omega (arith, sizes-say (size m) m .holds s .counts)
+
+  pub bare-fits : Fitting (bare m)
+  bare-fits =
+      let f = fits m s in
+      record {
+        page = f .page;
+        buckets = f .buckets;
+        few = f .few;
+        narrow = f .narrow;
+        names = f .names;
+        pool = f .pool;
+        free = f .free;
+        chain = f .chain;
+        rows = f .rows;
+      }
+
+  sound-both : (booksTest (bare m) && soundCounts m) ≡ sound m
+  sound-both = rw (books-bare m) (books-is m (fits m s))
+
+  pub sound-not : booksTest (bare m) ≡ false → sound m ≡ false
+  sound-not h = sym (rw h at sound-both)
+
+  -- once the other rules hold, the counts decide
+  pub sound-last : booksTest (bare m) ≡ true → all (buffers m) (λ i. eqb (pins (wordOf m i)) (holdersOf (m .counts) i)) ≡ sound m
+  unfolding soundCounts
+  sound-last h = rw h at sound-both
 
 -- ---- the top of the free list: a word that no link can be, read in two ways, makes the books unsound
 links-to : {ls : List ℤ} {w : ℕ} {xs : List ℕ} → Links ls (To w) xs → w < length ls
@@ -156,7 +194,8 @@ check-number m = outcome-number [] m (done zeros [] m) (checked m []) refl
 
 pub read-opened : (m : Lent)
     → checked
-    (memory (controlRead (m .control)) (m .states) (m .names) (m .pool) (m .free) (m .heads) (m .chain) (m .rows) (m .store)) []
+    (withCounts (m .counts)
+    (memory (controlRead (m .control)) (m .states) (m .names) (m .pool) (m .free) (m .heads) (m .chain) (m .rows) (m .store))) []
     ≡ checked (opened m) []
 unfolding controlRead controlOf opened
 read-opened m = checked-top (opened m) (getD (m .control) 2 0)
@@ -195,6 +234,7 @@ module _ (m : Lent) (answer : List ℕ) where
 
     -- the memory as the code reads it
     pub called-read : length (m .control) ≡ controlWords → {r : Control} → r ≡ controlRead (m .control)
-        → checked (memory r (m .states) (m .names) (m .pool) (m .free) (m .heads) (m .chain) (m .rows) (m .store)) []
+        → checked
+        (withCounts (m .counts) (memory r (m .states) (m .names) (m .pool) (m .free) (m .heads) (m .chain) (m .rows) (m .store))) []
         ≡ called check m [] answer .result
     called-read h e = rw e (read-opened m ∙ sym (called-checked h))

@@ -1,4 +1,4 @@
--- The check of the books as the code makes it.
+-- The check of the books as the code makes it, but for the private counts.
 use mathlib.Core.Bool.{Bool, _&&_}
 use lib.Dec.{leb, ltb}
 use Rattle.laws.specs.Every.{all}

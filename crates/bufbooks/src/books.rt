@@ -1,10 +1,10 @@
-// The books: the control record, the words and the lists, every buffer's page and name.
+// The books but for the private counts: the control record, the words and the lists, every buffer's page and name.
 
 ghost use mathlib.Core.Path.{_≡_};
 ghost use mathlib.Core.List.{[]};
 ghost use Rattle.bufmodel.specs.Memory.{memory};
-ghost use Rattle.bufmodel.specs.Books.{sound};
 ghost use Rattle.bufbooks.specs.Buffers.{Fitting};
+ghost use Rattle.bufbooks.specs.Books.{booksTest};
 use crate::buffers::buffers_ok;
 use crate::guesses::guess_rows;
 use crate::hashes::hash_rows;
@@ -12,7 +12,7 @@ use crate::lists::lists_ok;
 use bufmem::word::cap_ok;
 use bufmodel::control::Control;
 
-// Whether the books are sound.
+// Whether they are sound.
 pub fn books_ok(
     control: Control,
     states: &[u32],
@@ -26,7 +26,7 @@ pub fn books_ok(
     requires { ⌜ Fitting (memory control (now states) (now names) (now pool) (now free) (now heads) (now chain) (now rows) []) ⌝ }
     ensures { λ r.
         ⌜ r
-        ≡ sound
+        ≡ booksTest
         (memory control (now (states .entry)) (now (names .entry)) (now (pool .entry)) (now (free .entry)) (now (heads .entry))
         (now (chain .entry)) (now (rows .entry)) []) ⌝ }
 {

@@ -22,6 +22,7 @@ pub extern "C" fn bufbooks_check(
     chain: &[i32],
     rows: &[u32],
     store: &[u8],
+    counts: &[u16],
     answer: &[u64],
 ) -> u32
     ensures { λ r.
@@ -37,6 +38,7 @@ pub extern "C" fn bufbooks_check(
           chain = now (chain .entry);
           rows = now (rows .entry);
           store = now (store .entry);
+          counts = now (counts .entry);
         })
         [] (now (answer .entry)) .result ⌝ }
 {
@@ -56,5 +58,6 @@ pub extern "C" fn bufbooks_check(
         chain,
         rows,
         store,
+        counts,
     )
 }

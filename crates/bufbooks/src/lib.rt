@@ -2,6 +2,7 @@
 
 pub mod books;
 pub mod buffers;
+pub mod counts;
 pub mod export;
 pub mod guesses;
 pub mod hashes;

@@ -3,9 +3,10 @@
 ghost use mathlib.Core.Path.{_≡_};
 ghost use mathlib.Core.Bool.{_&&_};
 ghost use lib.Dec.{leb};
-ghost use Rattle.bufmodel.specs.Memory.{memory};
+ghost use Rattle.bufmodel.specs.Memory.{memory, withCounts};
 ghost use Rattle.bufmodel.specs.Sizes.{permitted, maxBuffers, maxBuckets, sized};
 use crate::sound_rows::rows_ok;
+use bufmem::counts::MAX_HOLDERS;
 use bufmem::rows::ROW_WORDS;
 use bufmem::rows::start_of;
 use bufmodel::control::Control;
@@ -26,7 +27,7 @@ pub fn size_ok(size: usize) -> bool
 }
 
 // Whether there may be so many buffers and buckets.
-fn counts_ok(buffers: usize, buckets: usize) -> bool
+fn buckets_ok(buffers: usize, buckets: usize) -> bool
     ensures { λ r. ⌜ r ≡ (leb 1 buffers && leb buffers maxBuffers && leb buffers buckets && leb buckets maxBuckets) ⌝ }
 {
     if buffers == 0 {
@@ -49,19 +50,21 @@ pub fn sizes_ok(
     chain: &[i32],
     rows: &[u32],
     store: &[u8],
+    counts: &[u16],
 ) -> bool
     ensures { λ r.
         ⌜ r
         ≡ sized
+        (withCounts (now (counts .entry))
         (memory control (now (states .entry)) (now (names .entry)) (now (pool .entry)) (now (free .entry)) (now (heads .entry))
-        (now (chain .entry)) (now (rows .entry)) (now (store .entry))) ⌝ }
+        (now (chain .entry)) (now (rows .entry)) (now (store .entry)))) ⌝ }
 {
     let n = states.len();
     let size = control.size;
     if !size_ok(size) {
         return false;
     }
-    if !counts_ok(n, heads.len()) {
+    if !buckets_ok(n, heads.len()) {
         return false;
     }
     if names.len() != NAME_WORDS * n {
@@ -74,6 +77,9 @@ pub fn sizes_ok(
         return false;
     }
     if chain.len() != n {
+        return false;
+    }
+    if counts.len() != n * MAX_HOLDERS {
         return false;
     }
     if !rows_ok(rows) {

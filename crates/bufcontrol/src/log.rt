@@ -1,7 +1,7 @@
 // The log's positions.
 
 ghost use mathlib.Core.Path.{_≡_};
-ghost use Rattle.bufmodel.specs.Memory.{memory};
+ghost use Rattle.bufmodel.specs.Memory.{memory, withCounts};
 ghost use Rattle.bufmodel.specs.Answer.{acceptedNumber, acceptedWords, acceptedOf};
 ghost use Rattle.bufmodel.specs.Calls.{logInserted, logFlushed};
 use bufcalls::log::log_flushed;
@@ -20,30 +20,36 @@ pub fn log_inserted_to(
     chain: &[i32],
     rows: &[u32],
     store: &[u8],
+    counts: &[u16],
     position: u64,
 ) -> Accepted
     ensures { λ r.
         ⌜ r
         ≡ acceptedOf
         (logInserted
+        (withCounts (now (counts .entry))
         (memory (now (control .entry)) (now (states .entry)) (now (names .entry)) (now (pool .entry)) (now (free .entry))
-        (now (heads .entry)) (now (chain .entry)) (now (rows .entry)) (now (store .entry))) position) ⌝ }
+        (now (heads .entry)) (now (chain .entry)) (now (rows .entry)) (now (store .entry)))) position) ⌝ }
     ensures { λ r.
         ⌜ acceptedNumber r
         ≡ logInserted
+        (withCounts (now (counts .entry))
         (memory (now (control .entry)) (now (states .entry)) (now (names .entry)) (now (pool .entry)) (now (free .entry))
-        (now (heads .entry)) (now (chain .entry)) (now (rows .entry)) (now (store .entry))) position .refusal ⌝ }
+        (now (heads .entry)) (now (chain .entry)) (now (rows .entry)) (now (store .entry)))) position .refusal ⌝ }
     ensures { λ r.
         ⌜ acceptedWords r
         ≡ logInserted
+        (withCounts (now (counts .entry))
         (memory (now (control .entry)) (now (states .entry)) (now (names .entry)) (now (pool .entry)) (now (free .entry))
-        (now (heads .entry)) (now (chain .entry)) (now (rows .entry)) (now (store .entry))) position .answer ⌝ }
+        (now (heads .entry)) (now (chain .entry)) (now (rows .entry)) (now (store .entry)))) position .answer ⌝ }
     ensures { λ _.
-        ⌜ memory (now (control .exit)) (now (states .entry)) (now (names .entry)) (now (pool .entry)) (now (free .entry))
-        (now (heads .entry)) (now (chain .entry)) (now (rows .entry)) (now (store .entry))
+        ⌜ withCounts (now (counts .entry))
+        (memory (now (control .exit)) (now (states .entry)) (now (names .entry)) (now (pool .entry)) (now (free .entry))
+        (now (heads .entry)) (now (chain .entry)) (now (rows .entry)) (now (store .entry)))
         ≡ logInserted
+        (withCounts (now (counts .entry))
         (memory (now (control .entry)) (now (states .entry)) (now (names .entry)) (now (pool .entry)) (now (free .entry))
-        (now (heads .entry)) (now (chain .entry)) (now (rows .entry)) (now (store .entry))) position .after ⌝ }
+        (now (heads .entry)) (now (chain .entry)) (now (rows .entry)) (now (store .entry)))) position .after ⌝ }
 {
     let end = log_inserted(
         *control,
@@ -55,6 +61,7 @@ pub fn log_inserted_to(
         chain,
         rows,
         store,
+        counts,
         position,
     );
     control.hand = end.control.hand;
@@ -75,30 +82,36 @@ pub fn log_flushed_to(
     chain: &[i32],
     rows: &[u32],
     store: &[u8],
+    counts: &[u16],
     position: u64,
 ) -> Accepted
     ensures { λ r.
         ⌜ r
         ≡ acceptedOf
         (logFlushed
+        (withCounts (now (counts .entry))
         (memory (now (control .entry)) (now (states .entry)) (now (names .entry)) (now (pool .entry)) (now (free .entry))
-        (now (heads .entry)) (now (chain .entry)) (now (rows .entry)) (now (store .entry))) position) ⌝ }
+        (now (heads .entry)) (now (chain .entry)) (now (rows .entry)) (now (store .entry)))) position) ⌝ }
     ensures { λ r.
         ⌜ acceptedNumber r
         ≡ logFlushed
+        (withCounts (now (counts .entry))
         (memory (now (control .entry)) (now (states .entry)) (now (names .entry)) (now (pool .entry)) (now (free .entry))
-        (now (heads .entry)) (now (chain .entry)) (now (rows .entry)) (now (store .entry))) position .refusal ⌝ }
+        (now (heads .entry)) (now (chain .entry)) (now (rows .entry)) (now (store .entry)))) position .refusal ⌝ }
     ensures { λ r.
         ⌜ acceptedWords r
         ≡ logFlushed
+        (withCounts (now (counts .entry))
         (memory (now (control .entry)) (now (states .entry)) (now (names .entry)) (now (pool .entry)) (now (free .entry))
-        (now (heads .entry)) (now (chain .entry)) (now (rows .entry)) (now (store .entry))) position .answer ⌝ }
+        (now (heads .entry)) (now (chain .entry)) (now (rows .entry)) (now (store .entry)))) position .answer ⌝ }
     ensures { λ _.
-        ⌜ memory (now (control .exit)) (now (states .entry)) (now (names .entry)) (now (pool .entry)) (now (free .entry))
-        (now (heads .entry)) (now (chain .entry)) (now (rows .entry)) (now (store .entry))
+        ⌜ withCounts (now (counts .entry))
+        (memory (now (control .exit)) (now (states .entry)) (now (names .entry)) (now (pool .entry)) (now (free .entry))
+        (now (heads .entry)) (now (chain .entry)) (now (rows .entry)) (now (store .entry)))
         ≡ logFlushed
+        (withCounts (now (counts .entry))
         (memory (now (control .entry)) (now (states .entry)) (now (names .entry)) (now (pool .entry)) (now (free .entry))
-        (now (heads .entry)) (now (chain .entry)) (now (rows .entry)) (now (store .entry))) position .after ⌝ }
+        (now (heads .entry)) (now (chain .entry)) (now (rows .entry)) (now (store .entry)))) position .after ⌝ }
 {
     let end = log_flushed(
         *control,
@@ -110,6 +123,7 @@ pub fn log_flushed_to(
         chain,
         rows,
         store,
+        counts,
         position,
     );
     control.hand = end.control.hand;
@@ -138,50 +152,59 @@ pub fn log_through(
     chain: &[i32],
     rows: &[u32],
     store: &[u8],
+    counts: &[u16],
     position: u64,
 ) -> LogEnd
     ensures { λ r.
         ⌜ r .inserted
         ≡ acceptedOf
         (logInserted
+        (withCounts (now (counts .entry))
         (memory control (now (states .entry)) (now (names .entry)) (now (pool .entry)) (now (free .entry)) (now (heads .entry))
-        (now (chain .entry)) (now (rows .entry)) (now (store .entry))) position) ⌝ }
+        (now (chain .entry)) (now (rows .entry)) (now (store .entry)))) position) ⌝ }
     ensures { λ r.
         ⌜ acceptedNumber (r .inserted)
         ≡ logInserted
+        (withCounts (now (counts .entry))
         (memory control (now (states .entry)) (now (names .entry)) (now (pool .entry)) (now (free .entry)) (now (heads .entry))
-        (now (chain .entry)) (now (rows .entry)) (now (store .entry))) position .refusal ⌝ }
+        (now (chain .entry)) (now (rows .entry)) (now (store .entry)))) position .refusal ⌝ }
     ensures { λ r.
         ⌜ acceptedWords (r .inserted)
         ≡ logInserted
+        (withCounts (now (counts .entry))
         (memory control (now (states .entry)) (now (names .entry)) (now (pool .entry)) (now (free .entry)) (now (heads .entry))
-        (now (chain .entry)) (now (rows .entry)) (now (store .entry))) position .answer ⌝ }
+        (now (chain .entry)) (now (rows .entry)) (now (store .entry)))) position .answer ⌝ }
     ensures { λ r.
         ⌜ r .flushed
         ≡ acceptedOf
         (logFlushed
         (logInserted
+        (withCounts (now (counts .entry))
         (memory control (now (states .entry)) (now (names .entry)) (now (pool .entry)) (now (free .entry)) (now (heads .entry))
-        (now (chain .entry)) (now (rows .entry)) (now (store .entry))) position .after) position) ⌝ }
+        (now (chain .entry)) (now (rows .entry)) (now (store .entry)))) position .after) position) ⌝ }
     ensures { λ r.
         ⌜ acceptedNumber (r .flushed)
         ≡ logFlushed
         (logInserted
+        (withCounts (now (counts .entry))
         (memory control (now (states .entry)) (now (names .entry)) (now (pool .entry)) (now (free .entry)) (now (heads .entry))
-        (now (chain .entry)) (now (rows .entry)) (now (store .entry))) position .after) position .refusal ⌝ }
+        (now (chain .entry)) (now (rows .entry)) (now (store .entry)))) position .after) position .refusal ⌝ }
     ensures { λ r.
         ⌜ acceptedWords (r .flushed)
         ≡ logFlushed
         (logInserted
+        (withCounts (now (counts .entry))
         (memory control (now (states .entry)) (now (names .entry)) (now (pool .entry)) (now (free .entry)) (now (heads .entry))
-        (now (chain .entry)) (now (rows .entry)) (now (store .entry))) position .after) position .answer ⌝ }
+        (now (chain .entry)) (now (rows .entry)) (now (store .entry)))) position .after) position .answer ⌝ }
     ensures { λ r.
-        ⌜ memory (r .control) (now (states .entry)) (now (names .entry)) (now (pool .entry)) (now (free .entry))
-        (now (heads .entry)) (now (chain .entry)) (now (rows .entry)) (now (store .entry))
+        ⌜ withCounts (now (counts .entry))
+        (memory (r .control) (now (states .entry)) (now (names .entry)) (now (pool .entry)) (now (free .entry))
+        (now (heads .entry)) (now (chain .entry)) (now (rows .entry)) (now (store .entry)))
         ≡ logFlushed
         (logInserted
+        (withCounts (now (counts .entry))
         (memory control (now (states .entry)) (now (names .entry)) (now (pool .entry)) (now (free .entry)) (now (heads .entry))
-        (now (chain .entry)) (now (rows .entry)) (now (store .entry))) position .after) position .after ⌝ }
+        (now (chain .entry)) (now (rows .entry)) (now (store .entry)))) position .after) position .after ⌝ }
 {
     let mut lent = control;
     let inserted = log_inserted_to(
@@ -194,6 +217,7 @@ pub fn log_through(
         chain,
         rows,
         store,
+        counts,
         position,
     );
     let flushed = log_flushed_to(
@@ -206,6 +230,7 @@ pub fn log_through(
         chain,
         rows,
         store,
+        counts,
         position,
     );
     LogEnd {

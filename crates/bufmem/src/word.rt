@@ -3,6 +3,7 @@
 ghost use mathlib.Core.Path.{_≡_};
 ghost use mathlib.Core.Bool.{true, false, not, _&&_};
 ghost use Prim.Native.Nat.{_^_, _<_};
+ghost use Rattle.bufmodel.specs.Counts.{maxHolders};
 ghost use Rattle.bufmodel.specs.Word.{
   pins,
   usage,
@@ -13,7 +14,6 @@ ghost use Rattle.bufmodel.specs.Word.{
   pinned,
   soundCap,
   soundWord,
-  maxPins,
   pinMore,
   pinLess,
   useLess,
@@ -24,9 +24,6 @@ ghost use Rattle.bufmodel.specs.Word.{
 
 // The greatest cap.
 const MAX_CAP: usize = 15;
-
-// The greatest pin count.
-pub const MAX_PINS: u32 = 262143;
 
 // One pin, and one use, as parts of a word.
 const PIN: u32 = 1;
@@ -102,9 +99,9 @@ pub fn is_full(cap: u32, w: u32) -> bool
     ((flags == CLEAN) | (flags == DIRTY)) & (w / USE % 16 <= cap)
 }
 
-// One pin more, and one use more where they are below the cap.
+// One pin more, of a holder that had none, and one use more where they are below the cap.
 pub fn pin_more(cap: u32, w: u32) -> u32
-    requires { ⌜ (soundWord cap w ≡ true) × (empty w ≡ false) × (pins w < maxPins) ⌝ }
+    requires { ⌜ (soundWord cap w ≡ true) × (empty w ≡ false) × (pins w < maxHolders) ⌝ }
     ensures { λ r. ⌜ r ≡ pinMore cap w ⌝ }
 {
     if w / USE % 16 < cap {

@@ -1,9 +1,9 @@
 -- A pin of a page that no buffer has: the top of the free list takes it, or a victim.
 use Prim.Native.Nat.{ℕ}
-use mathlib.Core.Path.{_≡_, refl, sym, _∙_, subst}
+use mathlib.Core.Path.{_≡_, refl, sym, ap₂, _∙_, subst}
 use mathlib.Core.Bool.{false}
 use mathlib.Core.Logic.{⊎-elim}
-use mathlib.Core.List.{[], _∷_}
+use mathlib.Core.List.{List, [], _∷_}
 use types.Run.{OneOf}
 use denote.Enum.Declared.{tagOf}
 use Rattle.laws.specs.First.{found}
@@ -14,7 +14,8 @@ use Rattle.buftag.specs.declared.name.PageName.{PageName}
 use Rattle.buftag.specs.Link.{linkOf}
 use Rattle.buftag.proofs.TagLaws.{no-tag}
 use Rattle.bufmodel.specs.Rows.{placeOf}
-use Rattle.bufmodel.specs.Memory.{Memory, capOf}
+use Rattle.bufmodel.specs.Memory.{Memory, capOf, withCounts}
+use Rattle.bufmodel.specs.Counts.{setCount}
 use Rattle.bufmodel.specs.Sweep.{sweepAll}
 use Rattle.bufmodel.specs.Moves.{loadAt}
 use Rattle.bufmodel.specs.Answer.{pinnedAt, pinnedOf}
@@ -33,18 +34,21 @@ top-ends m k l e tag =
     (λ h. absurd (no-tag (subst (λ (x : Link). OneOf (1 ∷ 2 ∷ 3 ∷ []) (tagOf the-type x)) (e ∙ h .1) tag)))
     (top-none m k)
 
-module _ (m : Memory) (n : PageName) where
+module _ (m : Memory) (h : ℕ) (n : PageName) where
   pub new-swept : linkOf (m .control .top) ≡ End
-      → pinNew m n (linkOf (m .control .top)) ≡ pinSwept m n (sweepAll (capOf m) (m .states) (m .control .hand))
+      → pinNew m h n (linkOf (m .control .top)) ≡ pinSwept m h n (sweepAll (capOf m) (m .states) (m .control .hand))
   unfolding pinNew
   new-swept e = rw e
 
   module _ (i : ℕ) (top : linkOf (m .control .top) ≡ To i) where
     pub new-answer : loadedAt i false 0
-        ≡ pinnedOf (pinNew m n (linkOf (m .control .top)))
+        ≡ pinnedOf (pinNew m h n (linkOf (m .control .top)))
     unfolding pinNew pinFree pinnedAt
     new-answer = rw top
 
-    pub new-after : (g : ℕ) → placeOf (m .rows) n ≡ found g → loadAt m n i g ≡ pinNew m n (linkOf (m .control .top)) .after
+    pub new-after : (g : ℕ) → placeOf (m .rows) n ≡ found g → {o : Memory} → o ≡ loadAt m n i g
+        → {left : List ℕ} → left ≡ setCount (m .counts) i h 1
+        → withCounts left o ≡ pinNew m h n (linkOf (m .control .top)) .after
     unfolding pinNew pinFree
-    new-after g place = sym (load-is m n i g top place) ∙ rw top refl
+    new-after g place e q =
+        ap₂ (λ (cs : List ℕ) (x : Memory). withCounts cs x) q (e ∙ sym (load-is m n i g top place)) ∙ rw top refl

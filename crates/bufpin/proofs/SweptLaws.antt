@@ -90,7 +90,7 @@ module _ (m : Memory) (k : Good m) where
       let b = k .books in
       like-good m k (end .hand) (m .control .inserted) (m .control .flushed) (end .words) (m .pool) (m .store)
       (swept-from .hand-lt) (b .log) (swept-from .same-length) refl refl (λ i l. kept i l .1) (λ i l. kept i l .0)
-      (λ i l d. b .low i l (sym (less-dirty (swept-from .each i)) ∙ d))
+      (λ i l d. b .low i l (sym (less-dirty (swept-from .each i)) ∙ d)) (λ i l. swept-from .each i .same-pins)
 
   -- the victim of a sweep with no buffer empty
   pub swept-full : (i : ℕ) → i < buffers m → emptyAt m i ≡ false → empty (getD (end .words) i 0) ≡ false

@@ -20,7 +20,7 @@ use Rattle.bufmodel.specs.Rows.{placeOf, storeBlocks}
 use Rattle.bufmodel.specs.Memory.{Memory, buffers, size, capOf, wordOf, nameOf, pageOf, withStates}
 use Rattle.bufmodel.specs.Books.{emptyAt}
 use Rattle.bufmodel.specs.Moves.{putAt, writeBack}
-use Rattle.bufmodel.proofs.WordLaws.{flags-pack, usage-pack, pins-lt, usage-lt, Held, held-by, held-sound, held-lt, dirty-is}
+use Rattle.bufmodel.proofs.WordLaws.{flags-pack, usage-pack, pins-pack, pins-lt, usage-lt, Held, held-by, held-sound, held-lt, dirty-is}
 use Rattle.bufmodel.proofs.ChecksumLaws.{length-sealed}
 use Rattle.bufmodel.proofs.RowsLaws.{place-in}
 use Rattle.bufmodel.proofs.SizesLaws.{sized-least}
@@ -36,7 +36,11 @@ sound-parts cap w s e = rw e at s
 pub sound-few : (cap w : ℕ) → soundWord cap w ≡ true → empty w ≡ false → usage w ≤ cap
 sound-few cap w s e = leb-true (usage w) cap (and-left (leb (usage w) cap) (soundFlags w) (sound-parts cap w s e))
 
--- made clean, it is the word of a buffer in use, and not dirty
+-- made clean, it has its pins, is the word of a buffer in use, and not dirty
+clean-pins : (w : ℕ) → pins (makeClean w) ≡ pins w
+unfolding makeClean
+clean-pins w = pins-pack (pins w) (usage w) cleanFlags (pins-lt w) (usage-lt w)
+
 clean-held : (cap w : ℕ) → usage w ≤ cap → Held cap (makeClean w) × (dirty (makeClean w) ≡ false)
 unfolding makeClean
 clean-held cap w few =
@@ -105,6 +109,11 @@ module _ (m : Memory) (k : Good m) (i : ℕ) (l : i < buffers m) (full : emptyAt
         (λ e. never (rw e at d) (ap dirty own ∙ h .1))
         (λ ne. b .low j n (sym (ap dirty (getD-set-other (m .states) i j (makeClean w) 0 ne)) ∙ d))
         (eq-or-ne j i))
+        (λ j n.
+        ⊎-elim
+        (λ e. rw e (ap pins own ∙ clean-pins w))
+        (λ ne. ap pins (getD-set-other (m .states) i j (makeClean w) 0 ne))
+        (eq-or-ne j i))
 
   pub back-good : Good (writeBack m i)
   back-good =
@@ -122,6 +131,15 @@ module _ (m : Memory) (k : Good m) (i : ℕ) (l : i < buffers m) (full : emptyAt
       ⊎-elim
       (λ d. rw d (ap empty own ∙ clean-held (capOf m) w few .0 .full))
       (λ d. rw d (ap empty (getD-set-same (m .states) i w 0 l) ∙ full))
+      (true-or-false (dirty w))
+
+  -- with as many pins
+  pub back-pins : pins (wordOf (writeBack m i) i) ≡ pins w
+  unfolding writeBack
+  back-pins =
+      ⊎-elim
+      (λ d. rw d (ap pins own ∙ clean-pins w))
+      (λ d. rw d (ap pins (getD-set-same (m .states) i w 0 l)))
       (true-or-false (dirty w))
 
   pub back-buffers : buffers (writeBack m i) ≡ buffers m

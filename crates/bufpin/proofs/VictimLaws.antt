@@ -13,8 +13,9 @@ use Rattle.buftag.specs.declared.name.PageName.{PageName}
 use Rattle.buftag.specs.declared.number.BufferNumber.{BufferNumber}
 use Rattle.buftag.specs.Link.{linkOf}
 use Rattle.bufmodel.specs.declared.answer.Pinned as answer
-use Rattle.bufmodel.specs.Word.{empty, dirty}
-use Rattle.bufmodel.specs.Memory.{Memory, capOf, wordOf, withStates, withHand}
+use Rattle.bufmodel.specs.Word.{pinned, empty, dirty}
+use Rattle.bufmodel.specs.Memory.{Memory, capOf, wordOf, withStates, withCounts, withHand}
+use Rattle.bufmodel.specs.Counts.{setCount}
 use Rattle.bufmodel.specs.Sizes.{sized}
 use Rattle.bufmodel.specs.Books.{sound}
 use Rattle.bufmodel.specs.Sweep.{Swept, sweepAll}
@@ -56,17 +57,17 @@ wrote-ind : (t : Bool) → t ≡ eqb (ind t) 1
 wrote-ind true = refl
 wrote-ind false = refl
 
-module _ (m : Memory) (k : Good m) (n : PageName) where
+module _ (m : Memory) (k : Good m) (holder : ℕ) (n : PageName) where
   abbrev end : Swept
   end = sweepAll (capOf m) (m .states) (m .control .hand)
 
   -- none is found
   pub swept-refused : end .victim ≡ missing
-      → answer.the-variants.Refused 6 ≡ pinnedOf (pinSwept m n end)
+      → answer.the-variants.Refused 6 ≡ pinnedOf (pinSwept m holder n end)
   unfolding pinSwept pinVictim pinnedAt
   swept-refused e = rw e
 
-  pub swept-still : end .victim ≡ missing → {states : List ℕ} → states ≡ end .words → withStates states m ≡ pinSwept m n end .after
+  pub swept-still : end .victim ≡ missing → {states : List ℕ} → states ≡ end .words → withStates states m ≡ pinSwept m holder n end .after
   unfolding pinSwept pinVictim
   swept-still e q = rw e (ap (λ (x : List ℕ). withStates x m) (q ∙ swept-stuck m k (swept-pinned m k e) .1))
 
@@ -81,21 +82,25 @@ module _ (m : Memory) (k : Good m) (n : PageName) where
 
     pub swept-asks : linkOf (m .control .top) ≡ End
         → (sized after ≡ true) × (sound after ≡ true) × (v < length states) × (empty (getD states v 0) ≡ false)
+        × (pinned (getD states v 0) ≡ false)
     swept-asks top =
-        let l = swept-from m k .taken v e .0 in (
+        let t = swept-from m k .taken v e in
+        let l = t .0 in (
           good-sized after good,
           good-sound after good,
           rw (q, swept-from m k .same-length) l,
           rw q (swept-full m k v l (top-end m k top v l)),
+          rw q (t .1),
         )
 
     pub swept-answer : {probes : ℕ} → end .probes ≡ probes
-        → loadedAt v (dirty (getD states v 0)) probes ≡ pinnedOf (pinSwept m n end)
+        → loadedAt v (dirty (getD states v 0)) probes ≡ pinnedOf (pinSwept m holder n end)
     unfolding pinSwept pinVictim pinnedAt
     swept-answer p =
         rw (e, ← p)
         (ap (λ t. loadedAt v t (end .probes)) (rw q (less-dirty (swept-from m k .each v) ∙ wrote-ind (dirty (wordOf m v)))))
 
-    pub swept-after : load (release (writeBack after v) v) n ≡ pinSwept m n end .after
+    pub swept-after : withCounts (setCount (m .counts) v holder 1) (load (release (writeBack after v) v) n)
+        ≡ pinSwept m holder n end .after
     unfolding pinSwept pinVictim
     swept-after = rw (e, ← h, q)

@@ -10,7 +10,8 @@ use Rattle.bufmodel.specs.Sizes.{sizedFor}
 use Rattle.bufmodel.specs.Outcome.{Outcome, outcome}
 use Rattle.bufmodel.specs.Lent.{Lent, opened, ended}
 use Rattle.bufmodel.specs.Pin.{pin}
-use Rattle.bufmodel.specs.Calls.{setUp, fresh, unpin, read, write, flush, checkpoint, peek, extend, dropFile, logInserted, logFlushed}
+use Rattle.bufmodel.specs.Calls.{setUp, fresh, unpin, read, write, flush, giveBack, checkpoint, peek, extend, dropFile}
+use Rattle.bufmodel.specs.Calls.{logInserted, logFlushed}
 use Rattle.bufmodel.proofs.AnswerLaws.{end-first}
 use Rattle.bufmodel.proofs.AnsweredLaws.{by-case}
 use Rattle.bufpool.proofs.ExportLaws.{Early, under, endedBy}
@@ -27,29 +28,34 @@ module _ (p at cap : ℕ) where
   unfolding setUp fresh sizedFor opened
   set-up-read l c = ended-like l _ (under c l) (opened l) _
 
--- ---- calls on a buffer
-module _ (i : ℕ) where
-  pub unpin-early : Early (λ m. unpin m i) []
+-- ---- calls of a holder on a buffer
+module _ (h i : ℕ) where
+  pub unpin-early : Early (λ m. unpin m h i) []
   unfolding unpin
-  unpin-early m k e h = end-first m _ [] _ e h
+  unpin-early m k e ne = end-first m _ [] _ e ne
 
-  pub flush-early : Early (λ m. flush m i) []
+  pub flush-early : Early (λ m. flush m h i) []
   unfolding flush
-  flush-early m k e h = end-first m _ [] _ e h
+  flush-early m k e ne = end-first m _ [] _ e ne
 
   module _ (from : ℕ) (bytes : List ℕ) where
-    pub read-early : Early (λ m. read m i from bytes) bytes
+    pub read-early : Early (λ m. read m h i from bytes) bytes
     unfolding read
-    read-early m k e h = end-first m _ bytes _ e h
+    read-early m k e ne = end-first m _ bytes _ e ne
 
     -- the memory stays
-    pub read-left : (m : Memory) → m ≡ read m i from bytes .after
+    pub read-left : (m : Memory) → m ≡ read m h i from bytes .after
     unfolding read
     read-left m = by-case (λ o. m ≡ o .after) _ bytes m _ refl (λ j. refl)
 
-    pub write-early : (at : ℕ) → Early (λ m. write m i from bytes at) bytes
+    pub write-early : (at : ℕ) → Early (λ m. write m h i from bytes at) bytes
     unfolding write
-    write-early at m k e h = end-first m _ bytes _ e h
+    write-early at m k e ne = end-first m _ bytes _ e ne
+
+-- ---- give back
+pub give-early : (h : ℕ) → Early (λ m. giveBack m h) []
+unfolding giveBack
+give-early h m k e ne = end-first m _ [] _ e ne
 
 -- ---- checkpoint
 pub checkpoint-early : Early checkpoint []
@@ -86,6 +92,6 @@ module _ (n : PageName) where
   unfolding peek
   peek-left m = by-case (λ o. m ≡ o .after) _ [] m _ refl (λ j. refl)
 
-  pub pin-early : Early (λ m. pin m n) []
+  pub pin-early : (h : ℕ) → Early (λ m. pin m h n) []
   unfolding pin
-  pin-early m k e h = end-first m _ [] _ e h
+  pin-early h m k e ne = end-first m _ [] _ e ne

@@ -8,7 +8,7 @@ use lib.ListN.{length}
 use borrow.Author.Tests.{eq-eqb, ne-eqb}
 use Rattle.laws.proofs.Tests.{eq-or-ne}
 use Rattle.bufmodel.specs.declared.control.Control.{Control}
-use Rattle.bufmodel.specs.Memory.{Memory, memory}
+use Rattle.bufmodel.specs.Memory.{Memory, memory, withCounts}
 use Rattle.bufmodel.specs.Outcome.{Outcome, checked, refused, zeros}
 use Rattle.bufmodel.specs.Lent.{Lent, Called, controlWords, answerWords, wordsOf, opened, closed, ended, called}
 use Rattle.bufmodel.proofs.GoodLaws.{Good, passed-good}
@@ -20,11 +20,12 @@ use Rattle.bufpool.specs.Lent.{lent, ends, keptWords}
 
 -- the lent memory with a control record of its own
 abbrev pub under : Control → Lent → Memory
-under c l = memory c (l .states) (l .names) (l .pool) (l .free) (l .heads) (l .chain) (l .rows) (l .store)
+under c l =
+    withCounts (l .counts) (memory c (l .states) (l .names) (l .pool) (l .free) (l .heads) (l .chain) (l .rows) (l .store))
 
 -- the lent memory with the control words ws and the other parts of m
 abbrev pub over : List ℕ → Memory → Lent
-over ws m = lent ws (m .states) (m .names) (m .pool) (m .free) (m .heads) (m .chain) (m .rows) (m .store)
+over ws m = lent ws (m .states) (m .names) (m .pool) (m .free) (m .heads) (m .chain) (m .rows) (m .store) (m .counts)
 
 -- ---- a call as the exports need it
 -- the places 1 and 2 refuse it with their number

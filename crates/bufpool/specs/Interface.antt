@@ -3,4 +3,4 @@
 use Prim.Native.Nat.{ℕ}
 
 abbrev pub interface : ℕ
-interface = 3
+interface = 4

@@ -7,8 +7,8 @@ use lib.IntN.{ℤ}
 use Rattle.bufmodel.specs.declared.control.Control.{Control}
 use Rattle.bufmodel.specs.Lent.{Lent, Called, wordsOf}
 
-abbrev pub lent : List ℕ → List ℕ → List ℕ → List ℕ → List ℤ → List ℤ → List ℤ → List ℕ → List ℕ → Lent
-lent control states names pool free heads chain rows store =
+abbrev pub lent : List ℕ → List ℕ → List ℕ → List ℕ → List ℤ → List ℤ → List ℤ → List ℕ → List ℕ → List ℕ → Lent
+lent control states names pool free heads chain rows store counts =
     record {
       control = control;
       states = states;
@@ -19,6 +19,7 @@ lent control states names pool free heads chain rows store =
       chain = chain;
       rows = rows;
       store = store;
+      counts = counts;
     }
 
 abbrev pub ends : ℕ → List ℕ → List ℕ → Lent → Called

@@ -13,6 +13,7 @@ use bufcalls::flush::flush_buffer;
 use bufmem::control::ANSWER_WORDS;
 use bufmem::control::CONTROL_WORDS;
 use bufmem::control::read_control;
+use bufmodel::holder::Holder;
 use bufmodel::refusal::SIZES;
 use buftag::number::BufferNumber;
 
@@ -28,16 +29,19 @@ pub extern "C" fn bufpool_flush(
     chain: &[i32],
     rows: &[u32],
     store: &mut [u8],
+    counts: &[u16],
+    holder: u64,
     buffer: u64,
     answer: &mut [u64],
 ) -> u32
     ensures { λ r.
         ⌜ ends r (now (answer .exit)) []
         (lent (now (control .exit)) (now (states .exit)) (now (names .entry)) (now (pool .entry)) (now (free .entry))
-        (now (heads .entry)) (now (chain .entry)) (now (rows .entry)) (now (store .exit)))
-        ≡ called (λ m. flush m buffer)
+        (now (heads .entry)) (now (chain .entry)) (now (rows .entry)) (now (store .exit)) (now (counts .entry)))
+        ≡ called (λ m. flush m holder buffer)
         (lent (now (control .entry)) (now (states .entry)) (now (names .entry)) (now (pool .entry)) (now (free .entry))
-        (now (heads .entry)) (now (chain .entry)) (now (rows .entry)) (now (store .entry))) [] (now (answer .entry)) ⌝ }
+        (now (heads .entry)) (now (chain .entry)) (now (rows .entry)) (now (store .entry)) (now (counts .entry))) []
+        (now (answer .entry)) ⌝ }
 {
     if answer.len() != ANSWER_WORDS {
         return SIZES;
@@ -55,6 +59,8 @@ pub extern "C" fn bufpool_flush(
         chain,
         rows,
         store,
+        counts,
+        Holder(holder as usize),
         BufferNumber(buffer as usize),
     );
     let answered = end.answer;
@@ -75,15 +81,17 @@ pub extern "C" fn bufpool_checkpoint(
     chain: &[i32],
     rows: &[u32],
     store: &mut [u8],
+    counts: &[u16],
     answer: &mut [u64],
 ) -> u32
     ensures { λ r.
         ⌜ ends r (now (answer .exit)) []
         (lent (now (control .exit)) (now (states .exit)) (now (names .entry)) (now (pool .entry)) (now (free .entry))
-        (now (heads .entry)) (now (chain .entry)) (now (rows .entry)) (now (store .exit)))
+        (now (heads .entry)) (now (chain .entry)) (now (rows .entry)) (now (store .exit)) (now (counts .entry)))
         ≡ called (λ m. checkpoint m)
         (lent (now (control .entry)) (now (states .entry)) (now (names .entry)) (now (pool .entry)) (now (free .entry))
-        (now (heads .entry)) (now (chain .entry)) (now (rows .entry)) (now (store .entry))) [] (now (answer .entry)) ⌝ }
+        (now (heads .entry)) (now (chain .entry)) (now (rows .entry)) (now (store .entry)) (now (counts .entry))) []
+        (now (answer .entry)) ⌝ }
 {
     if answer.len() != ANSWER_WORDS {
         return SIZES;
@@ -101,6 +109,7 @@ pub extern "C" fn bufpool_checkpoint(
         chain,
         rows,
         store,
+        counts,
     );
     let answered = end.answer;
     let r = put_written(answer, answered);

@@ -13,6 +13,7 @@ use bufcalls::buffer::write_buffer;
 use bufmem::control::ANSWER_WORDS;
 use bufmem::control::CONTROL_WORDS;
 use bufmem::control::read_control;
+use bufmodel::holder::Holder;
 use bufmodel::refusal::SIZES;
 use buftag::number::BufferNumber;
 
@@ -28,16 +29,19 @@ pub extern "C" fn bufpool_unpin(
     chain: &[i32],
     rows: &[u32],
     store: &[u8],
+    counts: &mut [u16],
+    holder: u64,
     buffer: u64,
     answer: &mut [u64],
 ) -> u32
     ensures { λ r.
         ⌜ ends r (now (answer .exit)) []
         (lent (now (control .entry)) (now (states .exit)) (now (names .entry)) (now (pool .entry)) (now (free .entry))
-        (now (heads .entry)) (now (chain .entry)) (now (rows .entry)) (now (store .entry)))
-        ≡ called (λ m. unpin m buffer)
+        (now (heads .entry)) (now (chain .entry)) (now (rows .entry)) (now (store .entry)) (now (counts .exit)))
+        ≡ called (λ m. unpin m holder buffer)
         (lent (now (control .entry)) (now (states .entry)) (now (names .entry)) (now (pool .entry)) (now (free .entry))
-        (now (heads .entry)) (now (chain .entry)) (now (rows .entry)) (now (store .entry))) [] (now (answer .entry)) ⌝ }
+        (now (heads .entry)) (now (chain .entry)) (now (rows .entry)) (now (store .entry)) (now (counts .entry))) []
+        (now (answer .entry)) ⌝ }
 {
     if answer.len() != ANSWER_WORDS {
         return SIZES;
@@ -55,6 +59,8 @@ pub extern "C" fn bufpool_unpin(
         chain,
         rows,
         store,
+        counts,
+        Holder(holder as usize),
         BufferNumber(buffer as usize),
     );
     put_accepted(answer, answered)
@@ -72,6 +78,8 @@ pub extern "C" fn bufpool_read(
     chain: &[i32],
     rows: &[u32],
     store: &[u8],
+    counts: &[u16],
+    holder: u64,
     buffer: u64,
     from: u64,
     out: &mut [u8],
@@ -80,10 +88,11 @@ pub extern "C" fn bufpool_read(
     ensures { λ r.
         ⌜ ends r (now (answer .exit)) (now (out .exit))
         (lent (now (control .entry)) (now (states .entry)) (now (names .entry)) (now (pool .entry)) (now (free .entry))
-        (now (heads .entry)) (now (chain .entry)) (now (rows .entry)) (now (store .entry)))
-        ≡ called (λ m. read m buffer from (now (out .entry)))
+        (now (heads .entry)) (now (chain .entry)) (now (rows .entry)) (now (store .entry)) (now (counts .entry)))
+        ≡ called (λ m. read m holder buffer from (now (out .entry)))
         (lent (now (control .entry)) (now (states .entry)) (now (names .entry)) (now (pool .entry)) (now (free .entry))
-        (now (heads .entry)) (now (chain .entry)) (now (rows .entry)) (now (store .entry))) (now (out .entry)) (now (answer .entry)) ⌝ }
+        (now (heads .entry)) (now (chain .entry)) (now (rows .entry)) (now (store .entry)) (now (counts .entry))) (now (out .entry))
+        (now (answer .entry)) ⌝ }
 {
     if answer.len() != ANSWER_WORDS {
         return SIZES;
@@ -101,6 +110,8 @@ pub extern "C" fn bufpool_read(
         chain,
         rows,
         store,
+        counts,
+        Holder(holder as usize),
         BufferNumber(buffer as usize),
         from as usize,
         out,
@@ -120,6 +131,8 @@ pub extern "C" fn bufpool_write(
     chain: &[i32],
     rows: &[u32],
     store: &[u8],
+    counts: &[u16],
+    holder: u64,
     buffer: u64,
     from: u64,
     bytes: &[u8],
@@ -129,10 +142,11 @@ pub extern "C" fn bufpool_write(
     ensures { λ r.
         ⌜ ends r (now (answer .exit)) (now (bytes .entry))
         (lent (now (control .entry)) (now (states .exit)) (now (names .entry)) (now (pool .exit)) (now (free .entry))
-        (now (heads .entry)) (now (chain .entry)) (now (rows .entry)) (now (store .entry)))
-        ≡ called (λ m. write m buffer from (now (bytes .entry)) position)
+        (now (heads .entry)) (now (chain .entry)) (now (rows .entry)) (now (store .entry)) (now (counts .entry)))
+        ≡ called (λ m. write m holder buffer from (now (bytes .entry)) position)
         (lent (now (control .entry)) (now (states .entry)) (now (names .entry)) (now (pool .entry)) (now (free .entry))
-        (now (heads .entry)) (now (chain .entry)) (now (rows .entry)) (now (store .entry))) (now (bytes .entry)) (now (answer .entry)) ⌝ }
+        (now (heads .entry)) (now (chain .entry)) (now (rows .entry)) (now (store .entry)) (now (counts .entry))) (now (bytes .entry))
+        (now (answer .entry)) ⌝ }
 {
     if answer.len() != ANSWER_WORDS {
         return SIZES;
@@ -150,6 +164,8 @@ pub extern "C" fn bufpool_write(
         chain,
         rows,
         store,
+        counts,
+        Holder(holder as usize),
         BufferNumber(buffer as usize),
         from as usize,
         bytes,

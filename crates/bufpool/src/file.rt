@@ -30,6 +30,7 @@ pub extern "C" fn bufpool_extend(
     chain: &[i32],
     rows: &mut [u32],
     store: &mut [u8],
+    counts: &[u16],
     tablespace: u32,
     database: u32,
     relation: u32,
@@ -39,10 +40,11 @@ pub extern "C" fn bufpool_extend(
     ensures { λ r.
         ⌜ ends r (now (answer .exit)) []
         (lent (now (control .entry)) (now (states .entry)) (now (names .entry)) (now (pool .entry)) (now (free .entry))
-        (now (heads .entry)) (now (chain .entry)) (now (rows .exit)) (now (store .exit)))
+        (now (heads .entry)) (now (chain .entry)) (now (rows .exit)) (now (store .exit)) (now (counts .entry)))
         ≡ called (λ m. extend m (fileOf tablespace database relation fork))
         (lent (now (control .entry)) (now (states .entry)) (now (names .entry)) (now (pool .entry)) (now (free .entry))
-        (now (heads .entry)) (now (chain .entry)) (now (rows .entry)) (now (store .entry))) [] (now (answer .entry)) ⌝ }
+        (now (heads .entry)) (now (chain .entry)) (now (rows .entry)) (now (store .entry)) (now (counts .entry))) []
+        (now (answer .entry)) ⌝ }
 {
     if answer.len() != ANSWER_WORDS {
         return SIZES;
@@ -61,6 +63,7 @@ pub extern "C" fn bufpool_extend(
         chain,
         rows,
         store,
+        counts,
         file,
     );
     put_extended(answer, answered)
@@ -78,6 +81,7 @@ pub extern "C" fn bufpool_drop(
     chain: &mut [i32],
     rows: &mut [u32],
     store: &[u8],
+    counts: &[u16],
     tablespace: u32,
     database: u32,
     relation: u32,
@@ -87,10 +91,11 @@ pub extern "C" fn bufpool_drop(
     ensures { λ r.
         ⌜ ends r (now (answer .exit)) []
         (lent (now (control .exit)) (now (states .exit)) (now (names .exit)) (now (pool .entry)) (now (free .exit))
-        (now (heads .exit)) (now (chain .exit)) (now (rows .exit)) (now (store .entry)))
+        (now (heads .exit)) (now (chain .exit)) (now (rows .exit)) (now (store .entry)) (now (counts .entry)))
         ≡ called (λ m. dropFile m (fileOf tablespace database relation fork))
         (lent (now (control .entry)) (now (states .entry)) (now (names .entry)) (now (pool .entry)) (now (free .entry))
-        (now (heads .entry)) (now (chain .entry)) (now (rows .entry)) (now (store .entry))) [] (now (answer .entry)) ⌝ }
+        (now (heads .entry)) (now (chain .entry)) (now (rows .entry)) (now (store .entry)) (now (counts .entry))) []
+        (now (answer .entry)) ⌝ }
 {
     if answer.len() != ANSWER_WORDS {
         return SIZES;
@@ -109,6 +114,7 @@ pub extern "C" fn bufpool_drop(
         chain,
         rows,
         store,
+        counts,
         file,
     );
     let answered = end.answer;

@@ -5,8 +5,8 @@ ghost use Rattle.bufpool.specs.Interface.{interface};
 
 // The number that include/bufpool_calls.h has.
 #[no_mangle]
-pub extern "C" fn bufpool_interface_3() -> u32
+pub extern "C" fn bufpool_interface_4() -> u32
     ensures { λ r. ⌜ r ≡ interface ⌝ }
 {
-    3
+    4
 }

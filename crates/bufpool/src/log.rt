@@ -27,16 +27,18 @@ pub extern "C" fn bufpool_log_inserted(
     chain: &[i32],
     rows: &[u32],
     store: &[u8],
+    counts: &[u16],
     position: u64,
     answer: &mut [u64],
 ) -> u32
     ensures { λ r.
         ⌜ ends r (now (answer .exit)) []
         (lent (now (control .exit)) (now (states .entry)) (now (names .entry)) (now (pool .entry)) (now (free .entry))
-        (now (heads .entry)) (now (chain .entry)) (now (rows .entry)) (now (store .entry)))
+        (now (heads .entry)) (now (chain .entry)) (now (rows .entry)) (now (store .entry)) (now (counts .entry)))
         ≡ called (λ m. logInserted m position)
         (lent (now (control .entry)) (now (states .entry)) (now (names .entry)) (now (pool .entry)) (now (free .entry))
-        (now (heads .entry)) (now (chain .entry)) (now (rows .entry)) (now (store .entry))) [] (now (answer .entry)) ⌝ }
+        (now (heads .entry)) (now (chain .entry)) (now (rows .entry)) (now (store .entry)) (now (counts .entry))) []
+        (now (answer .entry)) ⌝ }
 {
     if answer.len() != ANSWER_WORDS {
         return SIZES;
@@ -54,6 +56,7 @@ pub extern "C" fn bufpool_log_inserted(
         chain,
         rows,
         store,
+        counts,
         position,
     );
     let answered = end.answer;
@@ -74,16 +77,18 @@ pub extern "C" fn bufpool_log_flushed(
     chain: &[i32],
     rows: &[u32],
     store: &[u8],
+    counts: &[u16],
     position: u64,
     answer: &mut [u64],
 ) -> u32
     ensures { λ r.
         ⌜ ends r (now (answer .exit)) []
         (lent (now (control .exit)) (now (states .entry)) (now (names .entry)) (now (pool .entry)) (now (free .entry))
-        (now (heads .entry)) (now (chain .entry)) (now (rows .entry)) (now (store .entry)))
+        (now (heads .entry)) (now (chain .entry)) (now (rows .entry)) (now (store .entry)) (now (counts .entry)))
         ≡ called (λ m. logFlushed m position)
         (lent (now (control .entry)) (now (states .entry)) (now (names .entry)) (now (pool .entry)) (now (free .entry))
-        (now (heads .entry)) (now (chain .entry)) (now (rows .entry)) (now (store .entry))) [] (now (answer .entry)) ⌝ }
+        (now (heads .entry)) (now (chain .entry)) (now (rows .entry)) (now (store .entry)) (now (counts .entry))) []
+        (now (answer .entry)) ⌝ }
 {
     if answer.len() != ANSWER_WORDS {
         return SIZES;
@@ -101,6 +106,7 @@ pub extern "C" fn bufpool_log_flushed(
         chain,
         rows,
         store,
+        counts,
         position,
     );
     let answered = end.answer;

@@ -15,6 +15,7 @@ use bufcalls::peek::peek_at;
 use bufmem::control::ANSWER_WORDS;
 use bufmem::control::CONTROL_WORDS;
 use bufmem::control::read_control;
+use bufmodel::holder::Holder;
 use bufmodel::refusal::SIZES;
 use bufpin::pin::pin_page;
 use buftag::name::page_name;
@@ -31,6 +32,8 @@ pub extern "C" fn bufpool_pin(
     chain: &mut [i32],
     rows: &[u32],
     store: &mut [u8],
+    counts: &mut [u16],
+    holder: u64,
     tablespace: u32,
     database: u32,
     relation: u32,
@@ -41,10 +44,11 @@ pub extern "C" fn bufpool_pin(
     ensures { λ r.
         ⌜ ends r (now (answer .exit)) []
         (lent (now (control .exit)) (now (states .exit)) (now (names .exit)) (now (pool .exit)) (now (free .exit))
-        (now (heads .exit)) (now (chain .exit)) (now (rows .entry)) (now (store .exit)))
-        ≡ called (λ m. pin m (nameOf tablespace database relation fork block))
+        (now (heads .exit)) (now (chain .exit)) (now (rows .entry)) (now (store .exit)) (now (counts .exit)))
+        ≡ called (λ m. pin m holder (nameOf tablespace database relation fork block))
         (lent (now (control .entry)) (now (states .entry)) (now (names .entry)) (now (pool .entry)) (now (free .entry))
-        (now (heads .entry)) (now (chain .entry)) (now (rows .entry)) (now (store .entry))) [] (now (answer .entry)) ⌝ }
+        (now (heads .entry)) (now (chain .entry)) (now (rows .entry)) (now (store .entry)) (now (counts .entry))) []
+        (now (answer .entry)) ⌝ }
 {
     if answer.len() != ANSWER_WORDS {
         return SIZES;
@@ -63,6 +67,8 @@ pub extern "C" fn bufpool_pin(
         chain,
         rows,
         store,
+        counts,
+        Holder(holder as usize),
         name,
     );
     let answered = end.answer;
@@ -83,6 +89,7 @@ pub extern "C" fn bufpool_peek(
     chain: &[i32],
     rows: &[u32],
     store: &[u8],
+    counts: &[u16],
     tablespace: u32,
     database: u32,
     relation: u32,
@@ -93,10 +100,11 @@ pub extern "C" fn bufpool_peek(
     ensures { λ r.
         ⌜ ends r (now (answer .exit)) []
         (lent (now (control .entry)) (now (states .entry)) (now (names .entry)) (now (pool .entry)) (now (free .entry))
-        (now (heads .entry)) (now (chain .entry)) (now (rows .entry)) (now (store .entry)))
+        (now (heads .entry)) (now (chain .entry)) (now (rows .entry)) (now (store .entry)) (now (counts .entry)))
         ≡ called (λ m. peek m (nameOf tablespace database relation fork block))
         (lent (now (control .entry)) (now (states .entry)) (now (names .entry)) (now (pool .entry)) (now (free .entry))
-        (now (heads .entry)) (now (chain .entry)) (now (rows .entry)) (now (store .entry))) [] (now (answer .entry)) ⌝ }
+        (now (heads .entry)) (now (chain .entry)) (now (rows .entry)) (now (store .entry)) (now (counts .entry))) []
+        (now (answer .entry)) ⌝ }
 {
     if answer.len() != ANSWER_WORDS {
         return SIZES;
@@ -115,6 +123,7 @@ pub extern "C" fn bufpool_peek(
         chain,
         rows,
         store,
+        counts,
         name,
     );
     put_peeked(answer, answered)

@@ -26,6 +26,7 @@ pub extern "C" fn bufpool_set_up(
     chain: &mut [i32],
     rows: &[u32],
     store: &[u8],
+    counts: &mut [u16],
     page_size: u64,
     position: u64,
     cap: u64,
@@ -34,10 +35,11 @@ pub extern "C" fn bufpool_set_up(
     ensures { λ r.
         ⌜ ends r (now (answer .exit)) []
         (lent (now (control .exit)) (now (states .exit)) (now (names .exit)) (now (pool .entry)) (now (free .exit))
-        (now (heads .exit)) (now (chain .exit)) (now (rows .entry)) (now (store .entry)))
+        (now (heads .exit)) (now (chain .exit)) (now (rows .entry)) (now (store .entry)) (now (counts .exit)))
         ≡ called (λ m. setUp m «page_size» position cap)
         (lent (now (control .entry)) (now (states .entry)) (now (names .entry)) (now (pool .entry)) (now (free .entry))
-        (now (heads .entry)) (now (chain .entry)) (now (rows .entry)) (now (store .entry))) [] (now (answer .entry)) ⌝ }
+        (now (heads .entry)) (now (chain .entry)) (now (rows .entry)) (now (store .entry)) (now (counts .entry))) []
+        (now (answer .entry)) ⌝ }
 {
     if answer.len() != ANSWER_WORDS {
         return SIZES;
@@ -55,6 +57,7 @@ pub extern "C" fn bufpool_set_up(
         chain,
         rows,
         store,
+        counts,
         page_size as usize,
         position,
         cap as usize,

@@ -28,6 +28,7 @@ pub(crate) struct Bench {
     pub(crate) chain: [i32; 3],
     pub(crate) rows: [u32; 6],
     pub(crate) store: [u8; 5120],
+    pub(crate) counts: [u16; 192],
 }
 
 // A page of the file.
@@ -35,7 +36,7 @@ pub(crate) fn page(block: u32) -> PageName {
     page_name(1663, 5, 16384, 0, block)
 }
 
-// Names, words and links are lent with numbers that set up has to clear.
+// Names, words, links and counts are lent with numbers that set up has to clear.
 pub(crate) fn set_up() -> Bench {
     let mut states = [7; 3];
     let mut names = [7; 15];
@@ -45,6 +46,7 @@ pub(crate) fn set_up() -> Bench {
     let mut chain = [7; 3];
     let rows = [1663, 5, 16384, 0, 4, 5];
     let store = [0; 5120];
+    let mut counts = [7; 192];
     let end = set_up_pool(
         no_control(),
         &mut states,
@@ -55,6 +57,7 @@ pub(crate) fn set_up() -> Bench {
         &mut chain,
         &rows,
         &store,
+        &mut counts,
         SIZE,
         POSITION,
         CAP,
@@ -74,6 +77,7 @@ pub(crate) fn set_up() -> Bench {
         chain: chain,
         rows: rows,
         store: store,
+        counts: counts,
     }
 }
 

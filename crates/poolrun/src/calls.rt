@@ -7,6 +7,7 @@ use crate::lend::lend_to_flush;
 use crate::lend::lend_to_pin;
 use crate::text::say;
 use crate::text::say_accepted;
+use crate::text::say_holder;
 use crate::text::say_log;
 use crate::text::say_number;
 use crate::text::say_part;
@@ -14,11 +15,13 @@ use crate::text::say_pinned;
 use crate::text::say_written;
 use bufcalls::buffer::unpin_buffer;
 use bufcalls::buffer::write_buffer;
+use bufcalls::give::give_back;
 use bufcalls::peek::peek_part;
 use bufcontrol::log::log_through;
+use bufmodel::holder::Holder;
 use buftag::number::BufferNumber;
 
-pub(crate) fn pin_block(bench: Bench, block: u32) -> Bench {
+pub(crate) fn pin_block(bench: Bench, holder: usize, block: u32) -> Bench {
     let mut states = bench.states;
     let mut names = bench.names;
     let mut pool = bench.pool;
@@ -27,6 +30,7 @@ pub(crate) fn pin_block(bench: Bench, block: u32) -> Bench {
     let mut chain = bench.chain;
     let rows = bench.rows;
     let mut store = bench.store;
+    let mut counts = bench.counts;
     let end = lend_to_pin(
         bench.control,
         &mut states,
@@ -37,9 +41,12 @@ pub(crate) fn pin_block(bench: Bench, block: u32) -> Bench {
         &mut chain,
         &rows,
         &mut store,
+        &mut counts,
+        Holder(holder),
         page(block),
     );
     let control = end.control;
+    say_holder(holder);
     say_pinned(block, end);
     Bench {
         control: control,
@@ -51,10 +58,11 @@ pub(crate) fn pin_block(bench: Bench, block: u32) -> Bench {
         chain: chain,
         rows: rows,
         store: store,
+        counts: counts,
     }
 }
 
-pub(crate) fn unpin_one(mut bench: Bench, buffer: usize) -> Bench {
+pub(crate) fn unpin_one(mut bench: Bench, holder: usize, buffer: usize) -> Bench {
     let mut states = bench.states;
     let names = bench.names;
     let pool = bench.pool;
@@ -63,6 +71,7 @@ pub(crate) fn unpin_one(mut bench: Bench, buffer: usize) -> Bench {
     let chain = bench.chain;
     let rows = bench.rows;
     let store = bench.store;
+    let mut counts = bench.counts;
     let answer = unpin_buffer(
         bench.control,
         &mut states,
@@ -73,16 +82,52 @@ pub(crate) fn unpin_one(mut bench: Bench, buffer: usize) -> Bench {
         &chain,
         &rows,
         &store,
+        &mut counts,
+        Holder(holder),
         BufferNumber(buffer),
     );
+    say_holder(holder);
     say_number(b"unpin buffer ", buffer as u64);
     say_accepted(answer);
     say(b"\n");
     bench.states = states;
+    bench.counts = counts;
     bench
 }
 
-pub(crate) fn write_to(mut bench: Bench, buffer: usize, position: u64) -> Bench {
+pub(crate) fn give_back_all(mut bench: Bench, holder: usize) -> Bench {
+    let mut states = bench.states;
+    let names = bench.names;
+    let pool = bench.pool;
+    let free = bench.free;
+    let heads = bench.heads;
+    let chain = bench.chain;
+    let rows = bench.rows;
+    let store = bench.store;
+    let mut counts = bench.counts;
+    let answer = give_back(
+        bench.control,
+        &mut states,
+        &names,
+        &pool,
+        &free,
+        &heads,
+        &chain,
+        &rows,
+        &store,
+        &mut counts,
+        Holder(holder),
+    );
+    say_holder(holder);
+    say(b"give back");
+    say_accepted(answer);
+    say(b"\n");
+    bench.states = states;
+    bench.counts = counts;
+    bench
+}
+
+pub(crate) fn write_to(mut bench: Bench, holder: usize, buffer: usize, position: u64) -> Bench {
     let mut states = bench.states;
     let names = bench.names;
     let mut pool = bench.pool;
@@ -91,6 +136,7 @@ pub(crate) fn write_to(mut bench: Bench, buffer: usize, position: u64) -> Bench 
     let chain = bench.chain;
     let rows = bench.rows;
     let store = bench.store;
+    let counts = bench.counts;
     let answer = write_buffer(
         bench.control,
         &mut states,
@@ -101,11 +147,14 @@ pub(crate) fn write_to(mut bench: Bench, buffer: usize, position: u64) -> Bench 
         &chain,
         &rows,
         &store,
+        &counts,
+        Holder(holder),
         BufferNumber(buffer),
         10,
         b"rye",
         position,
     );
+    say_holder(holder);
     say_number(b"write to buffer ", buffer as u64);
     say_number(b" at ", position);
     say_accepted(answer);
@@ -115,7 +164,7 @@ pub(crate) fn write_to(mut bench: Bench, buffer: usize, position: u64) -> Bench 
     bench
 }
 
-pub(crate) fn flush_one(mut bench: Bench, buffer: usize) -> Bench {
+pub(crate) fn flush_one(mut bench: Bench, holder: usize, buffer: usize) -> Bench {
     let mut states = bench.states;
     let names = bench.names;
     let pool = bench.pool;
@@ -124,6 +173,7 @@ pub(crate) fn flush_one(mut bench: Bench, buffer: usize) -> Bench {
     let chain = bench.chain;
     let rows = bench.rows;
     let mut store = bench.store;
+    let counts = bench.counts;
     let end = lend_to_flush(
         bench.control,
         &mut states,
@@ -134,8 +184,11 @@ pub(crate) fn flush_one(mut bench: Bench, buffer: usize) -> Bench {
         &chain,
         &rows,
         &mut store,
+        &counts,
+        Holder(holder),
         BufferNumber(buffer),
     );
+    say_holder(holder);
     say_number(b"flush buffer ", buffer as u64);
     say_written(end);
     let control = end.control;
@@ -154,6 +207,7 @@ pub(crate) fn checkpoint_all(mut bench: Bench) -> Bench {
     let chain = bench.chain;
     let rows = bench.rows;
     let mut store = bench.store;
+    let counts = bench.counts;
     let end = lend_to_checkpoint(
         bench.control,
         &mut states,
@@ -164,6 +218,7 @@ pub(crate) fn checkpoint_all(mut bench: Bench) -> Bench {
         &chain,
         &rows,
         &mut store,
+        &counts,
     );
     say(b"checkpoint");
     say_written(end);
@@ -183,6 +238,7 @@ pub(crate) fn move_log(mut bench: Bench, position: u64) -> Bench {
     let chain = bench.chain;
     let rows = bench.rows;
     let store = bench.store;
+    let counts = bench.counts;
     let end = log_through(
         bench.control,
         &states,
@@ -193,6 +249,7 @@ pub(crate) fn move_log(mut bench: Bench, position: u64) -> Bench {
         &chain,
         &rows,
         &store,
+        &counts,
         position,
     );
     let control = end.control;
@@ -215,6 +272,7 @@ pub(crate) fn peek_block(bench: Bench, block: u32) {
     let chain = bench.chain;
     let rows = bench.rows;
     let store = bench.store;
+    let counts = bench.counts;
     let part = peek_part(
         bench.control,
         &states,
@@ -225,6 +283,7 @@ pub(crate) fn peek_block(bench: Bench, block: u32) {
         &chain,
         &rows,
         &store,
+        &counts,
         page(block),
     );
     say_number(b"peek block ", block as u64);

@@ -6,6 +6,7 @@ use bufcontrol::back::checkpoint;
 use bufcontrol::back::flush;
 use bufcontrol::pin::pin;
 use bufmodel::control::Control;
+use bufmodel::holder::Holder;
 use bufpin::ends::PinnedEnd;
 use buftag::name::PageName;
 use buftag::number::BufferNumber;
@@ -20,6 +21,8 @@ pub(crate) fn lend_to_pin(
     chain: &mut [i32],
     rows: &[u32],
     store: &mut [u8],
+    counts: &mut [u16],
+    holder: Holder,
     name: PageName,
 ) -> PinnedEnd {
     let mut lent = control;
@@ -33,6 +36,8 @@ pub(crate) fn lend_to_pin(
         chain,
         rows,
         store,
+        counts,
+        holder,
         name,
     );
     PinnedEnd {
@@ -51,6 +56,8 @@ pub(crate) fn lend_to_flush(
     chain: &[i32],
     rows: &[u32],
     store: &mut [u8],
+    counts: &[u16],
+    holder: Holder,
     buffer: BufferNumber,
 ) -> WrittenEnd {
     let mut lent = control;
@@ -64,6 +71,8 @@ pub(crate) fn lend_to_flush(
         chain,
         rows,
         store,
+        counts,
+        holder,
         buffer,
     );
     WrittenEnd {
@@ -82,6 +91,7 @@ pub(crate) fn lend_to_checkpoint(
     chain: &[i32],
     rows: &[u32],
     store: &mut [u8],
+    counts: &[u16],
 ) -> WrittenEnd {
     let mut lent = control;
     let answer = checkpoint(
@@ -94,6 +104,7 @@ pub(crate) fn lend_to_checkpoint(
         chain,
         rows,
         store,
+        counts,
     );
     WrittenEnd {
         control: lent,

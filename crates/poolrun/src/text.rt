@@ -18,6 +18,12 @@ pub(crate) fn say_number(text: &[u8], n: u64) {
     io::print_decimal(1, n);
 }
 
+// Whose call it is.
+pub(crate) fn say_holder(holder: usize) {
+    say_number(b"holder ", holder as u64);
+    say(b": ");
+}
+
 fn say_byte(text: &[u8], n: u8) {
     say_number(text, n as u64);
 }

@@ -1,14 +1,19 @@
-// State words, taken apart and packed.
+// State words, taken apart and packed, and private counts.
 
 ghost use mathlib.Core.Path.{_≡_};
 ghost use Prim.Native.Nat.{_<_};
+ghost use lib.ListN.{length};
+ghost use Rattle.bufmodel.specs.Counts.{countPlace};
 use crate::bench::Bench;
 use crate::text::say;
 use crate::text::say_number;
+use bufmem::counts::count_of;
 use bufmem::word::flags_of;
 use bufmem::word::pack_word;
 use bufmem::word::pins_of;
 use bufmem::word::usage_of;
+use bufmodel::holder::Holder;
+use buftag::number::BufferNumber;
 
 // A word packed of its fields.
 fn packed(w: u32) -> u32
@@ -34,5 +39,32 @@ pub(crate) fn say_word(bench: Bench, buffer: usize)
     say_number(b", usage ", usage_of(w) as u64);
     say_number(b", flags ", flags_of(w) as u64);
     say_hex(b", packed 0x", packed(w));
+    say(b"\n");
+}
+
+fn say_count(counts: &[u16], holder: usize, buffer: usize)
+    requires { ⌜ countPlace buffer holder < length (now counts) ⌝ }
+{
+    say_number(
+        b" ",
+        count_of(counts, Holder(holder), BufferNumber(buffer)) as u64,
+    );
+}
+
+// How many pins the first six holders and the last have on a buffer.
+pub(crate) fn say_counts(bench: Bench, buffer: usize)
+    requires { ⌜ buffer < 3 ⌝ }
+{
+    let counts = bench.counts;
+    say_number(b"buffer ", buffer as u64);
+    say(b": counts");
+    say_count(&counts, 0, buffer);
+    say_count(&counts, 1, buffer);
+    say_count(&counts, 2, buffer);
+    say_count(&counts, 3, buffer);
+    say_count(&counts, 4, buffer);
+    say_count(&counts, 5, buffer);
+    say(b" ..");
+    say_count(&counts, 63, buffer);
     say(b"\n");
 }

@@ -158,7 +158,11 @@ module _ (m : Memory) (o : Outcome) where
     pub clock-pass : Passes (clockTests m o k)
     unfolding clockTests
     clock-pass =
-        and-true (eq-eqb _ _ (h .many)) (words-pass (h .alike)) & counts-pass (h .alike) & eq-eqb _ _ (h .alike .hand) & links-pass (h .alike) & all
+        and-true (eq-eqb _ _ (h .many)) (words-pass (h .alike))
+        & counts-pass (h .alike)
+        & eq-eqb _ _ (h .alike .hand)
+        & links-pass (h .alike)
+        & all
 
     pub name-pass : Passes (nameTests m o k)
     unfolding nameTests

@@ -23,6 +23,7 @@ use Rattle.bufmodel.specs.Word.{soundFlags, soundWord, pinned, useLess}
 use Rattle.bufmodel.specs.Position.{position, positionBytes}
 use Rattle.bufmodel.specs.Checksum.{bareFrom, sumStarts, mixSum, wordsIn, sumTo, sumOf, foldTo, checksum}
 use Rattle.bufmodel.specs.Rows.{files, fileAt, blocksAt, capacityAt, setBlocks, rowOf, startOf, storeBlocks, placeIn, placeOf}
+use Rattle.bufmodel.specs.Counts.{countAt, hasPin, holdersOf}
 use Rattle.bufmodel.specs.Sizes.{permitted}
 use Rattle.bufmodel.specs.Books.{emptyAt}
 use Rattle.bufmodel.specs.Sweep.{next}
@@ -128,7 +129,7 @@ checksum-is b page = refl
 pub numbers : Numbers
 unfolding hashOf bucketOf pins usage dirty valid tagValid justDirtied permanent noOther bit empty soundFlags soundWord pinned next
     emptyAt position positionBytes block files setBlocks rowOf startOf sum storeBlocks placeOf placeIn permitted topOf controlOf opened
-    partIn partAt part
+    partIn partAt part countAt hasPin holdersOf
 numbers =
     record {
       fits = λ t d r f b. (
@@ -165,7 +166,7 @@ numbers =
             λ k. word .shown (λ e. (k .0, ((((k .1, k .2), k .3), k .4), ((((k .5, k .6), k .7), k .8), k .9)))),
           );
       pinnedWord = λ w. refl;
-      mostPins = refl;
+      holders = λ counts i. refl;
       lowered = lowered-by;
       onward = λ n hand. rw (one-more hand) refl;
       control = λ m. refl;
@@ -234,7 +235,7 @@ numbers =
       sizes = λ p m. (
         λ k.
             let size = permitted-says p .holds (permitted-sized k) in
-            (size, k .least, k .most, k .wide, k .heads, k .names, k .pool, k .free, k .chain, k .rows, k .store),
+            (size, k .least, k .most, k .wide, k .heads, k .names, k .pool, k .free, k .chain, k .rows, k .store, k .counts),
         λ t.
             record {
               permitted = ltb-true _ _ (permitted-says p .shown (t .0));
@@ -248,6 +249,7 @@ numbers =
               chain = t .8;
               rows = t .9;
               store = t .10;
+              counts = t .11;
             },
       );
       answer = (refl, refl);

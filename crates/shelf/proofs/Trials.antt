@@ -1,4 +1,4 @@
--- A pool that meets the statement passes every trial, and one that fails a trial does not meet it; lists of wrong pools, each with its trial.
+-- A pool that meets the statement passes every trial, and one that fails a trial does not meet it; lists of wrong pools with trials.
 use Prim.Native.Nat.{ℕ, zero, suc, _^_}
 use native.Mathlib.Nat.{le-of-suc-le-suc, not-suc-le-zero}
 use native.Mathlib.Omega.{arith}

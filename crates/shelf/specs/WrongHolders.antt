@@ -54,6 +54,10 @@ use Rattle.shelf.specs.Changes.{
 }
 
 -- ---- what they are made of
+-- other counts in the lent memory
+abbrev pub withCountWords : List ℕ → Lent → Lent
+withCountWords x m = closed (withCounts x (opened m))
+
 -- this holder's count of the buffer that a pin answered
 abbrev countOf : Memory → ℕ → Outcome → ℕ
 countOf m h o = countAt (m .counts) (said o 0) h
@@ -87,20 +91,26 @@ unpinnedBy m b o missing = o
 abbrev nobody : Memory → Memory
 nobody m = withCounts (map (λ c. 0) (m .counts)) (withStates (map (λ w. w - pinCount w) (m .states)) m)
 
+-- pins to which only holder 1's pins are in the way, which go; give back for all
+abbrev pub evicts : Pool
+evicts = pins (λ m c o. let o′ = step (giveUpTo 1 (buffers m) m) (Pin (c .holder) (c .page)) in cond (eqb (o .refusal) 6) o′ o)
+
+abbrev pub emptiesAll : Pool
+emptiesAll = givesBack (ifAccepted (λ m c o. leaving nobody o))
+
 -- another place refuses first
 abbrev firstBy : (Memory → Outcome) → Memory → ℕ → Outcome → Outcome
 firstBy call m k o = let o′ = call m in cond (eqb (o′ .refusal) k) o′ o
 
 -- a bench whose counts are one too many
 abbrev oneMore : Lent
-oneMore = let m = opened (bench 1) in closed (withCounts (replicate 65 0) m)
+oneMore = withCountWords (replicate 65 0) (bench 1)
 
 -- ---- pins and unpins
 unfoldable pub wrongHolders : List Wrong
 wrongHolders =
     -- a page that another holder than the first has pinned gives way
-    wrong (pins (λ m c o. let o′ = step (giveUpTo 1 (buffers m) m) (Pin (c .holder) (c .page)) in cond (eqb (o .refusal) 6) o′ o)) 1
-    (pinBy 1 sales 0 ∷ pin stock 0 ∷ []) Six
+    wrong evicts 1 (pinBy 1 sales 0 ∷ pin stock 0 ∷ []) Six
     -- it does while another buffer is unpinned
     ∷ wrong (pins (λ m c o. let o′ = step (giveUpTo 1 (buffers m) m) (Pin (c .holder) (c .page)) in cond (eqb (said o 3) 0) o o′)) 2
     (pinBy 1 sales 0 ∷ pin sales 1 ∷ unpin 1 ∷ pin stock 0 ∷ []) Shows
@@ -156,7 +166,7 @@ wrongOwners =
 unfoldable pub wrongGiven : List Wrong
 wrongGiven =
     -- all holders' pins are given back
-    wrong (givesBack (ifAccepted (λ m c o. leaving nobody o))) 1 (pin sales 0 ∷ pinBy 1 sales 0 ∷ GiveBack 0 ∷ []) Holders
+    wrong emptiesAll 1 (pin sales 0 ∷ pinBy 1 sales 0 ∷ GiveBack 0 ∷ []) Holders
     -- none are
     ∷ wrong (givesBack (λ m c o. leaving (λ k. m) o)) 1 (pin sales 0 ∷ GiveBack 0 ∷ []) Holders
     -- another holder's are

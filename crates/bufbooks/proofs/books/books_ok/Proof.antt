@@ -42,20 +42,20 @@ cap-ok-requires c κs = search needs
 returns : tie.Need-returns
 returns c =
     let s = c .before .before .before .before .before .before in
-    books-cap (lent s) (s .pre) (sym (c .before .cap-ok .ensures) ∙ not-true _ (c .if1 .taken))
+    books-cap (lent s) (sym (c .before .cap-ok .ensures) ∙ not-true _ (c .if1 .taken))
 
 returns-2 : tie.Need-returns-2
 returns-2 c =
     let p = c .before .before in
     let s = entry p in
-    books-hand (lent s) (s .pre) (cap p) (omega (arith, c .if2 .taken))
+    books-hand (lent s) (cap p) (omega (arith, c .if2 .taken))
 
 returns-3 : tie.Need-returns-3
 returns-3 c =
     let h = c .before .before in
     let p = capped h in
     let s = entry p in
-    books-log (lent s) (s .pre) (cap p) (h .if2 .left) (omega (arith, c .if3 .taken))
+    books-log (lent s) (cap p) (h .if2 .left) (omega (arith, c .if3 .taken))
 
 lists-ok-requires : tie.Need-lists-ok-requires
 lists-ok-requires c κs =
@@ -70,7 +70,7 @@ returns-4 c =
     let h = handed l in
     let p = capped h in
     let s = entry p in
-    books-lists (lent s) (s .pre) (cap p) (h .if2 .left) (l .before .if3 .left) (sym (l .lists-ok .ensures) ∙ not-true _ (c .if4 .taken))
+    books-lists (lent s) (cap p) (h .if2 .left) (l .before .if3 .left) (sym (l .lists-ok .ensures) ∙ not-true _ (c .if4 .taken))
 
 hash-rows-requires : tie.Need-hash-rows-requires
 hash-rows-requires c κs = begun (c .before .before) .pre .rows
@@ -93,7 +93,7 @@ returns-5 c =
     let p = capped h in
     let s = entry p in
     c .buffers-ok .ensures
-    ∙ books-buffers (lent s) (s .pre) (cap p) (h .if2 .left) (l .before .if3 .left)
+    ∙ books-buffers (lent s) (cap p) (h .if2 .left) (l .before .if3 .left)
     (sym (l .lists-ok .ensures) ∙ not-false _ (e .if4 .left))
 
 pub books-ok-spec : {M : Type 1} → statement M

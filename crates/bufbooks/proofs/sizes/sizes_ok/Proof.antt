@@ -12,7 +12,7 @@ use Rattle.laws.proofs.Tests.{never}
 use Rattle.bufmodel.specs.Rows.{files, storeBlocks}
 use Rattle.bufmodel.specs.Sizes.{permitted, soundRows}
 use Rattle.bufmodel.proofs.SizesLaws.{rows-say, permitted-fits, permitted-sized}
-use Rattle.bufbooks.proofs.SizesLaws.{countsTest, counts-say, counts-sized, not-sized, sized-store}
+use Rattle.bufbooks.proofs.SizesLaws.{bucketsTest, buckets-say, buckets-sized, not-sized, sized-store}
 use Rattle.bufbooks.proofs.sizes.sizes_ok.Statement.{statement}
 use Rattle.bufbooks.proofs.sizes.sizes_ok.Tie as tie
 
@@ -22,22 +22,22 @@ size-ok-requires c κs = search needs
 returns : tie.Need-returns
 returns c = not-sized _ (λ s. never (permitted-sized s) (sym (c .before .size-ok .ensures) ∙ not-true _ (c .if1 .taken)))
 
-counts-ok-requires : tie.Need-counts-ok-requires
-counts-ok-requires c κs = search needs
+buckets-ok-requires : tie.Need-buckets-ok-requires
+buckets-ok-requires c κs = search needs
 
 returns-2 : tie.Need-returns-2
 returns-2 c =
-    not-sized _ (λ s. never (counts-sized s) (sym (c .before .counts-ok .ensures) ∙ not-true _ (c .if2 .taken)))
+    not-sized _ (λ s. never (buckets-sized s) (sym (c .before .buckets-ok .ensures) ∙ not-true _ (c .if2 .taken)))
 
 -- ---- behind the first two tests
 abbrev start : tie.Else2 → tie.Start
-start c = c .before .before .before .before .before .before .before .before .before
+start c = c .before .before .before .before .before .before .before .before .before .before
 
 right-size : (c : tie.Else2) → permitted (start c .args .control .size) ≡ true
 right-size c = sym (c .before .before .before .size-ok .ensures) ∙ not-false _ (c .before .before .if1 .left)
 
-right-counts : (c : tie.Else2) → countsTest (length (now (start c .args .states))) (length (now (start c .args .heads))) ≡ true
-right-counts c = sym (c .before .counts-ok .ensures) ∙ not-false _ (c .if2 .left)
+right-buckets : (c : tie.Else2) → bucketsTest (length (now (start c .args .states))) (length (now (start c .args .heads))) ≡ true
+right-buckets c = sym (c .before .buckets-ok .ensures) ∙ not-false _ (c .if2 .left)
 
 small : (c : tie.Else2) → start c .args .control .size < 2 ^ 32
 small c = omega (arith, permitted-fits (right-size c) .1)
@@ -45,7 +45,7 @@ small c = omega (arith, permitted-fits (right-size c) .1)
 few : (c : tie.Else2) → length (now (start c .args .states)) < 2 ^ 32
 few c =
     let m = start c .args in
-    omega (arith, counts-say (length (now (m .states))) (length (now (m .heads))) .holds (right-counts c))
+    omega (arith, buckets-say (length (now (m .states))) (length (now (m .heads))) .holds (right-buckets c))
 
 mul-if3 : tie.Need-mul-if3
 mul-if3 c = search needs
@@ -65,19 +65,25 @@ returns-5 c = not-sized _ (λ s. c .if5 .taken (s .free))
 returns-6 : tie.Need-returns-6
 returns-6 c = not-sized _ (λ s. c .if6 .taken (s .chain))
 
+mul-if7 : tie.Need-mul-if7
+mul-if7 c = record { fits = below 32 (few (c .before .before .before .before)) (search needs) }
+
+returns-7 : tie.Need-returns-7
+returns-7 c = not-sized _ (λ s. c .if7 .taken (s .counts))
+
 rows-ok-requires : tie.Need-rows-ok-requires
 rows-ok-requires c κs = search needs
 
-returns-7 : tie.Need-returns-7
-returns-7 c =
-    not-sized _ (λ s. never (rows-say _ .shown (s .rows)) (sym (c .before .rows-ok .ensures) ∙ not-true _ (c .if7 .taken)))
+returns-8 : tie.Need-returns-8
+returns-8 c =
+    not-sized _ (λ s. never (rows-say _ .shown (s .rows)) (sym (c .before .rows-ok .ensures) ∙ not-true _ (c .if8 .taken)))
 
 -- ---- behind the last one
-abbrev second : tie.Else7 → tie.Else2
-second c = c .before .before .before .before .before .before
+abbrev second : tie.Else8 → tie.Else2
+second c = c .before .before .before .before .before .before .before
 
-right-rows : (c : tie.Else7) → soundRows (now (start (second c) .args .rows)) ≡ true
-right-rows c = sym (c .before .rows-ok .ensures) ∙ not-false _ (c .if7 .left)
+right-rows : (c : tie.Else8) → soundRows (now (start (second c) .args .rows)) ≡ true
+right-rows c = sym (c .before .rows-ok .ensures) ∙ not-false _ (c .if8 .left)
 
 start-of-requires : tie.Need-start-of-requires
 unfolding files
@@ -89,15 +95,15 @@ mul-result c =
     let room = rows-say _ .holds (right-rows (c .before)) .room in
     record { fits = below 32 (omega (arith, c .start-of .ensures, room)) (small (second (c .before))) }
 
-returns-8 : tie.Need-returns-8
+returns-9 : tie.Need-returns-9
 unfolding files storeBlocks
-returns-8 c =
+returns-9 c =
     let d = second (c .before) in
     let e = c .before .before .before in
     let a = start d .args in
     ap (λ b. eqb (length (now (a .store))) (b * a .control .size)) (c .start-of .ensures)
-    ∙ sized-store _ (right-size d) (right-counts d) (e .before .before .before .if3 .left) (e .before .before .if4 .left)
-    (e .before .if5 .left) (e .if6 .left) (right-rows (c .before))
+    ∙ sized-store _ (right-size d) (right-buckets d) (e .before .before .before .before .if3 .left)
+    (e .before .before .before .if4 .left) (e .before .before .if5 .left) (e .before .if6 .left) (e .if7 .left) (right-rows (c .before))
 
 pub sizes-ok-spec : {M : Type 1} → statement M
 sizes-ok-spec =
@@ -105,7 +111,7 @@ sizes-ok-spec =
     (tie.spec
     size-ok-requires
     returns
-    counts-ok-requires
+    buckets-ok-requires
     returns-2
     mul-if3
     returns-3
@@ -113,8 +119,10 @@ sizes-ok-spec =
     returns-4
     returns-5
     returns-6
-    rows-ok-requires
+    mul-if7
     returns-7
+    rows-ok-requires
+    returns-8
     start-of-requires
     mul-result
-    returns-8)
+    returns-9)

@@ -1,8 +1,8 @@
 use native.Mathlib.Omega.{arith}
 use borrow.Author.Tests.{le-leb, lt-leb}
 use Rattle.bufmodel.specs.Sizes.{maxBuffers}
-use Rattle.bufbooks.proofs.sizes.counts_ok.Statement.{statement}
-use Rattle.bufbooks.proofs.sizes.counts_ok.Tie as tie
+use Rattle.bufbooks.proofs.sizes.buckets_ok.Statement.{statement}
+use Rattle.bufbooks.proofs.sizes.buckets_ok.Tie as tie
 
 returns : tie.Need-returns
 returns c = rw (lt-leb 1 (c .before .args .buffers) (omega arith))
@@ -17,5 +17,5 @@ returns-3 c =
     let n = c .before .before .args .buffers in
     rw (le-leb 1 n (omega arith), le-leb n maxBuffers (c .if2 .left))
 
-pub counts-ok-spec : {M : Type 1} → statement M
-counts-ok-spec = tie.close (tie.spec returns returns-2 returns-3)
+pub buckets-ok-spec : {M : Type 1} → statement M
+buckets-ok-spec = tie.close (tie.spec returns returns-2 returns-3)
