@@ -5,15 +5,16 @@ import re
 import sys
 
 EXPORT = re.compile(r'#\[no_mangle\]\npub extern "C" fn (\w+)\((.*?)\) -> u32\n(.*?)\n\{\n', re.S)
-SLICES = ['control', 'states', 'names', 'pool', 'free', 'heads', 'chain', 'rows', 'store']
+SLICES = ['control', 'states', 'names', 'pool', 'free', 'heads', 'chain', 'rows', 'store', 'counts']
 # each call with its arguments, as the equations of Made.antt.in have it, and the caller's own bytes
 CALLS = {
     'bufpool_set_up': ('setUp m «page_size» position cap', None),
-    'bufpool_pin': ('pin m (nameOf tablespace database relation fork block)', None),
-    'bufpool_unpin': ('unpin m buffer', None),
-    'bufpool_read': ('read m buffer from (now (out .entry))', 'out'),
-    'bufpool_write': ('write m buffer from (now (bytes .entry)) position', 'bytes'),
-    'bufpool_flush': ('flush m buffer', None),
+    'bufpool_pin': ('pin m holder (nameOf tablespace database relation fork block)', None),
+    'bufpool_unpin': ('unpin m holder buffer', None),
+    'bufpool_read': ('read m holder buffer from (now (out .entry))', 'out'),
+    'bufpool_write': ('write m holder buffer from (now (bytes .entry)) position', 'bytes'),
+    'bufpool_flush': ('flush m holder buffer', None),
+    'bufpool_give_back': ('giveBack m holder', None),
     'bufpool_checkpoint': ('checkpoint m', None),
     'bufpool_peek': ('peek m (nameOf tablespace database relation fork block)', None),
     'bufpool_extend': ('extend m (fileOf tablespace database relation fork)', None),
@@ -23,7 +24,7 @@ CALLS = {
 }
 # the exports that touch no pool: parameters and contract
 OTHERS = {
-    'bufpool_interface_3': ('', 'ensures { λ r. ⌜ r ≡ interface ⌝ }'),
+    'bufpool_interface_4': ('', 'ensures { λ r. ⌜ r ≡ interface ⌝ }'),
     'bufpool_checksum': (
         'page: &[u8], block: u32, answer: &mut [u64]',
         'ensures { λ r. ⌜ r ≡ sumResult (now (page .entry)) (now (answer .entry)) ⌝ } '
@@ -37,9 +38,14 @@ HASHES = {'pub fn hash': OF_WORDS + ' ' + OF_BYTES, 'pub extern "C" fn buftag_ha
 # and where the words of these contracts are from, none by another name
 WORDS, FROM = {'hashOf', 'hashWords', 'nameOf'}, 'Rattle.buftag.specs.Name'
 GHOST = re.compile(r'^ghost use (\S+)\.\{(.*?)\};', re.M)
-# what the two of OTHERS say, as bufpool's own specs define it
+# the lent memory of the contracts and what a call leaves, and what the two of OTHERS say, as bufpool's own specs define it
 DEFINITIONS = {
-    'Interface.antt': ['interface = 3'],
+    'Lent.antt': [
+        'lent %s =' % ' '.join(SLICES),
+        *('      %s = %s;' % (name, name) for name in SLICES),
+        'ends r answer bytes l = record { result = r; answer = answer; bytes = bytes; lent = l }',
+    ],
+    'Interface.antt': ['interface = 4'],
     'Checksum.antt': [
         'sumResult page answer = cond (eqb (length answer) answerWords && permitted (length page)) 0 1',
         'sumWords page block = cond (permitted (length page)) (one (checksum block page)) zeros',
