@@ -34,7 +34,8 @@ def at_pin(holder, i, before, o):
         passed = [j for j in range(before.n) if before.private(j) and holder not in before.private(j)]
         return happening({'a sweep passes a page that another has': before.control[TOP] == NO_TOP and passed})
     return happening({
-        'a first pin of a page that another has': not count and others, 'a first pin of a held page that none has': not count and not others,
+        'a first pin of a page that another has': not count and others,
+        'a first pin of a held page that none has': not count and not others,
         'a pin again, usage below the cap': count and usage(before.states[i]) < cap,
         'a pin again of a page that another has': count and others, 'a count becomes the greatest': count == MOST_COUNT - 1,
         'a pin where another has the greatest count': count and MOST_COUNT in others.values(),
@@ -58,7 +59,8 @@ def at_give_back(holder, before):
     counts = [every[i][holder] for i in own]
     return happening({
         'give back of nothing, another stays': not own and any(every), 'give back of two pages': len(own) > 1,
-        'give back, another stays': any(len(every[i]) > 1 for i in own), 'give back, a page has no pins then': any(len(every[i]) == 1 for i in own),
+        'give back, another stays': any(len(every[i]) > 1 for i in own),
+        'give back, a page has no pins then': any(len(every[i]) == 1 for i in own),
         'give back of a count above 1': any(count > 1 for count in counts), 'the greatest count is given back': MOST_COUNT in counts,
         'give back of a dirty page': any(before.states[i] & DIRTY for i in own), 'give back by 63': holder == 63 and own})
 

@@ -9,7 +9,7 @@ from words import DIRTY, USAGE_ONE, pins, usage
 
 KEYS = [(1663, 5, 16384, 0), (1663, 5, 16384, 1), (0, 0, 0, 0), (2**32 - 1, 2**32 - 1, 2**32 - 1, 2), (1663, 5, 16385, 0), (5, 1663, 0, 2)]
 CAPS = (1, 2, 5, 14, 15)  # those of the lists, and the seeds that stand for case H with each
-BY_HAND = 0  # the seed that stands for a list made by hand
+BY_HAND, MEETING = 0, 3  # the seeds that stand for lists made by hand
 POSITIONS = [5, 100, 2**32 - 2, 2**33 + 7, 2**64 - 4]
 WEIGHTS = {'pin': 40, 'unpin': 22, 'write': 20, 'read': 4, 'flush': 3, 'give_back': 5, 'checkpoint': 3, 'peek': 4, 'extend': 4, 'drop': 5,
            'log_inserted': 6, 'log_flushed': 2}
@@ -231,10 +231,25 @@ def case_h(cap):
                                     ('unpin', 0, 2), *(('unpin', h, 2) for h in holders), ('pin', 0, key + (3,))]
 
 
+def meeting():
+    """Holders meet on two pages, and leave by unpin and give back; a third page comes where all have left. A call by no holder names a
+    buffer behind which stands the count of holder 0, which is not 0."""
+    key = KEYS[0]
+    a, b, c = (key + (block,) for block in range(3))
+    made = Start([9] * CONTROL_WORDS, [7] * 2, [7] * (2 * NAME_WORDS), [zeros(1024)] * 2, [7] * 2, [7] * 2, [7] * 2, [*key, 3, 3],
+                 [zeros(1024)] * 3, [65535] * (2 * HOLDERS))
+    return made, (1024, 100, 5), [
+        ('pin', 0, a), ('pin', 63, a), ('pin', 0, a), ('pin', 1, b), ('pin', 0, b), ('unpin', 64, 0), ('unpin', 2, 0), ('pin', 2, c),
+        ('pin', 64, (1, *c[1:])), ('give_back', 2), ('give_back', 0), ('flush', 0, 0), ('unpin', 63, 0), ('pin', 63, c),
+        ('read', 0, 1, 0, b'x'), ('give_back', 1), ('write', 63, 0, 8, b'y', 9), ('give_back', 63), ('drop', key)]
+
+
 def after_set_up(seed):
     """A start, what its set up is given, and a list of calls after set up."""
-    if seed == BY_HAND or seed in CAPS:
-        return by_hand() if seed == BY_HAND else case_h(seed)
+    if seed in CAPS:
+        return case_h(seed)
+    if seed in (BY_HAND, MEETING):
+        return by_hand() if seed == BY_HAND else meeting()
     r = random.Random(seed)
     made, given = start(r)
     return made, given, random_calls(r, set_up(made, given), r.randint(8, 14))[0]
