@@ -63,14 +63,14 @@ class SizesTakeAnyCounts(Pool):
 
 # at set up
 
-class SetUpLeavesCounts(Pool):
+class LeavesCounts(Pool):
     def set_up(self, page_size, position, cap):
         counts = list(self.m.counts)
         super().set_up(page_size, position, cap)
         self.m.counts[:] = counts
 
 
-class SetUpClearsOneHolder(Pool):
+class ClearsOneHolder(Pool):
     def set_up(self, page_size, position, cap):
         counts = list(self.m.counts)
         super().set_up(page_size, position, cap)
@@ -177,7 +177,7 @@ class ShelfFiveByAnyHolder(Shelf):
 
 BOOKS = [BooksLookAt63, BooksSumTheCounts, BooksTakeMorePins, BooksTakeFewerPins, BooksSkipEmpty, BooksCutPins, BooksCutPinsToAByte,
          BooksCountInAll, SizesTakeAnyCounts]
-SET_UPS = [SizesTakeAnyCounts, SetUpLeavesCounts, SetUpClearsOneHolder]
+SET_UPS = [SizesTakeAnyCounts, LeavesCounts, ClearsOneHolder]
 SHELVES = [ShelfEightByAny, ShelfLetsGoEarly, ShelfSixByHolder, ShelfFourteenByHolder, ShelfNineteenLast, ShelfGiveBackHolds,
            ShelfGiveBackOfAll, ShelfGiveBackCountsStay]
 LIMITS = [ShelfFiveAtTheWordsBits, ShelfFiveByAnyHolder]

@@ -131,7 +131,7 @@ def blocks():
         yield block, one
 
 
-def shelves():
+def shelves(shelf_class=Shelf):
     """Shelves given by hand: N, counts of the pages in row order by holder, the places held at each number, the bad places; and calls.
 
     17 stands above 5 and 6: the second and third have a bad page with the greatest count, and with every buffer pinned. A full count is
@@ -147,7 +147,7 @@ def shelves():
             (3, {0: [1, 0, 1, 0, 0], 63: [0, full, 1, 0, 0]}, [2, 1, 0], []),
             (2, {holder: [1, 0, 0, 0, 0] for holder in range(HOLDERS)}, [None, 0], [])]:
         start = base()
-        shelf = Shelf(start.memory())
+        shelf = shelf_class(start.memory())
         shelf.n, shelf.counts = n, {(holder, page): count for holder, some in counts.items() for page, count in zip(pages, some)}
         shelf.holds = {b: pages[place] for b, place in enumerate(holds) if place is not None}
         shelf.bad = {pages[place] for place in bad}

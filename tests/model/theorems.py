@@ -6,7 +6,7 @@ import shutil
 BELOW = ['laws', 'bufhash', 'buftag', 'bufmodel', 'shelf']
 
 HEAD = '''-- Written by tests/model/vectors.py.
-use Prim.Native.Nat.{ℕ}
+use Prim.Native.Nat.{ℕ, _+_, _*_}
 use mathlib.Core.Path.{_≡_, refl}
 use mathlib.Core.Bool.{true, false}
 use mathlib.Core.List.{List, [], _∷_, _++_}

@@ -27,10 +27,11 @@ from theorems import BELOW, Crate, Module, seen_crate
 
 # seeds of lists in which much happens, with few checksums: the checker takes a third of a second for each
 AFTER_SET_UP = [
-    BY_HAND, *CAPS, MEETING, 197, 379, 537, 579, 585, 612, 1105, 1407, 1442, 2330, 2427, 2668, 3126, 3279, 3821, 4139, 4718, 4726, 4899, 5358,
-    5809, 5875, 6019, 6421, 6836, 6838, 6918, 7285, 7354, 7867, 8542, 8894, 8906, 9034, 10090, 10132, 10187, 10355, 10405, 10634,
-    11066, 11248]
-FROM_SOUND = [111, 231, 1110, 1281, 1378, 1401, 1557, 1930, 1976, 2046, 2127, 2348, 2401, 2478, 2836, 2900]
+    BY_HAND, *CAPS, MEETING, 137, 246, 269, 940, 1053, 1056, 1261, 1320, 1330, 1790, 1964, 2320, 2327, 2486, 2488, 2567, 2699, 3141, 3181,
+    3414, 3473, 3512, 3570, 3969, 4025, 4350, 4469, 4526, 4652, 4726, 5040, 5084, 5182, 5191, 5251, 5352, 5421, 5883, 5893, 6267, 6612,
+    6753, 6849, 6915, 7164, 7484, 7536, 7579, 7599, 7607, 7747]
+FROM_SOUND = [
+    138, 402, 512, 587, 802, 1140, 1179, 1184, 1838, 1990, 2216, 2589, 2631, 2641, 2802, 2988]
 
 
 # lists of calls
@@ -181,8 +182,13 @@ def write_damage(room, unfolding):
     write_sums(crate, Module('Sums', unfolding))
 
 
-def state_refusals(module, name, shelf_name, one, shelf_class=Shelf):
+def refusals(one):
     """What a shelf given by hand refuses."""
+    _, shelf, *_, calls = one
+    return [shelf.refuses(call) for call in calls]
+
+
+def state_refusals(module, name, shelf_name, one):
     start, shelf, counts, holds, bad, calls = one
     held = listed('missing' if place is None else f'found {place}' for place in holds)
     places = range(len(start.store))
@@ -193,7 +199,7 @@ def state_refusals(module, name, shelf_name, one, shelf_class=Shelf):
       bytes = λ g. getD {numbers([page.bytes() for page in start.store])} g [];
       counts = λ h g. getD {by_holder} (h * {len(places)} + g) 0; holds = λ b. getD {held} b missing; bad = λ g. getD {spoilt} g false
     }}''')
-    module.state(name, f'refusals {shelf_name} {calls_term(calls)}', numbers([shelf_class.refuses(shelf, call) for call in calls]))
+    module.state(name, f'refusals {shelf_name} {calls_term(calls)}', numbers(refusals(one)))
 
 
 def write_limits(crate, module):
@@ -276,6 +282,7 @@ def write_slips(room, unfolding):
                 sys.exit(f'{slip.__name__}: pool and shelf do not differ in {word} in Python')
     write_memory_slips(crate, unfolding)
     write_set_up_slips(crate, unfolding)
+    write_limit_slips(crate, unfolding)
 
 
 def write_memory_slips(crate, unfolding):
@@ -302,6 +309,16 @@ def write_set_up_slips(crate, unfolding):
         module = Module(f'SetUp{slip.__name__}', unfolding)
         state_set_up(module, 'wrong', *apart[0])
         crate.add(module, f'shows in {len(apart)} set-ups, the first with {apart[0][1]}')
+
+
+def write_limit_slips(crate, unfolding):
+    for slip in slips.LIMITS:
+        apart = [wrong for one, wrong in zip(limits.shelves(), limits.shelves(slip)) if refusals(one) != refusals(wrong)]
+        if not apart:
+            sys.exit(f'{slip.__name__} shows on no shelf')
+        module = Module(slip.__name__, unfolding)
+        state_refusals(module, 'wrong', 'shelf', apart[0])
+        crate.add(module, f'shows on {len(apart)} shelves')
 
 
 def main():
