@@ -192,6 +192,10 @@ def books():
                       (0, 3), (0, -3), (2, 5)]:
         yield f'free link {at} is {value}', 2, setting('free', at, value)
     yield 'the free list the other way', 0, both(setting('free', 3, -1), setting('free', 4, 3), setting('control', TOP, 4))
+
+
+def pages():
+    """As books: names, log positions of pages, chains."""
     for word in range(NAME_WORDS):
         yield f'word {word} of an empty name', 2, setting('names', 4 * NAME_WORDS + word, 1)
     yield 'a name at the block count', 2, naming(2, MAP + (1,))
@@ -281,7 +285,7 @@ assert [Pool(base().memory()).call(call).number for call in TRIES] == [0] * 15 +
 
 def damaged():
     """Name, start, and the calls to try."""
-    for k, (name, number, change) in enumerate([*sizes(), *books(), *caps(), *counts()]):
+    for k, (name, number, change) in enumerate([*sizes(), *books(), *pages(), *caps(), *counts()]):
         start = base()
         change(start)
         calls = [TRIES[(3 * k + j) % len(TRIES)] for j in range(3)]

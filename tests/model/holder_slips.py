@@ -154,8 +154,10 @@ class CutsHolder(Pool):
 # give back
 
 class GiveBackOfTheNext(Pool):
+    """Of another holder, and not of the one named."""
+
     def give_back(self, holder):
-        super().give_back(holder)
+        self.check_holder(holder)
         super().give_back((holder + 1) % HOLDERS)
 
 

@@ -267,11 +267,28 @@ def crowd(r, having):
     return counts
 
 
+def crowded():
+    """Two buffers. All holders but 63 have the first, holder 0 with one pin less than the greatest count; holder 1 has the second, with the
+    greatest. Holder 0's count becomes the greatest and is refused one more, while 63 comes; all 64 have the page then."""
+    key = KEYS[0]
+    a, b, c = (key + (block,) for block in range(3))
+    blank = Start([9] * CONTROL_WORDS, [7] * 2, [7] * (2 * NAME_WORDS), [zeros(1024)] * 2, [7] * 2, [7] * 2, [7] * 2, [*key, 3, 3],
+                  [zeros(1024)] * 3, [7] * (2 * HOLDERS))
+    m = run(Pool, set_up(blank, (1024, 100, 5)), [*(('pin', h, a) for h in range(HOLDERS - 1)), ('pin', 1, b)])[-1].memory
+    m.counts[0], m.counts[HOLDERS + 1] = MOST_COUNT - 1, MOST_COUNT
+    sound = Start(m.control, m.states, m.names, blank.pool, m.free, m.heads, m.chain, m.rows, blank.store, m.counts)
+    return sound, [
+        ('pin', 0, a), ('pin', 0, a), ('pin', 63, a), ('pin', 63, a), ('pin', 0, a), ('pin', 1, b), ('pin', 0, b), ('pin', 64, a),
+        ('pin', 2, c), ('give_back', 0), *[('unpin', 63, 0)] * 3, ('unpin', 1, 1), ('give_back', 1), ('pin', 2, c)]
+
+
 def from_sound(seed):
     """A sound memory as some earlier calls left it, with other bytes in its pages and counts at or near their ends, and calls.
 
     Pages of zeros may be dirty there, and a page may be held whose block does not pass.
     """
+    if seed == BY_HAND:
+        return crowded()
     r = random.Random(10_000 + seed)
     made, given = start(r)
     m = random_calls(r, set_up(made, given), r.randint(10, 60))[1]
