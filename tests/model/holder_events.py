@@ -1,5 +1,5 @@
 """What has to happen in the lists of calls by holders. events.py takes it in."""
-from memory import CAP, FILE_WORDS, HOLDERS, NO_TOP, TOP
+from memory import CAP, FILE_WORDS, HAND, HOLDERS
 from pool import MOST_COUNT, Pool
 from words import DIRTY, pins, usage
 
@@ -31,8 +31,8 @@ def at_pin(holder, i, before, o):
     others, cap = before.private(i), before.control[CAP]
     count = others.pop(holder, 0)
     if not o.answer[1]:
-        passed = [j for j in range(before.n) if before.private(j) and holder not in before.private(j)]
-        return happening({'a sweep passes a page that another has': before.control[TOP] == NO_TOP and passed})
+        passed = [before.private((before.control[HAND] + k) % before.n) for k in range(o.answer[3])]
+        return happening({'a sweep passes a page that another has': any(private and holder not in private for private in passed)})
     return happening({
         'a first pin of a page that another has': not count and others,
         'a first pin of a held page that none has': not count and not others,
