@@ -36,28 +36,28 @@ FROM_SOUND = [
 
 # lists of calls
 
-def observed(seed, pool_class=Pool, shelf_class=Shelf):
-    """What the model gives for the list of this seed."""
+def observed(seed, pool_class=Pool, shelf_class=Shelf, count=None):
+    """What the model gives for the list of this seed, or for its first calls."""
     made, given, calls = after_set_up(seed)
     memory = set_up(made, given)
-    return list_seen(shelf_class(memory), calls, run(pool_class, memory, calls))
+    return list_seen(shelf_class(memory), calls[:count], run(pool_class, memory, calls[:count]))
 
 
 def calls_term(calls):
     return listed(map(call_term, calls))
 
 
-def define_list(module, seed):
-    """The definitions of a list; gives the term of what is seen of it."""
+def define_list(module, seed, count=None):
+    """The definitions of a list, or of its first calls; gives the term of what is seen of it."""
     made, given, calls = after_set_up(seed)
     start = ' '.join([f'start-{seed}', *map(str, given)])
     module.define(f'start-{seed}', 'Memory', made.memory_term())
-    module.define(f'calls-{seed}', 'List Call', calls_term(calls))
+    module.define(f'calls-{seed}', 'List Call', calls_term(calls[:count]))
     return f'listSeen (setUp {start} .after) (firstLedger {start}) calls-{seed}'
 
 
-def shelf_observed(seed, shelf_class=Shelf):
-    return observed(seed, Pool, shelf_class)
+def shelf_observed(seed, shelf_class=Shelf, count=None):
+    return observed(seed, Pool, shelf_class, count)
 
 
 def lent_observed(seed, pool_class=Pool):
@@ -230,7 +230,7 @@ def write_sums(crate, module):
 # planted errors
 
 def first_wrong(slip, seeds, seen):
-    """The shortest list on which a wrong model gives something else, and what it gives. It may stop in one."""
+    """The first list on which a wrong model gives something else, and what it gives. It may stop in one."""
     for seed in seeds:
         try:
             wrong = seen(seed, slip)
@@ -239,6 +239,12 @@ def first_wrong(slip, seeds, seen):
         if wrong != seen(seed):
             return seed, wrong
     sys.exit(f'{slip.__name__} shows in no list')
+
+
+def cost(seed):
+    """What the checker has to do for a list: blocks with checksums first, then calls."""
+    made, _, calls = after_set_up(seed)
+    return sum(any(page.bytes()) for page in made.store), len(calls)
 
 
 def claimed(slip):
@@ -265,12 +271,14 @@ def write_slips(room, unfolding):
     if planted() != {*slips.POOLS, *slips.LENT, *slips.BOOKS, *slips.SET_UPS, *slips.SHELVES, *slips.LIMITS}:
         sys.exit('there is a planted error that is in none of the lists')
     crate = Crate(room, 'model_slips', [*BELOW, 'model_seen'])
-    shortest = sorted(AFTER_SET_UP, key=lambda seed: len(after_set_up(seed)[2]))
+    cheapest = sorted(AFTER_SET_UP, key=cost)
     for slip in [*slips.POOLS, *slips.SHELVES]:
-        seed, wrong = first_wrong(slip, shortest, observed if slip in slips.POOLS else shelf_observed)
+        seen = observed if slip in slips.POOLS else shelf_observed
+        seed, wrong = first_wrong(slip, cheapest, seen)
+        count = 1 + next(k for k, (one, other) in enumerate(zip(seen(seed), wrong)) if one != other)
         module = Module(slip.__name__, unfolding)
-        module.state('wrong', define_list(module, seed), numbers(wrong))
-        crate.add(module, f'shows in list-{seed}')
+        module.state('wrong', define_list(module, seed, count), numbers(seen(seed, slip, count=count)))
+        crate.add(module, f'shows in list-{seed}, its first {min(count, len(after_set_up(seed)[2]))} calls')
     for slip in slips.LENT:
         seed, wrong = first_wrong(slip, FROM_SOUND, lent_observed)
         module = Module(slip.__name__, unfolding)
