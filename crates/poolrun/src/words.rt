@@ -2,8 +2,6 @@
 
 ghost use mathlib.Core.Path.{_≡_};
 ghost use Prim.Native.Nat.{_<_};
-ghost use lib.ListN.{length};
-ghost use Rattle.bufmodel.specs.Counts.{countPlace};
 use crate::bench::Bench;
 use crate::text::say;
 use crate::text::say_number;
@@ -42,29 +40,38 @@ pub(crate) fn say_word(bench: Bench, buffer: usize)
     say(b"\n");
 }
 
+// How many pins a holder has on a buffer.
 fn say_count(counts: &[u16], holder: usize, buffer: usize)
-    requires { ⌜ countPlace buffer holder < length (now counts) ⌝ }
+    requires { ⌜ (holder < 64) × (buffer < 3) ⌝ }
 {
-    say_number(
-        b" ",
-        count_of(counts, Holder(holder), BufferNumber(buffer)) as u64,
-    );
+    if buffer * 64 + holder < counts.len() {
+        say_number(
+            b" ",
+            count_of(counts, Holder(holder), BufferNumber(buffer)) as u64,
+        );
+    }
 }
 
-// How many pins the first six holders and the last have on a buffer.
+// Of the first six holders, and of the last.
+fn say_row(counts: &[u16], buffer: usize)
+    requires { ⌜ buffer < 3 ⌝ }
+{
+    say_number(b"buffer ", buffer as u64);
+    say(b": counts");
+    say_count(counts, 0, buffer);
+    say_count(counts, 1, buffer);
+    say_count(counts, 2, buffer);
+    say_count(counts, 3, buffer);
+    say_count(counts, 4, buffer);
+    say_count(counts, 5, buffer);
+    say(b" ..");
+    say_count(counts, 63, buffer);
+    say(b"\n");
+}
+
 pub(crate) fn say_counts(bench: Bench, buffer: usize)
     requires { ⌜ buffer < 3 ⌝ }
 {
     let counts = bench.counts;
-    say_number(b"buffer ", buffer as u64);
-    say(b": counts");
-    say_count(&counts, 0, buffer);
-    say_count(&counts, 1, buffer);
-    say_count(&counts, 2, buffer);
-    say_count(&counts, 3, buffer);
-    say_count(&counts, 4, buffer);
-    say_count(&counts, 5, buffer);
-    say(b" ..");
-    say_count(&counts, 63, buffer);
-    say(b"\n");
+    say_row(&counts, buffer);
 }

@@ -56,9 +56,9 @@ returns-3 c =
     let at-if1 = at-if2 .before in
     let p = at-put-written .put-written .ensures in
     let u = at-flush-buffer .flush-buffer .ensures in
-    let read = call-read _ _ _ (flush-early _) _ (at-read-control .read-control .ensures) in
+    let read = call-read _ _ _ (flush-early _ _) _ (at-read-control .read-control .ensures) in
     rw (at-keep-control .keep-control .ensures)
-    (export-made _ _ _ _ (at-if1 .if1 .left) (at-if2 .if2 .left) read (flush-answers _ _)
+    (export-made _ _ _ _ (at-if1 .if1 .left) (at-if2 .if2 .left) read (flush-answers _ _ _)
     (p .0 ∙ u .1 .0) (p .1 ∙ u .1 .1 .0) (u .1 .1 .1))
 
 pub bufpool-flush-spec : {M : Type 1} → statement M

@@ -47,10 +47,10 @@ returns-3 c =
     let p = at-put-accepted .put-accepted .ensures in
     let u = at-read-buffer .read-buffer .ensures in
     let is = at-read-control .read-control .ensures in
-    let early = read-early _ _ _ in
+    let early = read-early _ _ _ _ in
     rw (u .1 .1 .1)
-    (export-left _ _ _ _ (at-if1 .if1 .left) (at-if2 .if2 .left) (call-read _ _ _ early _ is) (read-answers _ _ _ _)
-    (p .0 ∙ u .1 .0) (p .1 ∙ u .1 .1 .0) (read-left _ _ _ _) early is refl)
+    (export-left _ _ _ _ (at-if1 .if1 .left) (at-if2 .if2 .left) (call-read _ _ _ early _ is) (read-answers _ _ _ _ _)
+    (p .0 ∙ u .1 .0) (p .1 ∙ u .1 .1 .0) (read-left _ _ _ _ _) early is refl)
 
 pub bufpool-read-spec : {M : Type 1} → statement M
 bufpool-read-spec =

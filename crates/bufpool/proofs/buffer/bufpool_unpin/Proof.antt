@@ -37,18 +37,21 @@ same-length-2 c = search needs
 same-length-3 : tie.Need-same-length-3
 same-length-3 c = search needs
 
+same-length-4 : tie.Need-same-length-4
+same-length-4 c = search needs
+
 returns-3 : tie.Need-returns-3
 returns-3 c =
     let at-put-accepted = c .before .before in
-    let at-unpin-buffer = at-put-accepted .before .before .before .before in
-    let at-read-control = at-unpin-buffer .before .before in
+    let at-unpin-buffer = at-put-accepted .before .before .before .before .before .before in
+    let at-read-control = at-unpin-buffer .before .before .before in
     let at-if2 = at-read-control .before in
     let at-if1 = at-if2 .before in
     let is = at-read-control .read-control .ensures in
-    let early = unpin-early _ in
+    let early = unpin-early _ _ in
     let p = at-put-accepted .put-accepted .ensures in
     let u = at-unpin-buffer .unpin-buffer .ensures in
-    export-left _ _ _ _ (at-if1 .if1 .left) (at-if2 .if2 .left) (call-read _ _ _ early _ is) (unpin-answers _ _)
+    export-left _ _ _ _ (at-if1 .if1 .left) (at-if2 .if2 .left) (call-read _ _ _ early _ is) (unpin-answers _ _ _)
     (p .0 ∙ u .1 .0) (p .1 ∙ u .1 .1 .0) (u .1 .1 .1) early is refl
 
 pub bufpool-unpin-spec : {M : Type 1} → statement M
@@ -64,4 +67,5 @@ bufpool-unpin-spec =
     put-accepted-requires
     same-length-2
     same-length-3
+    same-length-4
     returns-3)

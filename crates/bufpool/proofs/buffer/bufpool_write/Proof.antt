@@ -50,8 +50,8 @@ returns-3 c =
     let p = at-put-accepted .put-accepted .ensures in
     let u = at-write-buffer .write-buffer .ensures in
     let is = at-read-control .read-control .ensures in
-    let early = write-early _ _ _ _ in
-    export-left _ _ _ _ (at-if1 .if1 .left) (at-if2 .if2 .left) (call-read _ _ _ early _ is) (write-answers _ _ _ _ _)
+    let early = write-early _ _ _ _ _ in
+    export-left _ _ _ _ (at-if1 .if1 .left) (at-if2 .if2 .left) (call-read _ _ _ early _ is) (write-answers _ _ _ _ _ _)
     (p .0 ∙ u .1 .0) (p .1 ∙ u .1 .1 .0) (u .1 .1 .1) early is refl
 
 pub bufpool-write-spec : {M : Type 1} → statement M

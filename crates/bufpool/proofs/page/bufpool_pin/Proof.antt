@@ -7,8 +7,7 @@ use Rattle.bufpool.proofs.page.bufpool_pin.Statement.{statement}
 use Rattle.bufpool.proofs.page.bufpool_pin.Tie as tie
 
 returns : tie.Need-returns
-returns c =
-    export-answer _ _ _ _ (c .if1 .taken)
+returns c = export-answer _ _ _ _ (c .if1 .taken)
 
 refuse-requires : tie.Need-refuse-requires
 refuse-requires c κs = search needs

@@ -55,12 +55,15 @@ same-length-7 c = search needs
 same-length-8 : tie.Need-same-length-8
 same-length-8 c = search needs
 
+same-length-9 : tie.Need-same-length-9
+same-length-9 c = search needs
+
 returns-3 : tie.Need-returns-3
 returns-3 c =
     let at-keep-control = c .before .before in
     let at-put-accepted = at-keep-control .before .before .before .before in
-    let at-set-up-pool = at-put-accepted .before .before .before .before .before .before .before .before .before in
-    let at-if2 = at-set-up-pool .before .before .before .before .before .before .before .before in
+    let at-set-up-pool = at-put-accepted .before .before .before .before .before .before .before .before .before .before .before in
+    let at-if2 = at-set-up-pool .before .before .before .before .before .before .before .before .before in
     let at-if1 = at-if2 .before in
     let p = at-put-accepted .put-accepted .ensures in
     let u = at-set-up-pool .set-up-pool .ensures in
@@ -87,4 +90,5 @@ bufpool-set-up-spec =
     same-length-6
     same-length-7
     same-length-8
+    same-length-9
     returns-3)
