@@ -1,7 +1,8 @@
 """Planted errors about the cap, as slips.py has them. Its lists take these in."""
 from memory import ANSWER_WORDS, CAP, FLUSHED
-from pool import USAGE_ONE, Pool, refuse, usage
+from pool import Pool, refuse
 from shelf import Shelf
+from words import USAGE_ONE, usage
 
 
 class RaisesWithoutCap(Pool):

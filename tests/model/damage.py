@@ -2,10 +2,11 @@
 
 Each has the number that the rules give by hand; the model must give it too, and then the definitions.
 """
-from memory import BLOCK, BLOCKS, CAP, CAPACITY, CONTROL_WORDS, FLUSHED, FORK, HAND, INSERTED, NAME_WORDS, NO_TOP, P
+from memory import BLOCK, BLOCKS, CAP, CAPACITY, CONTROL_WORDS, FLUSHED, FORK, HAND, HOLDERS, INSERTED, NAME_WORDS, NO_TOP, P
 from memory import RELATION, ROW_WORDS, TOP
-from pool import CLEAN_FLAGS, DIRTY, DIRTY_FLAGS, JUST_DIRTIED, USAGE_ONE, Pool, usage
+from pool import Pool
 from terms import Page, Start, zeros
+from words import CLEAN_FLAGS, DIRTY, DIRTY_FLAGS, JUST_DIRTIED, USAGE_ONE, usage
 
 BUCKETS = 6
 KEY, MAP = (1663, 5, 16384, 0), (1663, 5, 16384, 1)
@@ -14,21 +15,23 @@ KEY, MAP = (1663, 5, 16384, 0), (1663, 5, 16384, 1)
 def base():
     """N = 5, B = 6: blocks 0, 2 and 1 in buffers 0, unpinned, 1, dirty and pinned, and 2, pinned; 0 and 1 are in one chain.
 
-    Free list 3, 4; inserted 120, flushed 100; cap 5. Of the store's blocks the first two have their checksums; the map's does not pass.
+    Holders 0, twice, and 63 have buffer 1, holder 63 has buffer 2. Free list 3, 4; inserted 120, flushed 100; cap 5. Of the store's blocks
+    the first two have their checksums; the map's does not pass.
     """
     rows = [*KEY, 3, 3, *MAP, 1, 2]
     blank = Start([0] * CONTROL_WORDS, [0] * 5, [0] * (5 * NAME_WORDS), [zeros(1024)] * 5, [0] * 5, [0] * BUCKETS, [0] * 5, rows,
-                  [zeros(1024)] * 5)
+                  [zeros(1024)] * 5, [0] * (5 * HOLDERS))
     m = blank.memory()
-    for call in [('set_up', 1024, 100, 5), ('log_inserted', 120), *(('pin', KEY + (block,)) for block in (0, 2, 1)),
-                 ('write', 1, 8, b'x', 110), ('unpin', 0)]:
+    for call in [('set_up', 1024, 100, 5), ('log_inserted', 120), ('pin', 0, KEY + (0,)), ('pin', 63, KEY + (2,)), ('pin', 63, KEY + (1,)),
+                 ('write', 63, 1, 8, b'x', 110), ('unpin', 0, 0), *[('pin', 0, KEY + (2,))] * 2]:
         outcome = Pool(m).call(call)
         assert outcome.number == 0
         m = outcome.memory
     m.control[HAND] = 2
     pool = [Page(position, seed) for position, seed in [(0, 11), (110, 22), (90, 33), (2**63, 44), (0, 55)]]
     store = [Page(0, 66, block=0), Page(5, 77, block=1), Page(90, 88), Page(0, 99), Page(130, 111)]
-    return Start(m.control, m.states, m.names, pool, m.free, m.heads, m.chain, m.rows, store)
+    m.states[1] -= USAGE_ONE  # each has usage 1
+    return Start(m.control, m.states, m.names, pool, m.free, m.heads, m.chain, m.rows, store, m.counts)
 
 
 def chained(start):
@@ -64,8 +67,10 @@ def longer(part, value):
     return lambda start: getattr(start, part).append(value)
 
 
-def shorter(part):
-    return lambda start: getattr(start, part).pop()
+def shorter(part, by=1):
+    def change(start):
+        del getattr(start, part)[-by:]
+    return change
 
 
 def naming(i, name):
@@ -112,7 +117,7 @@ def buckets(count):
 
 def emptied(start):
     """No buffers at all."""
-    for part in ('states', 'names', 'pool', 'free', 'chain'):
+    for part in ('states', 'names', 'pool', 'free', 'chain', 'counts'):
         getattr(start, part).clear()
     start.control[HAND], start.control[TOP] = 0, NO_TOP
     start.heads[:] = [-1] * len(start.heads)
@@ -136,10 +141,12 @@ def many_rows(count):
 def sizes():
     """Each rule of sizes and rows broken, number 1; and what stands at its edge, number 0."""
     yield 'the base', 0, lambda start: None
-    for part, value in [('states', 0), ('names', 0), ('free', -2), ('chain', -1), ('rows', 0), ('control', 0)]:
+    for part, value in [('states', 0), ('names', 0), ('free', -2), ('chain', -1), ('rows', 0), ('control', 0), ('counts', 0)]:
         yield f'{part} one longer', 1, longer(part, value)
         yield f'{part} one shorter', 1, shorter(part)
     yield 'no control', 1, lambda start: start.control.clear()
+    for name, by in [('no counts', 5 * HOLDERS), ('a buffer less in counts', HOLDERS), ('a holder less in counts', 5)]:
+        yield name, 1, shorter('counts', by)
     for part in ('pool', 'store'):
         yield f'{part} one byte longer', 1, last_page(part, 1025)
         yield f'{part} one byte shorter', 1, last_page(part, 1023)
@@ -175,7 +182,7 @@ def books():
                     (TOP, NO_TOP, 2), (TOP, NO_TOP - 1, 2), (TOP, 0, 2), (TOP, 4, 2), (TOP, 2**32 + 3, 2)]:
         yield 'control word %d is %d' % control[:2], control[2], setting('control', *control[:2])
     for word, number in [
-            (clean | 5 * USAGE_ONE, 0), (clean | 6 * USAGE_ONE, 2), (clean | 15 * USAGE_ONE, 2), (clean | 262143, 0), (clean, 0),
+            (clean | 5 * USAGE_ONE, 0), (clean | 6 * USAGE_ONE, 2), (clean | 15 * USAGE_ONE, 2), (clean | 262143, 2), (clean, 0),
             (dirty, 0), (clean | DIRTY, 2), (clean | JUST_DIRTIED, 2), (1, 2), (USAGE_ONE, 2), (DIRTY_FLAGS, 2),
             *((clean ^ 1 << bit, 2) for bit in (24, 25, 31)), *((clean | 1 << bit, 2) for bit in (22, 26, 27, 29, 30)),
             *((dirty ^ 1 << bit, 2) for bit in (24, 25, 31)), (0, 2), (2**32 - 1, 2)]:
@@ -185,6 +192,10 @@ def books():
                       (0, 3), (0, -3), (2, 5)]:
         yield f'free link {at} is {value}', 2, setting('free', at, value)
     yield 'the free list the other way', 0, both(setting('free', 3, -1), setting('free', 4, 3), setting('control', TOP, 4))
+
+
+def pages():
+    """As books: names, log positions of pages, chains."""
     for word in range(NAME_WORDS):
         yield f'word {word} of an empty name', 2, setting('names', 4 * NAME_WORDS + word, 1)
     yield 'a name at the block count', 2, naming(2, MAP + (1,))
@@ -226,23 +237,59 @@ def caps():
         yield f'cap {cap}, a chain link less', 1, both(capped(cap), shorter('chain'))
 
 
-TRIES = [('pin', KEY + (2,)), ('unpin', 1), ('read', 1, 4, b'abcdef'), ('write', 1, 9, b'yz', 115), ('flush', 1), ('checkpoint',),
-         ('peek', KEY + (0,)), ('extend', MAP), ('drop', MAP), ('log_inserted', 130), ('log_flushed', 110),
-         ('pin', (1, 2, 3, 0, 0)), ('unpin', 9), ('read', 0, 0, b'ab'), ('write', 1, 7, b'', 121), ('flush', 2**64 - 1),
-         ('peek', KEY + (3,)), ('extend', KEY), ('drop', KEY), ('log_inserted', 1), ('log_flushed', 200), ('pin', MAP + (0,)),
-         ('peek', MAP + (0,))]
+def counted(i, holder, value):
+    """A private count becomes another."""
+    return setting('counts', i * HOLDERS + holder, value)
 
 
-assert [Pool(base().memory()).call(call).number for call in TRIES[-2:]] == [17, 17]
+def pinning(i, count, *others):
+    """Buffer i's word has this pin count; its first holders, as many as others says, have a pin each, and no others."""
+    def change(start):
+        start.states[i] += count - start.states[i] % USAGE_ONE
+        for some in others:
+            start.counts[i * HOLDERS:(i + 1) * HOLDERS] = [1] * some + [0] * (HOLDERS - some)
+    return change
+
+
+def counts():
+    """The rule on the private counts broken, number 2; and what stands at its edge, number 0."""
+    for i, count, number in [(0, 1, 2), (0, 64, 2), (0, 256, 2), (0, 65536, 2), (1, 0, 2), (1, 1, 2), (1, 3, 2), (1, 258, 2), (1, 65538, 2),
+                             (1, 131074, 2), (2, 0, 2), (2, 2, 2), (2, 262143, 2)]:
+        yield f'word {i} has pin count {count}', number, pinning(i, count)
+    for i, count, holders, number in [(0, 1, 1, 0), (0, 63, 63, 0), (0, 64, 64, 0), (0, 63, 64, 2), (0, 64, 63, 2), (0, 65, 64, 2),
+                                      (2, 64, 64, 0), (2, 262143, 64, 2), (2, 0, 0, 0), (2, 1, 0, 2), (3, 0, 1, 2), (4, 0, 64, 2)]:
+        yield f'word {i} has pin count {count}, {holders} holders', number, pinning(i, count, holders)
+    for i, holder, value, number in [
+            (0, 0, 1, 2), (0, 63, 1, 2), (0, 63, 65535, 2), (1, 0, 0, 2), (1, 0, 1, 0), (1, 0, 65535, 0), (1, 1, 1, 2), (1, 62, 1, 2),
+            (1, 63, 0, 2), (1, 63, 256, 0), (2, 63, 0, 2), (2, 63, 65535, 0), (2, 0, 1, 2), (3, 0, 1, 2), (3, 63, 2, 2), (4, 0, 1, 2),
+            (4, 63, 65535, 2)]:
+        yield f'count of {holder} on {i} is {value}', number, counted(i, holder, value)
+    yield 'a count with another holder', 0, both(counted(2, 63, 0), counted(2, 0, 1))
+    yield 'a count with the next buffer', 2, both(counted(2, 63, 0), counted(3, 0, 1))
+    yield 'a count with another buffer', 2, both(counted(1, 63, 0), counted(2, 0, 1))
+    yield 'a count and a pin with another buffer', 0, both(counted(1, 63, 0), counted(2, 0, 1), pinning(1, 1), pinning(2, 2))
+    yield 'a pin with another buffer', 2, both(pinning(1, 1), pinning(2, 2))
+
+
+TRIES = [('pin', 63, KEY + (2,)), ('unpin', 0, 1), ('read', 63, 1, 4, b'abcdef'), ('write', 0, 1, 9, b'yz', 115), ('flush', 63, 1),
+         ('give_back', 63), ('checkpoint',), ('peek', KEY + (0,)), ('extend', MAP), ('drop', MAP), ('log_inserted', 130),
+         ('log_flushed', 110), ('pin', 1, KEY + (1,)), ('give_back', 5), ('unpin', 63, 1), ('pin', 0, (1, 2, 3, 0, 0)), ('unpin', 0, 9),
+         ('read', 0, 0, 0, b'ab'), ('write', 63, 1, 7, b'', 121), ('flush', 1, 2**64 - 1), ('peek', KEY + (3,)), ('extend', KEY),
+         ('drop', KEY), ('log_inserted', 1), ('log_flushed', 200), ('unpin', 0, 2), ('give_back', 64), ('pin', 64, KEY + (2,)),
+         ('write', 2**32, 1, 9, b'yz', 115), ('pin', 2, MAP + (0,)), ('peek', MAP + (0,))]
+FITTING = TRIES[:12] + TRIES[-2:]  # each call, and a pin and a peek that are refused with 17
+
+
+assert [Pool(base().memory()).call(call).number for call in TRIES] == [0] * 15 + [3, 7, 8, 9, 7, 4, 13, 14, 15, 16, 8, 19, 19, 19, 17, 17]
 
 
 def damaged():
     """Name, start, and the calls to try."""
-    for k, (name, number, change) in enumerate([*sizes(), *books(), *caps()]):
+    for k, (name, number, change) in enumerate([*sizes(), *books(), *pages(), *caps(), *counts()]):
         start = base()
         change(start)
         calls = [TRIES[(3 * k + j) % len(TRIES)] for j in range(3)]
-        numbers = [Pool(start.memory()).call(call).number for call in TRIES[:11] + TRIES[-2:]]
+        numbers = [Pool(start.memory()).call(call).number for call in FITTING]
         # at the edges a call may have a refusal of its own, but not 1 or 2
         assert all(x == number if number else x not in (1, 2) for x in numbers), (name, number, numbers)
         yield name, start, calls

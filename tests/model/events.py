@@ -1,13 +1,17 @@
 """What has to happen somewhere in the lists of calls."""
+import holder_events
 from checksum import AT, with_sum
+from holder_events import happening
 from memory import BLOCK, CAP, FILE_WORDS, FLUSHED, HAND, INSERTED, NAME_WORDS, NO_TOP, P, TOP
-from pool import DIRTY, Pool, peeked, pins, usage
+from pool import BY_HOLDER, Pool, peeked
 from shelf import every_page
+from words import DIRTY, pins, usage
 
-REFUSALS = {'pin': (3, 4, 17, 5, 6), 'peek': (3, 4, 17), 'extend': (3, 13), 'drop': (3, 14), 'unpin': (7, 8), 'flush': (7, 8),
-            'read': (7, 8, 9), 'write': (7, 8, 9, 10, 11, 12), 'log_inserted': (15,), 'log_flushed': (16,), 'checkpoint': ()}
-# only a memory made by hand has so many pins, or a page over a block that does not pass
-ONLY_SOUND = {'pin 5', 'hit over a bad block', 'peek over a bad block'}
+REFUSALS = {'pin': (19, 3, 4, 17, 5, 6), 'peek': (3, 4, 17), 'extend': (3, 13), 'drop': (3, 14), 'unpin': (19, 7, 8), 'flush': (19, 7, 8),
+            'read': (19, 7, 8, 9), 'write': (19, 7, 8, 9, 10, 11, 12), 'log_inserted': (15,), 'log_flushed': (16,), 'checkpoint': (),
+            'give_back': (19,)}
+# only a memory made by hand has such counts and so many holders, or a page over a block that does not pass
+ONLY_SOUND = holder_events.MANY | {'pin 5', 'hit over a bad block', 'peek over a bad block'}
 AT_CAPS = {f'{what}, cap {cap}' for cap in (1, 2, 5, 14, 15)
            for what in ('usage raised', 'usage at the cap', 'swept from the cap', 'swept, wrote')}
 WANTED = {f'{kind} {number}' for kind, refusals in REFUSALS.items() for number in (0, *refusals)} | ONLY_SOUND | AT_CAPS | {
@@ -21,24 +25,21 @@ WANTED = {f'{kind} {number}' for kind, refusals in REFUSALS.items() for number i
     'a loaded block has a checksum', 'a peeked block has a checksum', 'a loaded block is zeros', 'a block is verified at another place',
     'a block is written at another place', 'a page written at 8 or 9 is written back', 'a bad block is dropped', 'extend over a bad block',
     'a read of other bytes 8 and 9 than the shelf has', 'a peek of other bytes 8 and 9 than the shelf has',
-    'a store with other bytes 8 and 9 than the shelf has', 'zeros are written back', 'zeros but for 8 and 9 are written back'}
-
-
-def happening(found):
-    return [what for what, so in found.items() if so]
+    'a store with other bytes 8 and 9 than the shelf has', 'zeros are written back', 'zeros but for 8 and 9 are written back',
+    *holder_events.WANTED}
 
 
 def at_pin(call, before, o):
     i, hit, wrote, probes = o.answer
     cap, used = before.control[CAP], usage(before.states[i])
-    swept = not hit and before.control[TOP] == NO_TOP
+    swept, first = not hit and before.control[TOP] == NO_TOP, hit and call[1] not in before.private(i)
     return happening({
-        'hit': hit, f'usage raised, cap {cap}': hit and used < cap, f'usage at the cap, cap {cap}': hit and used == cap,
+        'hit': hit, f'usage raised, cap {cap}': first and used < cap, f'usage at the cap, cap {cap}': first and used == cap,
         f'swept from the cap, cap {cap}': probes > cap * before.n, f'swept, wrote, cap {cap}': wrote,
         'hit with every buffer pinned': hit and all(map(pins, before.states)),
         'free': not hit and not swept, 'swept': swept, 'swept, more than N probes': probes > before.n,
         'swept, wrote at P 2048': wrote and before.control[P] == 2048,
-        'swept past a pinned buffer': swept and any(map(pins, before.states)), 'a name of zeros': call[1] == (0,) * NAME_WORDS,
+        'swept past a pinned buffer': swept and any(map(pins, before.states)), 'a name of zeros': call[2] == (0,) * NAME_WORDS,
         'the hand wraps': o.memory.control[HAND] < before.control[HAND],
         'a victim behind another in its chain': swept and i in before.chain,
         'entered before another': not hit and o.memory.chain[i] >= 0})
@@ -79,12 +80,13 @@ def at_log_flushed(call, before, _):
 
 
 def at_write(call, _, __):
-    return happening({'a position above 32 bits': call[4] > 2**32, 'a position of 64 bits': call[4] > 2**63})
+    return happening({'a position above 32 bits': call[5] > 2**32, 'a position of 64 bits': call[5] > 2**63})
 
 
 def verified(call, before, o):
     """At a pin or peek of a page that is there: its block."""
-    name, held, every_pinned = call[1], Pool(before).held(call[1]), all(map(pins, before.states))
+    name, every_pinned = call[-1], all(map(pins, before.states))
+    held = Pool(before).held(name)
     full, passes = any(before.store[before.block(name)]), Pool(before).passes(name)
     if held is not None:
         return [f'{"hit" if call[0] == "pin" else "peek"} over a bad block'] * (not passes and not o.number)
@@ -112,9 +114,11 @@ def written_back(before, after):
 def events(call, before, o):
     """What of WANTED happens at a call."""
     yield f'{call[0]} {o.number}'
-    if call[0] == 'write' and o.number == 12 and not before.states[call[1]] & DIRTY:
-        yield from ['a clean page above inserted'] * (Pool(before).position(call[1]) > before.control[INSERTED])
-    if call[0] in ('pin', 'peek') and o.number not in (3, 4):
+    if call[0] in BY_HOLDER:
+        yield from holder_events.by_holder(call, before, o)
+    if call[0] == 'write' and o.number == 12 and not before.states[call[2]] & DIRTY:
+        yield from ['a clean page above inserted'] * (Pool(before).position(call[2]) > before.control[INSERTED])
+    if call[0] in ('pin', 'peek') and o.number not in (19, 3, 4):
         yield from verified(call, before, o)
     if not o.number:
         yield from globals().get(f'at_{call[0]}', lambda *_: [])(call, before, o)
@@ -129,6 +133,5 @@ def left_out(shelf, call, o):
         return ['a store with other bytes 8 and 9 than the shelf has'] * any(
             o.memory.store[o.memory.block(page)] != shelf.bytes_of(page) for page in every_page(o.memory))
     if call[0] == 'peek':
-        return ['a peek of other bytes 8 and 9 than the shelf has'] * (peeked(o) != bytes(shelf.bytes_of(call[1])))
-    page = shelf.bytes_of(shelf.holds[call[1]])
-    return ['a read of other bytes 8 and 9 than the shelf has'] * (o.own != bytes(page[call[2]:call[2] + len(call[3])]))
+        return ['a peek of other bytes 8 and 9 than the shelf has'] * (peeked(o) != shelf.handed(call))
+    return ['a read of other bytes 8 and 9 than the shelf has'] * (o.own != shelf.handed(call))

@@ -1,8 +1,8 @@
 """The limits of set up, of the file rows, of answer slices, and a shelf's refusals at states that no short list reaches."""
 from checksum import bare, checksum, pack_sum, with_sum
 from damage import KEY, MAP, TRIES, base
-from memory import ANSWER_WORDS, CAPACITY, CONTROL_WORDS, FORK, NAME_WORDS, NO_TOP, ROW_WORDS
-from pool import MOST_PINS, Pool, rows_fit
+from memory import ANSWER_WORDS, CAPACITY, CONTROL_WORDS, FORK, HOLDERS, NAME_WORDS, NO_TOP, ROW_WORDS
+from pool import MOST_COUNT, Pool, rows_fit
 from shelf import Shelf, came_bad
 from terms import Page, Start, noise, zeros
 
@@ -12,10 +12,11 @@ def pages(count, size, seed):
     return [Page(k, seed + k, size) for k in range(count)] if count < 9 else [zeros(count * size)]
 
 
-def lent(n, b, rows, size, control=(7, 9, NO_TOP, 3, 4, 6)):
+def lent(n, b, rows, size, control=(7, 9, NO_TOP, 3, 4, 6), counts=None):
     """A memory of this shape, with anything in its books."""
     pool, store = pages(n, size, 1), pages(sum(rows[CAPACITY::ROW_WORDS]), size, 50)
-    return Start(list(control), [7] * n, [7] * (NAME_WORDS * n), pool, [7] * n, [7] * b, [7] * n, list(rows), store)
+    return Start(list(control), [7] * n, [7] * (NAME_WORDS * n), pool, [7] * n, [7] * b, [7] * n, list(rows), store,
+                 [7] * (n * HOLDERS) if counts is None else counts)
 
 
 def files(*capacities):
@@ -59,6 +60,16 @@ def caps():
         yield 1, lent(1, 1, row, 1024), (1000, 5, cap), slice_
         yield 1, lent(1, 1, row, 1024, [7] * (CONTROL_WORDS - 1)), (1024, 5, cap), slice_
         yield 1, lent(1, 1, row, 1024), (1024, 5, cap), slice_[1:]
+
+
+def counts():
+    """As set_ups: private counts of other lengths, 1, and with anything in them, 0, which set up writes as zeros."""
+    row, slice_ = [*KEY, 1, 1], (9, 8, 7, 6)
+    for length in (0, 2, HOLDERS, 2 * HOLDERS - 2, 2 * HOLDERS - 1, 2 * HOLDERS + 1, 3 * HOLDERS):
+        yield 1, lent(2, 3, row, 1024, counts=[7] * length), (1024, 5, 5), slice_
+    for some in ([65535] * 2 * HOLDERS, [0] * 2 * HOLDERS, [0] * HOLDERS + [1] + [0] * (HOLDERS - 2) + [65535]):
+        yield 0, lent(2, 3, row, 1024, counts=some), (1024, 5, 5), slice_
+    yield 1, lent(2, 3, row, 1024, counts=[0]), (1024, 5, 0), slice_
 
 
 def checked(some):
@@ -120,21 +131,25 @@ def blocks():
         yield block, one
 
 
-def shelves():
-    """Shelves given by hand: N, counts of the pages in row order, the places held at each number, the bad places; and calls to refuse.
+def shelves(shelf_class=Shelf):
+    """Shelves given by hand: N, counts of the pages in row order by holder, the places held at each number, the bad places; and calls.
 
-    17 stands above 5 and 6: the second and third have a bad page with the greatest count, and with every buffer pinned.
+    17 stands above 5 and 6: the second and third have a bad page with the greatest count, and with every buffer pinned. A full count is
+    one holder's alone, and a page has pins where any has.
     """
-    pages = [KEY + (0,), KEY + (1,), KEY + (2,), MAP + (0,), MAP + (1,)]
-    calls = [*(('pin', page) for page in pages), *TRIES, *(('unpin', b) for b in range(4))]
+    pages, full = [KEY + (0,), KEY + (1,), KEY + (2,), MAP + (0,), MAP + (1,)], MOST_COUNT
+    calls = [*(('pin', holder, page) for holder in (0, 63) for page in pages), *TRIES,
+             *(('unpin', holder, b) for holder in (0, 2, 63) for b in range(4))]
     for n, counts, holds, bad in [
-            (2, [0, 0, 0, 0, 0], [None, None], [3]), (2, [MOST_PINS, 0, 0, 0, 0], [0, None], [0]),
-            (2, [MOST_PINS - 1, 0, 0, 1, 0], [3, 0], [1]), (1, [0, MOST_PINS, 0, 0, 0], [1], []),
-            (3, [0, 1, 0, 1, 0], [3, None, 1], [0, 4]), (3, [1, 1, 1, 0, 0], [2, 1, 0], [])]:
+            (2, {}, [None, None], [3]), (2, {0: [full, 0, 0, 0, 0], 63: [1, 0, 0, 0, 0]}, [0, None], [0]),
+            (2, {63: [full - 1, 0, 0, 1, 0]}, [3, 0], [1]), (1, {0: [0, full, 0, 0, 0], 63: [0, 255, 0, 0, 0]}, [1], []),
+            (3, {0: [0, 1, 0, 0, 0], 2: [0, 0, 0, 2, 0]}, [3, None, 1], [0, 4]),
+            (3, {0: [1, 0, 1, 0, 0], 63: [0, full, 1, 0, 0]}, [2, 1, 0], []),
+            (2, {holder: [1, 0, 0, 0, 0] for holder in range(HOLDERS)}, [None, 0], [])]:
         start = base()
-        shelf = Shelf(start.memory())
-        shelf.n, shelf.counts = n, dict(zip(pages, counts))
+        shelf = shelf_class(start.memory())
+        shelf.n, shelf.counts = n, {(holder, page): count for holder, some in counts.items() for page, count in zip(pages, some)}
         shelf.holds = {b: pages[place] for b, place in enumerate(holds) if place is not None}
         shelf.bad = {pages[place] for place in bad}
-        assert all(shelf.refuses((kind, pages[place])) == 17 for place in bad[:1] for kind in ('pin', 'peek'))
+        assert all(shelf.refuses(call) == 17 for place in bad[:1] for call in (('pin', 0, pages[place]), ('peek', pages[place])))
         yield start, shelf, counts, holds, bad, calls

@@ -1,7 +1,7 @@
 """Lent memory as the written rules have it: its layout, for every file of this folder, and a few ways to look at it.
 
 A control record has the top of the free list as 64 one bits for -1. A name is a tuple of its words, a file's key of those
-that begin it.
+that begin it. The private counts stand buffer by buffer, each buffer's holder by holder.
 """
 NO_TOP = 2**64 - 1
 
@@ -11,16 +11,17 @@ TABLESPACE, DATABASE, RELATION, FORK, FILE_WORDS = range(5)
 BLOCK, NAME_WORDS = FILE_WORDS, FILE_WORDS + 1
 BLOCKS, CAPACITY, ROW_WORDS = FILE_WORDS, FILE_WORDS + 1, FILE_WORDS + 2
 ANSWER_WORDS = 4
+HOLDERS = 64
 
 
 class Memory:
-    def __init__(self, control, states, names, pool, free, heads, chain, rows, store):
+    def __init__(self, control, states, names, pool, free, heads, chain, rows, store, counts):
         self.control, self.states, self.names, self.pool = control, states, names, pool
-        self.free, self.heads, self.chain, self.rows, self.store = free, heads, chain, rows, store
+        self.free, self.heads, self.chain, self.rows, self.store, self.counts = free, heads, chain, rows, store, counts
 
     def copy(self):
         return Memory(self.control[:], self.states[:], self.names[:], self.pool[:], self.free[:], self.heads[:], self.chain[:],
-                      self.rows[:], self.store[:])
+                      self.rows[:], self.store[:], self.counts[:])
 
     @property
     def n(self):
@@ -56,6 +57,10 @@ class Memory:
     def block(self, name):
         place = self.place(name)
         return slice(place * self.control[P], (place + 1) * self.control[P])
+
+    def private(self, i):
+        """The holders that have buffer i, rising, each with its private count."""
+        return {h: count for h, count in enumerate(self.counts[HOLDERS * i:HOLDERS * (i + 1)]) if count}
 
     def used(self):
         return [i for i in range(self.n) if self.states[i] != 0]

@@ -1,24 +1,20 @@
 """The page pool of the written rules in Python: an independent model, written from the paper and not from the crates.
 
-Pool makes a call on lent memory: Pool(memory).call(('pin', name)) gives an Outcome, with the memory afterwards; the memory
+Pool makes a call on lent memory: Pool(memory).call(('pin', holder, name)) gives an Outcome, with the memory afterwards; the memory
 before stays as it was. The lent memory stands in memory.py, the plain shelf and its ledger in shelf.py.
 
-Calls: ('set_up', page size, position, cap) ('pin', name) ('unpin', buffer) ('read', buffer, from, out)
-('write', buffer, from, bytes, position) ('flush', buffer) ('checkpoint',) ('peek', name) ('extend', key) ('drop', key)
-('log_inserted', position) ('log_flushed', position)
+Calls: ('set_up', page size, position, cap) ('pin', holder, name) ('unpin', holder, buffer) ('read', holder, buffer, from, out)
+('write', holder, buffer, from, bytes, position) ('flush', holder, buffer) ('give_back', holder) ('checkpoint',) ('peek', name)
+('extend', key) ('drop', key) ('log_inserted', position) ('log_flushed', position)
 """
-import struct
-
 from checksum import checksum, pack_sum, unpack_sum, with_sum
-from memory import ANSWER_WORDS, BLOCK, BLOCKS, CAP, CAPACITY, CONTROL_WORDS, FILE_WORDS, FLUSHED, FORK, HAND, INSERTED, NAME_WORDS
-from memory import NO_TOP, P, ROW_WORDS, TOP
+from memory import ANSWER_WORDS, BLOCK, BLOCKS, CAP, CAPACITY, CONTROL_WORDS, FILE_WORDS, FLUSHED, FORK, HAND, HOLDERS, INSERTED
+from memory import NAME_WORDS, NO_TOP, P, ROW_WORDS, TOP
+from words import CLEAN_FLAGS, DIRTY, DIRTY_FLAGS, USAGE_ONE, fnv_1a, name_bytes, pack_position, pins, unpack_position, usage
 
 PAGE_SIZES = (1024, 2048, 4096, 8192, 16384, 32768)
-MOST_PINS, LEAST_CAP, MOST_CAP = 262143, 1, 15
-USAGE_ONE = 1 << 18
-DIRTY, VALID, TAG_VALID, JUST_DIRTIED, PERMANENT = 1 << 23, 1 << 24, 1 << 25, 1 << 28, 1 << 31
-CLEAN_FLAGS = VALID | TAG_VALID | PERMANENT
-DIRTY_FLAGS = DIRTY | JUST_DIRTIED
+MOST_COUNT, LEAST_CAP, MOST_CAP = 65535, 1, 15
+BY_HOLDER = ('pin', 'unpin', 'read', 'write', 'flush', 'give_back')
 
 
 class Refused(Exception):
@@ -30,40 +26,16 @@ def refuse(number, condition):
         raise Refused(number)
 
 
-def name_bytes(name):
-    return struct.pack(f'<{NAME_WORDS}I', *name)
-
-
-def fnv_1a(data):
-    value = 2166136261
-    for byte in data:
-        value = (value ^ byte) * 16777619 % 2**32
-    return value
-
-
-def pins(word):
-    return word & MOST_PINS
-
-
-def usage(word):
-    return word >> 18 & 15
-
-
-def pack_position(position):
-    """A log position as the first 8 bytes of a page: the high word, then the low word."""
-    return struct.pack('<2I', position >> 32, position % 2**32)
-
-
-def unpack_position(page):
-    high, low = struct.unpack('<2I', bytes(page[:8]))
-    return high << 32 | low
-
-
 def rows_fit(rows):
     """Whether file rows keep their rules: whole rows, at most 64, forks, blocks, capacities, no two of one file."""
     files = [rows[at:at + ROW_WORDS] for at in range(0, len(rows), ROW_WORDS)]
     return (len(rows) % ROW_WORDS == 0 and len(files) <= 64 and all(row[FORK] <= 2 and row[BLOCKS] <= row[CAPACITY] for row in files)
             and sum(row[CAPACITY] for row in files) <= 65536 and len({tuple(row[:FILE_WORDS]) for row in files}) == len(files))
+
+
+def own_bytes(call):
+    """The caller's slice: of a read its out, of a write its bytes."""
+    return call[4] if call[0] in ('read', 'write') else b''
 
 
 class Outcome:
@@ -78,7 +50,7 @@ class Pool:
     def call(self, call, answer=(0,) * ANSWER_WORDS):
         """The outcome of a call. own is the caller's slice: a read's out afterwards, a write's bytes. A peek's part is peeked()."""
         before = self.m.copy()
-        own = call[3] if call[0] in ('read', 'write') else b''
+        own = own_bytes(call)
         if len(answer) != ANSWER_WORDS:
             return Outcome(1, list(answer), own, before)
         try:
@@ -101,7 +73,7 @@ class Pool:
         m, n, b = self.m, self.m.n, len(self.m.heads)
         return (len(m.control) == CONTROL_WORDS and page_size in PAGE_SIZES and 1 <= n <= 1024 and n <= b <= 4096
                 and len(m.names) == NAME_WORDS * n and len(m.pool) == n * page_size and len(m.free) == n and len(m.chain) == n
-                and rows_fit(m.rows) and len(m.store) == page_size * sum(m.rows[CAPACITY::ROW_WORDS]))
+                and rows_fit(m.rows) and len(m.store) == page_size * sum(m.rows[CAPACITY::ROW_WORDS]) and len(m.counts) == n * HOLDERS)
 
     def books_sound(self):
         m, cap = self.m, self.cap()
@@ -120,7 +92,12 @@ class Pool:
         for bucket, head in enumerate(m.heads):
             if self.walk(head, m.chain) != [i for i in m.used() if self.bucket(m.name(i)) == bucket]:
                 return False
-        return all(self.position(i) <= m.control[INSERTED] for i in m.used() if m.states[i] & DIRTY)
+        return (all(self.position(i) <= m.control[INSERTED] for i in m.used() if m.states[i] & DIRTY)
+                and all(pins(m.states[i]) == self.holders(i) for i in range(m.n)))
+
+    def holders(self, i):
+        """How many holders have a private count of buffer i that is not 0."""
+        return sum(self.count(i, holder) != 0 for holder in range(HOLDERS))
 
     def cap(self):
         """The greatest usage count, as it was given at set up."""
@@ -146,6 +123,29 @@ class Pool:
             members.append(link)
             link = links[link]
         return sorted(members)
+
+    # private counts
+
+    def at(self, i, holder):
+        """Where a holder's private count of buffer i stands."""
+        return i * HOLDERS + holder
+
+    def count(self, i, holder):
+        return self.m.counts[self.at(i, holder)]
+
+    def set_count(self, i, holder, count):
+        self.m.counts[self.at(i, holder)] = count
+
+    def arrive(self, i, holder):
+        """A pin of a page that buffer i has: a holder's first one counts in the word too."""
+        if self.count(i, holder) == 0:
+            self.m.states[i] = self.raised(self.m.states[i], self.cap()) + 1
+        self.set_count(i, holder, self.count(i, holder) + 1)
+
+    def leave(self, i, holder):
+        """The last of a holder's pins on buffer i goes."""
+        self.set_count(i, holder, 0)
+        self.m.states[i] -= 1
 
     # names, chains, pages
 
@@ -229,14 +229,16 @@ class Pool:
         m.states[:], m.names[:] = [0] * n, [0] * (NAME_WORDS * n)
         m.free[:] = list(range(1, n)) + [-1]
         m.heads[:], m.chain[:] = [-1] * len(m.heads), [-1] * n
+        m.counts[:] = [0] * (n * HOLDERS)
 
-    def pin(self, name):
+    def pin(self, holder, name):
         m = self.m
+        self.check_holder(holder)
         self.check_page(name)
         i = self.held(name)
         if i is not None:
-            refuse(5, pins(m.states[i]) == MOST_PINS)
-            m.states[i] = self.raised(m.states[i], self.cap()) + 1
+            refuse(5, self.full(i, holder))
+            self.arrive(i, holder)
             return i, 1, 0, 0
         wrote = probes = 0
         if m.control[TOP] != NO_TOP:
@@ -251,20 +253,27 @@ class Pool:
         self.enter_chain(i)
         m.pool[m.page(i)] = m.store[m.block(name)]
         m.states[i] = CLEAN_FLAGS | USAGE_ONE | 1
+        self.set_count(i, holder, 1)
         return i, 0, wrote, probes
 
-    def unpin(self, i):
-        self.check_buffer(i)
-        self.m.states[i] -= 1
+    def full(self, i, holder):
+        return self.count(i, holder) == MOST_COUNT
 
-    def read(self, i, start, out):
-        self.check_buffer(i)
+    def unpin(self, holder, i):
+        self.check_buffer(holder, i)
+        if self.count(i, holder) == 1:
+            self.leave(i, holder)
+        else:
+            self.set_count(i, holder, self.count(i, holder) - 1)
+
+    def read(self, holder, i, start, out):
+        self.check_buffer(holder, i)
         refuse(9, start + len(out) > self.m.control[P])
         return bytes(self.m.pool[self.m.page(i)][start:start + len(out)])
 
-    def write(self, i, start, data, position):
+    def write(self, holder, i, start, data, position):
         m = self.m
-        self.check_buffer(i)
+        self.check_buffer(holder, i)
         refuse(9, start + len(data) > m.control[P] or start < 8)
         refuse(10, len(data) == 0)
         refuse(11, position > m.control[INSERTED])
@@ -274,9 +283,15 @@ class Pool:
         self.set_position(i, position)
         m.states[i] |= DIRTY_FLAGS
 
-    def flush(self, i):
-        self.check_buffer(i)
+    def flush(self, holder, i):
+        self.check_buffer(holder, i)
         return self.write_back(i),
+
+    def give_back(self, holder):
+        self.check_holder(holder)
+        for i in range(self.m.n):
+            if self.count(i, holder):
+                self.leave(i, holder)
 
     def checkpoint(self):
         return sum(self.write_back(i) for i in range(self.m.n)),
@@ -333,9 +348,13 @@ class Pool:
         self.check_name(name)
         refuse(17, self.held(name) is None and not self.passes(name))
 
-    def check_buffer(self, i):
+    def check_holder(self, holder):
+        refuse(19, holder >= HOLDERS)
+
+    def check_buffer(self, holder, i):
+        self.check_holder(holder)
         refuse(7, i >= self.m.n)
-        refuse(8, pins(self.m.states[i]) == 0)
+        refuse(8, self.count(i, holder) == 0)
 
 
 def peeked(outcome):

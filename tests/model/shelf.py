@@ -5,8 +5,9 @@ the program's, and the ledger takes whether the pin wrote. Bytes of blocks are k
 Where the pool's bytes are compared with the shelf's, bytes 8 and 9 of a page are left out: only the store's have a checksum.
 """
 from checksum import bare, checksum, unpack_sum
-from memory import BLOCK, BLOCKS, CAP, CAPACITY, FILE_WORDS, FLUSHED, INSERTED, P, ROW_WORDS, Memory
-from pool import MOST_PINS, Refused, pack_position, peeked, refuse, unpack_position
+from memory import BLOCK, BLOCKS, CAP, CAPACITY, FILE_WORDS, FLUSHED, HOLDERS, INSERTED, P, ROW_WORDS, Memory
+from pool import BY_HOLDER, MOST_COUNT, Refused, own_bytes, peeked, refuse
+from words import pack_position, unpack_position
 
 
 def came_bad(block, page):
@@ -20,12 +21,12 @@ def every_page(files):
 
 
 class Shelf:
-    """It starts from the memory after an accepted set-up."""
+    """It starts from the memory after an accepted set-up. A count is a holder's of a page."""
 
     def __init__(self, memory):
         self.n, self.page_size, self.inserted = memory.n, memory.control[P], memory.control[INSERTED]
         # rows, and each block's bytes: a memory without buffers
-        self.files = Memory(list(memory.control), [], [], b'', [], [], [], list(memory.rows), bytearray(memory.store))
+        self.files = Memory(list(memory.control), [], [], b'', [], [], [], list(memory.rows), bytearray(memory.store), [])
         self.counts, self.holds = {}, {}
         self.bad = self.bad_pages()
         # the ledger
@@ -38,11 +39,14 @@ class Shelf:
     def is_bad(self, page):
         return came_bad(page[BLOCK], self.bytes_of(page))
 
-    def count(self, page):
-        return self.counts.get(page, 0)
+    def count(self, holder, page):
+        return self.counts.get((holder, page), 0)
+
+    def has_pins(self, page):
+        return any(self.count(holder, page) for holder in range(HOLDERS))
 
     def pinned(self):
-        return [page for page, count in self.counts.items() if count]
+        return {page for (_, page), count in self.counts.items() if count}
 
     def bytes_of(self, page):
         return self.files.store[self.files.block(page)]
@@ -50,35 +54,46 @@ class Shelf:
     def position(self, page):
         return unpack_position(self.bytes_of(page))
 
+    # refusals
+
     def refuses(self, call):
         """The refusal number, 0 if accepted."""
         try:
+            if call[0] in BY_HOLDER:
+                self.check_holder(call[1])
             getattr(self, 'check_' + call[0])(*call[1:])
         except Refused as refusal:
             return refusal.args[0]
         return 0
 
-    def check_pin(self, name):
+    def check_holder(self, holder):
+        refuse(19, holder >= HOLDERS)
+
+    def check_pin(self, holder, name):
         self.check_peek(name)
-        refuse(5, self.count(name) == MOST_PINS)
-        refuse(6, self.count(name) == 0 and len(self.pinned()) == self.n)
+        refuse(5, self.count(holder, name) == MOST_COUNT)
+        refuse(6, not self.has_pins(name) and len(self.pinned()) == self.n)
 
-    def check_unpin(self, buffer):
+    def check_unpin(self, holder, buffer):
         refuse(7, buffer >= self.n)
-        refuse(8, buffer not in self.holds)
+        refuse(8, buffer not in self.holds or self.count(holder, self.holds[buffer]) == 0)
 
-    check_flush = check_unpin
+    def check_flush(self, holder, buffer):
+        self.check_unpin(holder, buffer)
 
-    def check_read(self, buffer, start, out):
-        self.check_unpin(buffer)
+    def check_read(self, holder, buffer, start, out):
+        self.check_unpin(holder, buffer)
         refuse(9, start + len(out) > self.page_size)
 
-    def check_write(self, buffer, start, data, position):
-        self.check_unpin(buffer)
+    def check_write(self, holder, buffer, start, data, position):
+        self.check_unpin(holder, buffer)
         refuse(9, start + len(data) > self.page_size or start < 8)
         refuse(10, len(data) == 0)
         refuse(11, position > self.inserted)
         refuse(12, position < self.position(self.holds[buffer]))
+
+    def check_give_back(self, holder):
+        pass
 
     def check_checkpoint(self):
         pass
@@ -104,10 +119,12 @@ class Shelf:
     def check_log_flushed(self, position):
         refuse(16, position > self.inserted)
 
+    # what an accepted call does
+
     def written_back(self, call, answer):
         """The pages that this accepted call writes back."""
         if call[0] == 'flush':
-            return [page for page in [self.holds[call[1]]] if page in self.dirty]
+            return [page for page in [self.holds[call[2]]] if page in self.dirty]
         if call[0] == 'checkpoint':
             return sorted(self.dirty)
         if call[0] == 'pin' and answer[2]:
@@ -118,81 +135,123 @@ class Shelf:
         """Makes a call: gives its number, the bytes handed out, the pages put into the store."""
         number = self.refuses(call)
         if number:
-            return number, call[3] if call[0] == 'read' else b'', []
-        kind, handed = call[0], b''
+            return number, own_bytes(call) if call[0] == 'read' else b'', []
         put = self.written_back(call, answer)
         self.flushed = max([self.flushed] + [self.position(page) for page in put])
         self.dirty -= set(put)
-        if kind == 'pin':
-            page = tuple(call[1])
-            self.counts[page] = self.count(page) + 1
-            self.holds[answer[0]] = self.last[answer[0]] = page
-        elif kind == 'unpin':
-            page = self.holds[call[1]]
-            self.counts[page] -= 1
-            if self.counts[page] == 0:
-                del self.holds[call[1]]
-        elif kind == 'read':
-            handed = bytes(self.bytes_of(self.holds[call[1]])[call[2]:call[2] + len(call[3])])
-        elif kind == 'write':
-            page = self.holds[call[1]]
-            at = self.files.block(page).start
-            self.files.store[at + call[2]:at + call[2] + len(call[3])] = call[3]
-            self.files.store[at:at + 8] = pack_position(call[4])
-            self.dirty.add(page)
-        elif kind == 'peek':
-            handed = bytes(self.bytes_of(tuple(call[1])))
-        elif kind == 'extend':
-            f = self.files.file(call[1])
-            page = tuple(call[1]) + (self.files.blocks(f),)
-            self.files.store[self.files.block(page)] = bytes(self.page_size)
-            self.files.rows[ROW_WORDS * f + BLOCKS] += 1
-            put = [page]
-        elif kind == 'drop':
-            self.files.rows[ROW_WORDS * self.files.file(call[1]) + BLOCKS] = 0
-            self.dirty, self.bad = ({page for page in some if page[:FILE_WORDS] != tuple(call[1])} for some in (self.dirty, self.bad))
-        elif kind == 'log_inserted':
-            self.inserted = call[1]
-        elif kind == 'log_flushed':
-            self.flushed = max(self.flushed, call[1])
-        return 0, handed, put
+        if call[0] == 'pin':
+            self.pin(*call[1:], answer[0])
+        elif call[0] == 'extend':
+            put = [self.extend(call[1])]
+        elif call[0] in ('read', 'peek'):
+            return 0, self.handed(call), put
+        elif call[0] not in ('flush', 'checkpoint'):
+            getattr(self, call[0])(*call[1:])
+        return 0, b'', put
 
+    def handed(self, call):
+        """What an accepted read or peek hands out."""
+        if call[0] == 'peek':
+            return bytes(self.bytes_of(tuple(call[1])))
+        _, _, buffer, start, out = call
+        return bytes(self.bytes_of(self.holds[buffer])[start:start + len(out)])
+
+    def pin(self, holder, name, buffer):
+        page = tuple(name)
+        self.counts[holder, page] = self.count(holder, page) + 1
+        self.holds[buffer] = self.last[buffer] = page
+
+    def unpin(self, holder, buffer):
+        self.counts[holder, self.holds[buffer]] -= 1
+        self.let_go()
+
+    def give_back(self, holder):
+        self.counts = {(one, page): count for (one, page), count in self.counts.items() if one != holder}
+        self.let_go()
+
+    def let_go(self):
+        """A number holds none as soon as its page has no pins."""
+        self.holds = {buffer: page for buffer, page in self.holds.items() if self.has_pins(page)}
+
+    def write(self, _, buffer, start, data, position):
+        page = self.holds[buffer]
+        at = self.files.block(page).start
+        self.files.store[at + start:at + start + len(data)] = data
+        self.files.store[at:at + 8] = pack_position(position)
+        self.dirty.add(page)
+
+    def extend(self, key):
+        f = self.files.file(key)
+        page = tuple(key) + (self.files.blocks(f),)
+        self.files.store[self.files.block(page)] = bytes(self.page_size)
+        self.files.rows[ROW_WORDS * f + BLOCKS] += 1
+        return page
+
+    def drop(self, key):
+        self.files.rows[ROW_WORDS * self.files.file(key) + BLOCKS] = 0
+        self.dirty, self.bad = ({page for page in some if page[:FILE_WORDS] != tuple(key)} for some in (self.dirty, self.bad))
+
+    def log_inserted(self, position):
+        self.inserted = position
+
+    def log_flushed(self, position):
+        self.flushed = max(self.flushed, position)
+
+
+# the claims about one call of a list
 
 def differs(shelf, call, before, outcome):
-    """The claim about one call of a list: what of the outcome is not the shelf's, as words; the shelf makes the call."""
-    number_of = {page: number for number, page in shelf.holds.items()}
-    earlier = set(shelf.holds)
+    """What of the outcome is not the shelf's, as words; the shelf makes the call."""
+    earlier = dict(shelf.holds)
     expected, handed, put = shelf.step(call, outcome.answer)
-    after, wrong = outcome.memory, []
-
-    def want(what, holds):
-        if not holds:
-            wrong.append(what)
-
-    want('number', outcome.number == expected)
+    claims = [*of_every_call(shelf, call, before, outcome, expected, put)]
     if call[0] in ('read', 'peek'):
-        start = call[2] if call[0] == 'read' else 0
-        want('bytes', bare(handed, start) == bare(peeked(outcome) if call[0] == 'peek' else outcome.own, start))
-    want('rows', after.rows == shelf.files.rows)
-    want('inserted', after.control[INSERTED] == shelf.inserted)
-    want('flushed', after.control[FLUSHED] == shelf.flushed)
-    want('cap', after.control[CAP] == shelf.cap)
-    if expected == 0 and call[0] == 'pin':
-        held = number_of.get(tuple(call[1]))
-        buffer = outcome.answer[0]
-        want('buffer', buffer == held if held is not None else buffer < shelf.n and buffer not in earlier)
-        want('probes', outcome.answer[3] <= (shelf.cap + 1) * shelf.n)
-    if expected == 0 and call[0] in ('flush', 'checkpoint'):
-        want('count', outcome.answer[0] == len(put))
-    if expected == 0 and call[0] == 'extend':
-        want('block', outcome.answer[0] == put[0][BLOCK])
-    if expected == 0 and call[0] == 'checkpoint':
-        for page in every_page(after):
-            want('store', bare(after.store[after.block(page)]) == bare(shelf.bytes_of(page)))
+        start = call[3] if call[0] == 'read' else 0
+        claims.append(('bytes', bare(handed, start) == bare(peeked(outcome) if call[0] == 'peek' else outcome.own, start)))
+    if expected == 0:
+        claims += of_an_accepted(shelf, call, outcome, earlier, put)
+    return [what for what, holds in claims if not holds]
+
+
+def of_every_call(shelf, call, before, outcome, expected, put):
+    after, size = outcome.memory, shelf.page_size
+    yield 'number', outcome.number == expected
+    yield 'rows', after.rows == shelf.files.rows
+    yield 'inserted', after.control[INSERTED] == shelf.inserted
+    yield 'flushed', after.control[FLUSHED] == shelf.flushed
+    yield 'cap', after.control[CAP] == shelf.cap
+    yield 'counts', private_counts(after) == {key: count for key, count in shelf.counts.items() if count}
+    yield 'isolation', isolated(call, before, after)
     for page in every_page(after):
-        want('sums', came_bad(page[BLOCK], after.store[after.block(page)]) == (page in shelf.bad))
-    size = shelf.page_size
+        yield 'sums', came_bad(page[BLOCK], after.store[after.block(page)]) == (page in shelf.bad)
     changed = {k for k in range(len(after.store) // size)
                if after.store[k * size:(k + 1) * size] != before.store[k * size:(k + 1) * size]}
-    want('put', changed <= {after.place(page) for page in put})
-    return wrong
+    yield 'put', changed <= {after.place(page) for page in put}
+
+
+def of_an_accepted(shelf, call, outcome, earlier, put):
+    """earlier is what the numbers held before."""
+    after, (first, _, _, probes) = outcome.memory, outcome.answer
+    if call[0] == 'pin':
+        held = {page: number for number, page in earlier.items()}.get(tuple(call[2]))
+        yield 'buffer', first == held if held is not None else first < shelf.n and first not in earlier
+        yield 'probes', probes <= (shelf.cap + 1) * shelf.n
+    if call[0] in ('flush', 'checkpoint'):
+        yield 'count', first == len(put)
+    if call[0] == 'extend':
+        yield 'block', first == put[0][BLOCK]
+    if call[0] == 'checkpoint':
+        for page in every_page(after):
+            yield 'store', bare(after.store[after.block(page)]) == bare(shelf.bytes_of(page))
+
+
+def private_counts(m):
+    """The counts of a memory that are not 0, by holder and page."""
+    return {(holder, m.name(i)): count for i in range(m.n) for holder, count in m.private(i).items()}
+
+
+def isolated(call, before, after):
+    """Each page on which a holder has a pin that the call does not name stays in its buffer, with that holder's count."""
+    named = call[1] if call[0] in BY_HOLDER else None
+    return all(after.name(i) == before.name(i) and after.private(i).get(holder) == count
+               for i in range(before.n) for holder, count in before.private(i).items() if holder != named)

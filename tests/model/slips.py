@@ -2,10 +2,13 @@
 import struct
 
 import cap_slips
+import count_slips
+import holder_slips
 from checksum import AT, checksum, pack_sum, summed, unpack_sum, with_sum
 from memory import BLOCK, BLOCKS, CAPACITY, FILE_WORDS, HAND, NO_TOP, ROW_WORDS, TOP
-from pool import DIRTY, USAGE_ONE, Pool, Refused, name_bytes, pins, refuse, usage
+from pool import Pool, Refused, refuse
 from shelf import Shelf, came_bad
+from words import DIRTY, USAGE_ONE, name_bytes, pins, usage
 
 
 class SweepLowersPinned(Pool):
@@ -72,9 +75,9 @@ class WriteBackLeavesJustDirtied(Pool):
 class VictimIsReloadedFirst(Pool):
     """A dirty victim's block gets the page that is loaded over it."""
 
-    def pin(self, name):
+    def pin(self, holder, name):
         names = [self.m.name(i) for i in range(self.m.n)]
-        answer = super().pin(name)
+        answer = super().pin(holder, name)
         if answer[2]:
             self.m.store[self.m.block(names[answer[0]])] = self.m.pool[self.m.page(answer[0])]
         return answer
@@ -168,9 +171,9 @@ class RefusesZeros(Pool):
 
 
 class PinVerifiesNothing(Pool):
-    def pin(self, name):
+    def pin(self, holder, name):
         self.check_page = self.check_name
-        return super().pin(name)
+        return super().pin(holder, name)
 
 
 class PeekVerifiesNothing(Pool):
@@ -180,10 +183,10 @@ class PeekVerifiesNothing(Pool):
 
 
 class SeventeenBelowSix(Pool):
-    def pin(self, name):
+    def pin(self, holder, name):
         self.check_name(name)
         refuse(6, self.held(name) is None and all(map(pins, self.m.states)))
-        return super().pin(name)
+        return super().pin(holder, name)
 
 
 class SeventeenAboveFour(Pool):
@@ -250,7 +253,7 @@ class SizesTakeLongerStore(Pool):
 
 
 class ShelfSixForPinned(Shelf):
-    def check_pin(self, name):
+    def check_pin(self, holder, name):
         self.check_peek(name)
         refuse(6, len(self.pinned()) == self.n)
 
@@ -285,13 +288,13 @@ class ShelfGoodWithoutChecksum(Shelf):
 
 
 class ShelfSixAboveSeventeen(Shelf):
-    def check_pin(self, name):
+    def check_pin(self, holder, name):
         bad, self.bad = self.bad, set()
         try:
-            super().check_pin(name)
+            super().check_pin(holder, name)
         finally:
             self.bad = bad
-        super().check_pin(name)
+        super().check_pin(holder, name)
 
 
 class ShelfPeeksAtBad(Shelf):
@@ -318,23 +321,24 @@ class LedgerCountsVictimLate(Shelf):
 
     def written_back(self, call, answer):
         back = super().written_back(call, answer)
-        return [tuple(call[1])] if call[0] == 'pin' and back else back
+        return [tuple(call[2])] if call[0] == 'pin' and back else back
 
 
-POOLS = [*cap_slips.POOLS, SweepLowersPinned, SweepLowersThenTests, PositionAsOneNumber, DropPushesFalling, WriteBackForgetsFlushed,
-         WriteBackLeavesJustDirtied, VictimIsReloadedFirst, ChainEntersAtTail, HashMultipliesFirst, ExtendKeepsBytes, SealsNothing,
-         SealsByPlace, VerifiesByPlace, SealsHighByteFirst, SealsThePoolToo, SealsWithOneRoundOfZeros, SumsItsOwnBytes,
-         PassesWithoutChecksum, RefusesZeros, PinVerifiesNothing, PeekVerifiesNothing, SeventeenBelowSix, SeventeenAboveFour,
-         SweepsBeforeItVerifies, SealsZeros, TakesMarkedZerosForZeros]
-LENT = [*cap_slips.LENT, VerifiesHeldPages]
-BOOKS = [*cap_slips.BOOKS, BooksTakeAnyFlag, BooksTakeLongLinks, SizesTakeLongerStore]
-SET_UPS = cap_slips.SET_UPS
-SHELVES = [*cap_slips.SHELVES, ShelfSixForPinned, ShelfBadForEver, ShelfBadAboveTheCount, ShelfBadByPlace, ShelfGoodWithoutChecksum,
-           ShelfSixAboveSeventeen, ShelfPeeksAtBad, LedgerKeepsDroppedDirty, LedgerCountsVictimLate]
+POOLS = [*cap_slips.POOLS, *holder_slips.POOLS, SweepLowersPinned, SweepLowersThenTests, PositionAsOneNumber, DropPushesFalling,
+         WriteBackForgetsFlushed, WriteBackLeavesJustDirtied, VictimIsReloadedFirst, ChainEntersAtTail, HashMultipliesFirst,
+         ExtendKeepsBytes, SealsNothing, SealsByPlace, VerifiesByPlace, SealsHighByteFirst, SealsThePoolToo, SealsWithOneRoundOfZeros,
+         SumsItsOwnBytes, PassesWithoutChecksum, RefusesZeros, PinVerifiesNothing, PeekVerifiesNothing, SeventeenBelowSix,
+         SeventeenAboveFour, SweepsBeforeItVerifies, SealsZeros, TakesMarkedZerosForZeros]
+LENT = [*cap_slips.LENT, *holder_slips.LENT, VerifiesHeldPages]
+BOOKS = [*cap_slips.BOOKS, *count_slips.BOOKS, BooksTakeAnyFlag, BooksTakeLongLinks, SizesTakeLongerStore]
+SET_UPS = [*cap_slips.SET_UPS, *count_slips.SET_UPS]
+SHELVES = [*cap_slips.SHELVES, *count_slips.SHELVES, ShelfSixForPinned, ShelfBadForEver, ShelfBadAboveTheCount, ShelfBadByPlace,
+           ShelfGoodWithoutChecksum, ShelfSixAboveSeventeen, ShelfPeeksAtBad, LedgerKeepsDroppedDirty, LedgerCountsVictimLate]
+LIMITS = count_slips.LIMITS
 # what the claim about pool and shelf has to say of a wrong pool in Python
-CLAIMED = {**cap_slips.CLAIMED,
+CLAIMED = {**cap_slips.CLAIMED, **holder_slips.CLAIMED,
            'sums': [SealsNothing, SealsByPlace, SealsHighByteFirst, SealsWithOneRoundOfZeros, SumsItsOwnBytes,
                     TakesMarkedZerosForZeros],
            'number': [VerifiesByPlace, PassesWithoutChecksum, RefusesZeros, PinVerifiesNothing, PeekVerifiesNothing, SeventeenBelowSix,
-                      SeventeenAboveFour],
+                      SeventeenAboveFour, *holder_slips.WRONG_NUMBERS],
            'bytes': [VictimIsReloadedFirst], 'store': [VictimIsReloadedFirst], 'flushed': [WriteBackForgetsFlushed]}

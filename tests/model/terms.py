@@ -4,11 +4,13 @@ import random
 import struct
 
 from checksum import checksum, pack_sum, with_sum
-from memory import NAME_WORDS, NO_TOP, P, TOP, Memory
+from memory import HOLDERS, NAME_WORDS, NO_TOP, P, TOP, Memory
 from pool import peeked
 
-CALLS = {'pin': 'Pin', 'unpin': 'Unpin', 'read': 'Read', 'write': 'Write', 'flush': 'Flush', 'checkpoint': 'Checkpoint',
-         'peek': 'Peek', 'extend': 'Extend', 'drop': 'Drop', 'log_inserted': 'LogInserted', 'log_flushed': 'LogFlushed'}
+CALLS = {'pin': 'Pin', 'unpin': 'Unpin', 'read': 'Read', 'write': 'Write', 'flush': 'Flush', 'give_back': 'GiveBack',
+         'checkpoint': 'Checkpoint', 'peek': 'Peek', 'extend': 'Extend', 'drop': 'Drop', 'log_inserted': 'LogInserted',
+         'log_flushed': 'LogFlushed'}
+LOOKED_AT = (0, 1, 2, 63, 64)  # the holders whose counts are compared after each call of a list
 
 
 # terms
@@ -25,6 +27,7 @@ def numbers(values):
 
 
 def runs(data):
+    """Bytes, or private counts, with their long runs as such."""
     term = []
     for value, run in itertools.groupby(data):
         count = len(list(run))
@@ -100,14 +103,14 @@ def bytes_term(part):
 class Start:
     """A memory to start from: as Memory, with pool and store as pages, so that a term for it stays short."""
 
-    def __init__(self, control, states, names, pool, free, heads, chain, rows, store):
+    def __init__(self, control, states, names, pool, free, heads, chain, rows, store, counts):
         self.control, self.states, self.names, self.pool = control, states, names, pool
-        self.free, self.heads, self.chain, self.rows, self.store = free, heads, chain, rows, store
+        self.free, self.heads, self.chain, self.rows, self.store, self.counts = free, heads, chain, rows, store, counts
 
     def memory(self):
         pool, store = (bytearray(b''.join(page.bytes() for page in part)) for part in (self.pool, self.store))
         return Memory(list(self.control), list(self.states), list(self.names), pool, list(self.free), list(self.heads),
-                      list(self.chain), list(self.rows), store)
+                      list(self.chain), list(self.rows), store, list(self.counts))
 
     def lent_term(self, shared=str):
         """shared gives what stands for the bytes of a pool or store: its term, or a name for it."""
@@ -124,7 +127,7 @@ class Start:
         return '\n      '.join([
             'record {', f'control = {control};', f'states = {words(self.states)};', f'names = {words(self.names)};',
             f'pool = {pool};', f'free = {links(self.free)};', f'heads = {links(self.heads)};', f'chain = {links(self.chain)};',
-            f'rows = {words(self.rows)};', f'store = {store};']) + '\n    }'
+            f'rows = {words(self.rows)};', f'store = {store};', f'counts = {runs(self.counts)};']) + '\n    }'
 
 
 # what is compared
@@ -137,8 +140,14 @@ def pages(data, size):
     return [data[at:at + size] for at in range(0, len(data), size)]
 
 
+def counts_seen(counts):
+    """The private counts that are not 0, each behind its index, and then how many counts there are."""
+    return [number for at, count in enumerate(counts) if count for number in (at, count)] + [len(counts)]
+
+
 def lent_books(m):
-    return [list(m.control), m.states, m.names, *([link_number(value) for value in part] for part in (m.free, m.heads, m.chain)), m.rows]
+    return [list(m.control), m.states, m.names, *([link_number(value) for value in part] for part in (m.free, m.heads, m.chain)), m.rows,
+            counts_seen(m.counts)]
 
 
 def books(m):
@@ -153,13 +162,17 @@ def pool_seen(call, o):
 
 def ledger_seen(shelf, number, put):
     """Of the shelf after a call, with the number that it gave and the pages that it put into the store."""
-    places = range(len(shelf.files.store) // shelf.page_size)
-    counts = {shelf.files.place(page): count for page, count in shelf.counts.items()}
-
     def found(numbered):
         return [1 + shelf.files.place(numbered[b]) if b in numbered else 0 for b in range(shelf.n)]
     return [[number, len(shelf.pinned()), shelf.inserted, shelf.flushed, shelf.cap], among(shelf, shelf.dirty), among(shelf, put),
-            [counts.get(g, 0) for g in places], found(shelf.holds), found(shelf.last), list(shelf.files.rows)]
+            [count for holder in LOOKED_AT for count in shelf_counts(shelf, holder)], found(shelf.holds), found(shelf.last),
+            list(shelf.files.rows)]
+
+
+def shelf_counts(shelf, holder):
+    """A holder's counts by place."""
+    counts = {shelf.files.place(page): count for (one, page), count in shelf.counts.items() if one == holder}
+    return [counts.get(g, 0) for g in range(len(shelf.files.store) // shelf.page_size)]
 
 
 def among(shelf, some):
@@ -176,7 +189,8 @@ def list_seen(shelf, calls, outcomes):
         put_so_far += put
         seen.append(pool_seen(call, o) + ledger_seen(shelf, number, put))
     seen += both_pages(outcomes[-1].memory)
-    return seen + [pages(shelf.files.store, shelf.page_size), [among(shelf, put_so_far), among(shelf, shelf.bad)]]
+    every_count = [count for holder in range(HOLDERS) for count in shelf_counts(shelf, holder)]
+    return seen + [pages(shelf.files.store, shelf.page_size), [among(shelf, put_so_far), among(shelf, shelf.bad), counts_seen(every_count)]]
 
 
 def lent_seen(outcomes):

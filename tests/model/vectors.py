@@ -8,134 +8,56 @@ Status 1: the lists miss something that has to happen in them, or pool and shelf
 """
 import pathlib
 import re
-import shutil
 import sys
 
 import cap_slips
+import count_slips
 import damage
+import holder_slips
 import limits
 import slips
 from checksum import checksum
 from events import AT_CAPS, ONLY_SOUND, WANTED, events, left_out
-from lists import BY_HAND, CAPS, after_set_up, from_sound, run, set_up
-from memory import P
+from lists import BY_HAND, CAPS, MEETING, after_set_up, from_sound, run, set_up
+from memory import HOLDERS, P
 from pool import Pool
 from shelf import Shelf, came_bad, differs
-from terms import call_term, lent_books, lent_seen, list_seen, listed, numbers, words
+from terms import call_term, lent_books, lent_seen, list_seen, listed, numbers, runs, words
+from theorems import BELOW, Crate, Module, seen_crate
 
 # seeds of lists in which much happens, with few checksums: the checker takes a third of a second for each
 AFTER_SET_UP = [
-    BY_HAND, *CAPS, 197, 379, 537, 579, 585, 612, 1105, 1407, 1442, 2330, 2427, 2668, 3126, 3279, 3821, 4139, 4718, 4726, 4899, 5358,
-    5809, 5875, 6019, 6421, 6836, 6838, 6918, 7285, 7354, 7867, 8542, 8894, 8906, 9034, 10090, 10132, 10187, 10355, 10405, 10634,
-    11066, 11248]
-FROM_SOUND = [111, 231, 1110, 1281, 1378, 1401, 1557, 1930, 1976, 2046, 2127, 2348, 2401, 2478, 2836, 2900]
-BELOW = ['laws', 'bufhash', 'buftag', 'bufmodel', 'shelf']
-
-HEAD = '''-- Written by tests/model/vectors.py.
-use Prim.Native.Nat.{ℕ}
-use mathlib.Core.Path.{_≡_, refl}
-use mathlib.Core.Bool.{true, false}
-use mathlib.Core.List.{List, [], _∷_, _++_}
-use lib.ListN.{length, getD, replicate}
-use lib.IntN.{ℤ, pos, negsuc}
-use Rattle.laws.specs.First.{found, missing}
-use Rattle.buftag.specs.Name.{fileOf, nameOf}
-use Rattle.bufmodel.specs.Memory.{Memory}
-use Rattle.bufmodel.specs.Checksum.{checksum, passes}
-use Rattle.bufmodel.specs.Sizes.{soundRows}
-use Rattle.bufmodel.specs.Calls.{setUp}
-use Rattle.bufmodel.specs.Step.{Call, Pin, Unpin, Read, Write, Flush, Checkpoint, Peek, Extend, Drop, LogInserted, LogFlushed}
-use Rattle.bufmodel.specs.Lent.{Lent}
-use Rattle.bufmodel.specs.declared.answer.Pinned as pinned
-use Rattle.bufmodel.specs.declared.answer.Written as written
-use Rattle.bufmodel.specs.declared.answer.Peeked as peeked
-use Rattle.bufmodel.specs.declared.answer.Extended as extended
-use Rattle.bufmodel.specs.declared.answer.Accepted as accepted
-use Rattle.bufmodel.specs.Answer.{pinnedNumber, pinnedWords, writtenNumber, writtenWords, peekedNumber, peekedWords}
-use Rattle.bufmodel.specs.Answer.{extendedNumber, extendedWords, acceptedNumber, acceptedWords}
-use Rattle.shelf.specs.Shelf.{Shelf}
-use Rattle.shelf.specs.Ledger.{firstLedger}
-use Rattle.model_seen.specs.Observe.{fill, listSeen, lentSeen, setUpSeen, callSeen, judged, refusals}
-'''
-
-
-class Module:
-    """A file of theorems. A definition is unfolded in the theorems of its file."""
-
-    def __init__(self, name, unfolding):
-        self.name, self.unfolding, self.text, self.own, self.names = name, unfolding, [HEAD], [], {}
-
-    def define(self, name, type_, term):
-        self.text.append(f'unfoldable pub {name} : {type_}\n{name} = {term}\n')
-        self.own.append(name)
-
-    def shared(self, term):
-        """A name for the bytes of a pool or store, which several memories may have."""
-        if term not in self.names:
-            self.names[term] = f'bytes-{len(self.names)}'
-            self.define(self.names[term], 'List ℕ', term)
-        return self.names[term]
-
-    def state(self, name, term, literal, proof='refl'):
-        self.text.append(f'pub {name} : {term} ≡ {literal}\nunfolding {" ".join(self.unfolding + self.own)}\n{name} = {proof}\n')
-
-
-class Crate:
-    def __init__(self, room, name, below):
-        self.folder, self.modules = room / 'crates' / name, []
-        for part in ('src', 'specs'):
-            (self.folder / part).mkdir(parents=True)
-        (self.folder / 'src' / 'lib.rt').write_text('// Definitions and theorems alone.\n')
-        with (room / 'crates.txt').open('a') as file:
-            file.write(f'\n{name}: {" ".join(below)}\n')
-
-    def add(self, module, what):
-        (self.folder / 'specs' / f'{module.name}.antt').write_text('\n'.join(module.text))
-        self.modules.append(module.name)
-        (self.folder / 'specs' / 'Lib.antt').write_text(''.join(f'pub mod {name}\n' for name in self.modules))
-        print(self.folder.name, module.name, what)
-
-
-def unfoldable(folder):
-    """The names of a crate's definitions, for a line of unfolding."""
-    for file in sorted((folder / 'specs').glob('*.antt')):
-        for name in re.findall(r'^\s*unfoldable pub (\S+) :', file.read_text(), re.M):
-            yield f'Rattle.{folder.name}.specs.{file.stem}.{name}'
-
-
-def seen_crate(room):
-    """The crate of what is looked at, and all names that its users unfold."""
-    crate = Crate(room, 'model_seen', BELOW)
-    # the file has another ending here, because every .antt file of the repository is to be in a listed crate
-    shutil.copy(pathlib.Path(__file__).with_name('observe.txt'), crate.folder / 'specs' / 'Observe.antt')
-    (crate.folder / 'specs' / 'Lib.antt').write_text('pub mod Observe\n')
-    return [name for crate in [*BELOW, 'model_seen'] for name in unfoldable(room / 'crates' / crate)]
+    BY_HAND, *CAPS, MEETING, 137, 246, 269, 940, 1053, 1056, 1261, 1320, 1330, 1790, 1964, 2320, 2327, 2486, 2488, 2567, 2699, 3141, 3181,
+    3414, 3473, 3512, 3570, 3969, 4025, 4350, 4469, 4526, 4652, 4726, 5040, 5084, 5182, 5191, 5251, 5352, 5421, 5883, 5893, 6267, 6612,
+    6753, 6849, 6915, 7164, 7484, 7536, 7579, 7599, 7607, 7747]
+FROM_SOUND = [
+    BY_HAND, 138, 402, 512, 587, 802, 1140, 1179, 1184, 1838, 1990, 2216, 2589, 2631, 2641, 2802, 2988]
 
 
 # lists of calls
 
-def observed(seed, pool_class=Pool, shelf_class=Shelf):
-    """What the model gives for the list of this seed."""
+def observed(seed, pool_class=Pool, shelf_class=Shelf, count=None):
+    """What the model gives for the list of this seed, or for its first calls."""
     made, given, calls = after_set_up(seed)
     memory = set_up(made, given)
-    return list_seen(shelf_class(memory), calls, run(pool_class, memory, calls))
+    return list_seen(shelf_class(memory), calls[:count], run(pool_class, memory, calls[:count]))
 
 
 def calls_term(calls):
     return listed(map(call_term, calls))
 
 
-def define_list(module, seed):
-    """The definitions of a list; gives the term of what is seen of it."""
+def define_list(module, seed, count=None):
+    """The definitions of a list, or of its first calls; gives the term of what is seen of it."""
     made, given, calls = after_set_up(seed)
     start = ' '.join([f'start-{seed}', *map(str, given)])
     module.define(f'start-{seed}', 'Memory', made.memory_term())
-    module.define(f'calls-{seed}', 'List Call', calls_term(calls))
+    module.define(f'calls-{seed}', 'List Call', calls_term(calls[:count]))
     return f'listSeen (setUp {start} .after) (firstLedger {start}) calls-{seed}'
 
 
-def shelf_observed(seed, shelf_class=Shelf):
-    return observed(seed, Pool, shelf_class)
+def shelf_observed(seed, shelf_class=Shelf, count=None):
+    return observed(seed, Pool, shelf_class, count)
 
 
 def lent_observed(seed, pool_class=Pool):
@@ -253,11 +175,31 @@ def write_damage(room, unfolding):
             broken += seen[1][0] in (1, 2)
         crate.add(module, f'{broken} damaged memories and {len(some) - broken} at the edge of a rule, with 3 calls and set up each')
     module = Module('SetUps', unfolding)
-    for j, one in enumerate(limits.checked([*limits.set_ups(), *limits.caps()])):
+    for j, one in enumerate(limits.checked([*limits.set_ups(), *limits.caps(), *limits.counts()])):
         state_set_up(module, f'set-up-{j}', *one)
     crate.add(module, f'{j + 1} set-ups at the limits')
     write_limits(crate, Module('Limits', unfolding))
     write_sums(crate, Module('Sums', unfolding))
+
+
+def refusals(one):
+    """What a shelf given by hand refuses."""
+    _, shelf, *_, calls = one
+    return [shelf.refuses(call) for call in calls]
+
+
+def state_refusals(module, name, shelf_name, one):
+    start, shelf, counts, holds, bad, calls = one
+    held = listed('missing' if place is None else f'found {place}' for place in holds)
+    places = range(len(start.store))
+    spoilt = listed(str(place in bad).lower() for place in places)
+    by_holder = runs([count for holder in range(HOLDERS) for count in counts.get(holder, [0] * len(places))])
+    module.define(shelf_name, 'Shelf', f'''record {{
+      buffers = {shelf.n}; size = {shelf.page_size}; inserted = {shelf.inserted}; rows = {numbers(start.rows)};
+      bytes = λ g. getD {numbers([page.bytes() for page in start.store])} g [];
+      counts = λ h g. getD {by_holder} (h * {len(places)} + g) 0; holds = λ b. getD {held} b missing; bad = λ g. getD {spoilt} g false
+    }}''')
+    module.state(name, f'refusals {shelf_name} {calls_term(calls)}', numbers(refusals(one)))
 
 
 def write_limits(crate, module):
@@ -267,15 +209,8 @@ def write_limits(crate, module):
     for j, (call, answer) in enumerate(limits.answers()):
         o = Pool(damage.base().memory()).call(call, answer)
         module.state(f'answer-{j}', f'callSeen base ({call_term(call)}) {numbers(answer)}', numbers([o.number, *o.answer, *o.own]))
-    for j, (start, shelf, counts, holds, bad, calls) in enumerate(limits.shelves()):
-        held = listed('missing' if place is None else f'found {place}' for place in holds)
-        spoilt = listed(str(place in bad).lower() for place in range(len(counts)))
-        module.define(f'shelf-{j}', 'Shelf', f'''record {{
-      buffers = {shelf.n}; size = {shelf.page_size}; inserted = {shelf.inserted}; rows = {numbers(start.rows)};
-      bytes = λ g. getD {numbers([page.bytes() for page in start.store])} g [];
-      counts = λ g. getD {numbers(counts)} g 0; holds = λ b. getD {held} b missing; bad = λ g. getD {spoilt} g false
-    }}''')
-        module.state(f'refusals-{j}', f'refusals shelf-{j} {calls_term(calls)}', numbers([shelf.refuses(call) for call in calls]))
+    for j, one in enumerate(limits.shelves()):
+        state_refusals(module, f'refusals-{j}', f'shelf-{j}', one)
     for j, (function, case, has) in enumerate(limits.enums()):
         module.state(f'enum-{j}', f'{function} {case}', numbers(has) if isinstance(has, list) else str(has))
     crate.add(module, 'sums of capacities, answer slices of other lengths, a shelf at its limits, the enums of the answers')
@@ -295,7 +230,7 @@ def write_sums(crate, module):
 # planted errors
 
 def first_wrong(slip, seeds, seen):
-    """The shortest list on which a wrong model gives something else, and what it gives. It may stop in one."""
+    """The first list on which a wrong model gives something else, and what it gives. It may stop in one."""
     for seed in seeds:
         try:
             wrong = seen(seed, slip)
@@ -304,6 +239,12 @@ def first_wrong(slip, seeds, seen):
         if wrong != seen(seed):
             return seed, wrong
     sys.exit(f'{slip.__name__} shows in no list')
+
+
+def cost(seed):
+    """What the checker has to do for a list: blocks with checksums first, then calls."""
+    made, _, calls = after_set_up(seed)
+    return sum(any(page.bytes()) for page in made.store), len(calls)
 
 
 def claimed(slip):
@@ -321,21 +262,23 @@ def claimed(slip):
 
 
 def planted():
-    """The wrong models of both files; each has to be in one of the lists."""
-    every = [*vars(slips).values(), *vars(cap_slips).values()]
+    """The wrong models of the four files; each has to be in one of the lists."""
+    every = [one for file in (slips, cap_slips, count_slips, holder_slips) for one in vars(file).values()]
     return {one for one in every if isinstance(one, type) and issubclass(one, (Pool, Shelf))} - {Pool, Shelf}
 
 
 def write_slips(room, unfolding):
-    if planted() != {*slips.POOLS, *slips.LENT, *slips.BOOKS, *slips.SET_UPS, *slips.SHELVES}:
+    if planted() != {*slips.POOLS, *slips.LENT, *slips.BOOKS, *slips.SET_UPS, *slips.SHELVES, *slips.LIMITS}:
         sys.exit('there is a planted error that is in none of the lists')
     crate = Crate(room, 'model_slips', [*BELOW, 'model_seen'])
-    shortest = sorted(AFTER_SET_UP, key=lambda seed: len(after_set_up(seed)[2]))
+    cheapest = sorted(AFTER_SET_UP, key=cost)
     for slip in [*slips.POOLS, *slips.SHELVES]:
-        seed, wrong = first_wrong(slip, shortest, observed if slip in slips.POOLS else shelf_observed)
+        seen = observed if slip in slips.POOLS else shelf_observed
+        seed, wrong = first_wrong(slip, cheapest, seen)
+        count = 1 + next(k for k, (one, other) in enumerate(zip(seen(seed), wrong)) if one != other)
         module = Module(slip.__name__, unfolding)
-        module.state('wrong', define_list(module, seed), numbers(wrong))
-        crate.add(module, f'shows in list-{seed}')
+        module.state('wrong', define_list(module, seed, count), numbers(seen(seed, slip, count=count)))
+        crate.add(module, f'shows in list-{seed}, its first {min(count, len(after_set_up(seed)[2]))} calls')
     for slip in slips.LENT:
         seed, wrong = first_wrong(slip, FROM_SOUND, lent_observed)
         module = Module(slip.__name__, unfolding)
@@ -347,6 +290,7 @@ def write_slips(room, unfolding):
                 sys.exit(f'{slip.__name__}: pool and shelf do not differ in {word} in Python')
     write_memory_slips(crate, unfolding)
     write_set_up_slips(crate, unfolding)
+    write_limit_slips(crate, unfolding)
 
 
 def write_memory_slips(crate, unfolding):
@@ -366,13 +310,23 @@ def write_memory_slips(crate, unfolding):
 def write_set_up_slips(crate, unfolding):
     for slip in slips.SET_UPS:
         made = [(start, given, answer, o, slip(start.memory()).call(('set_up', *given), answer))
-                for start, given, answer, o in limits.checked(limits.caps())]
+                for start, given, answer, o in limits.checked([*limits.caps(), *limits.counts()])]
         apart = [(*one, wrong) for *one, o, wrong in made if set_up_seen(o) != set_up_seen(wrong)]
         if not apart:
             sys.exit(f'{slip.__name__} shows in no set-up')
         module = Module(f'SetUp{slip.__name__}', unfolding)
         state_set_up(module, 'wrong', *apart[0])
         crate.add(module, f'shows in {len(apart)} set-ups, the first with {apart[0][1]}')
+
+
+def write_limit_slips(crate, unfolding):
+    for slip in slips.LIMITS:
+        apart = [wrong for one, wrong in zip(limits.shelves(), limits.shelves(slip)) if refusals(one) != refusals(wrong)]
+        if not apart:
+            sys.exit(f'{slip.__name__} shows on no shelf')
+        module = Module(slip.__name__, unfolding)
+        state_refusals(module, 'wrong', 'shelf', apart[0])
+        crate.add(module, f'shows on {len(apart)} shelves')
 
 
 def main():

@@ -1,4 +1,4 @@
--- The first k buffers, written back: which lengths stay, and that the links play no part.
+-- The first k buffers, written back: which lengths stay, and that links and counts play no part.
 use Prim.Native.Nat.{ℕ, zero, suc, _+_, _*_, _≤_, _<_}
 use mathlib.Core.Path.{_≡_, refl, _∙_, ap}
 use mathlib.Core.Bool.{Bool, true, false, cond}
@@ -11,7 +11,7 @@ use Rattle.laws.proofs.Block.{block-in, length-block, length-putBlock}
 use Rattle.bufmodel.specs.Word.{dirty}
 use Rattle.bufmodel.specs.Checksum.{sealed}
 use Rattle.bufmodel.specs.Rows.{storeBlocks, placeOf}
-use Rattle.bufmodel.specs.Memory.{Memory, memory, buffers, size, wordOf, nameOf, pageOf}
+use Rattle.bufmodel.specs.Memory.{Memory, memory, buffers, size, wordOf, nameOf, pageOf, withCounts}
 use Rattle.bufmodel.specs.Moves.{putAt, writeBack, writeUpTo}
 use Rattle.bufmodel.proofs.GoodLaws.{Good}
 use Rattle.bufmodel.proofs.ChecksumLaws.{length-sealed}
@@ -21,7 +21,7 @@ use Rattle.bufmoves.specs.Back.{Backed}
 use Rattle.bufcalls.specs.Checkpoint.{Stored}
 
 -- ---- what is asked for
--- the memory without its links
+-- the memory without its links and counts
 abbrev pub bare : Memory → Memory
 bare m = memory (m .control) (m .states) (m .names) (m .pool) [] [] [] (m .rows) (m .store)
 
@@ -112,9 +112,11 @@ up-to m s (suc k) h =
       stored = back-stored (writeUpTo k m) (u .stored) k l;
     }
 
--- a memory with another's links
+-- a memory with another's links and counts
 abbrev pub linked : Memory → Memory → Memory
-linked m x = memory (x .control) (x .states) (x .names) (x .pool) (m .free) (m .heads) (m .chain) (x .rows) (x .store)
+linked m x =
+    withCounts (m .counts)
+    (memory (x .control) (x .states) (x .names) (x .pool) (m .free) (m .heads) (m .chain) (x .rows) (x .store))
 
 back-linked : (m x : Memory) (i : ℕ) → writeBack (linked m x) i ≡ linked m (writeBack x i)
 unfolding writeBack

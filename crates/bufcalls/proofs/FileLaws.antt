@@ -2,22 +2,25 @@
 use Prim.Native.Nat.{ℕ, zero, suc, _+_, _≤_, _<_}
 use native.Mathlib.Numerals.{add-one}
 use native.Mathlib.Omega.{arith}
-use mathlib.Core.Path.{_≡_, refl, sym, ap, _∙_, subst}
+use mathlib.Core.Path.{_≡_, refl, sym, ap, ap₂, _∙_, subst}
 use mathlib.Core.Logic.{_≢_, ⊎-elim}
-use mathlib.Core.Bool.{Bool, true, false}
+use mathlib.Core.Bool.{Bool, true, false, not, _&&_}
 use mathlib.Core.List.{List, [], _∷_}
 use lib.IntN.{ℤ}
 use lib.ListN.{length, replicate}
 use borrow.Author.Tests.{eq-eqb, ne-eqb}
 use Rattle.laws.specs.First.{Found, found, missing}
 use Rattle.laws.specs.Block.{putBlock}
-use Rattle.laws.proofs.Tests.{true-or-false}
+use Rattle.laws.proofs.Tests.{eq-or-ne, true-or-false}
 use Rattle.buftag.specs.declared.name.FileName.{FileName}
+use Rattle.buftag.specs.declared.name.PageName.{PageName}
+use Rattle.buftag.specs.Name.{sameFile}
 use Rattle.buftag.proofs.UnchainLaws.{length-unchain-heads}
 use Rattle.bufmodel.specs.declared.control.Control.{Control}
 use Rattle.bufmodel.specs.declared.answer.Extended as extended
 use Rattle.bufmodel.specs.declared.answer.Accepted as accepted
-use Rattle.bufmodel.specs.Memory.{Memory, memory, buffers, size, withRows}
+use Rattle.bufmodel.specs.Word.{pins, empty}
+use Rattle.bufmodel.specs.Memory.{Memory, memory, buffers, size, wordOf, nameOf, withRows, withCounts}
 use Rattle.bufmodel.specs.Books.{emptyAt}
 use Rattle.bufmodel.specs.Rows.{blocksAt, capacityAt, setBlocks, rowOf, startOf, storeBlocks}
 use Rattle.bufmodel.specs.Outcome.{Outcome, Place, place, checked, refused, outcome}
@@ -29,8 +32,9 @@ use Rattle.bufmodel.proofs.OutcomeLaws.{refusal-past, refusal-at, refusal-none}
 use Rattle.bufmodel.proofs.GoodLaws.{Good}
 use Rattle.bufmodel.proofs.AnswerLaws.{end-first, end-own, end-done}
 use Rattle.bufmodel.proofs.RowsLaws.{row-found, start-in}
-use Rattle.bufmodel.proofs.ReleaseLaws.{release-buffers, release-good}
-use Rattle.bufmodel.proofs.DropLaws.{of-says}
+use Rattle.bufmodel.proofs.WordLaws.{unpinned-none}
+use Rattle.bufmodel.proofs.ReleaseLaws.{release-buffers, release-own, release-word, release-name, release-good}
+use Rattle.bufmodel.proofs.DropLaws.{of-says, none-pinned}
 use Rattle.bufmoves.specs.Exchange.{Chained}
 use Rattle.bufcalls.specs.File.{heldOf, pinnedOf}
 use Rattle.bufmoves.proofs.WholeLaws.{good-chained}
@@ -86,7 +90,9 @@ module _ (m : Memory) (f : FileName) where
           → rows ≡ setBlocks (m .rows) r (b + 1)
           → store ≡ putBlock (size m) (startOf (m .rows) r + b) (replicate (size m) 0) (m .store)
           → (extended.the-variants.Block (record { 0 = b }) ≡ extendedOf (extend m f))
-          × (memory (m .control) (m .states) (m .names) (m .pool) (m .free) (m .heads) (m .chain) rows store ≡ extend m f .after)
+          × (withCounts (m .counts)
+          (memory (m .control) (m .states) (m .names) (m .pool) (m .free) (m .heads) (m .chain) rows store)
+          ≡ extend m f .after)
       unfolding extendAt extendedAt
       extended-more q b x y = rw (extend-done q, x, y, b, add-one) (refl, refl)
 
@@ -119,7 +125,7 @@ module _ (m : Memory) (f : FileName) where
 -- ---- the release of a file's buffers
 -- a memory with parts that are equal to those of another
 pub memory-same : (d : Memory) {c : Control} {s n : List ℕ} {f h l : List ℤ} → c ≡ d .control → s ≡ d .states → n ≡ d .names
-    → f ≡ d .free → h ≡ d .heads → l ≡ d .chain → memory c s n (d .pool) f h l (d .rows) (d .store) ≡ d
+    → f ≡ d .free → h ≡ d .heads → l ≡ d .chain → withCounts (d .counts) (memory c s n (d .pool) f h l (d .rows) (d .store)) ≡ d
 memory-same d a b c e f g = rw (a, b, c, e, f, g)
 
 -- whether a buffer is of the file, by the words and names alone
@@ -132,20 +138,47 @@ pub file-chained : (m : Memory) (f : FileName) (i : ℕ) → Good m → i < buff
     → Chained (memory (m .control) (m .states) (m .names) [] (m .free) (m .heads) (m .chain) [] []) i
 file-chained m f i g l e = good-chained m g i l (of-says m f i .holds (sym (of-file m f i) ∙ e) .0)
 
--- a memory on the way: the books are sound, the lengths are those of before
-pub record Way (m d : Memory) : Type 0 where
+zero-pins : pins 0 ≡ 0
+unfolding pins
+zero-pins = refl
+
+-- whether a buffer is of a file goes by its word and name
+of-same : (m d : Memory) (f : FileName) (i : ℕ) → wordOf d i ≡ wordOf m i → nameOf d i ≡ nameOf m i → ofFile d f i ≡ ofFile m f i
+unfolding ofFile emptyAt
+of-same m d f i w n = ap₂ (λ (x : ℕ) (y : PageName). not (empty x) && sameFile (y .file) f) w n
+
+-- a memory on the way: the books are sound, the lengths are those of before, and none of the file's buffers is pinned
+pub record Way (m : Memory) (f : FileName) (d : Memory) : Type 0 where
   pub good : Good d
   pub many : buffers d ≡ buffers m
   pub heads : length (d .heads) ≡ length (m .heads)
+  pub idle : (i : ℕ) → i < buffers m → ofFile d f i ≡ true → pins (wordOf d i) ≡ 0
 
-way-release : (m d : Memory) (i : ℕ) → Way m d → i < buffers m → emptyAt d i ≡ false → Way m (release d i)
-unfolding release
-way-release m d i w l full =
-    record {
-      good = release-good d (w .good) i (omega (arith, w .many)) full;
-      many = release-buffers d i ∙ w .many;
-      heads = length-unchain-heads (d .chain) i (d .heads) ∙ w .heads;
-    }
+module _ (m : Memory) (f : FileName) (d : Memory) (i : ℕ) (w : Way m f d) (l : i < buffers m) (full : ofFile d f i ≡ true) where
+  here : i < buffers d
+  here = omega (arith, w .many)
+
+  idle-release : (j : ℕ) → j < buffers m → ofFile (release d i) f j ≡ true → pins (wordOf (release d i) j) ≡ 0
+  idle-release j k o =
+      ⊎-elim
+      (λ e. subst (λ (n : ℕ). pins (wordOf (release d i) n) ≡ 0) (sym e) (ap pins (release-own d i here) ∙ zero-pins))
+      (λ ne.
+      let word = release-word d i j ne in
+      ap pins word ∙ w .idle j k (sym (of-same d (release d i) f j word (release-name d i j ne)) ∙ o))
+      (eq-or-ne j i)
+
+  release-heads : length (release d i .heads) ≡ length (m .heads)
+  unfolding release
+  release-heads = length-unchain-heads (d .chain) i (d .heads) ∙ w .heads
+
+  way-release : Way m f (release d i)
+  way-release =
+      record {
+        good = release-good d (w .good) i here (of-says d f i .holds full .0) (w .idle i l full);
+        many = release-buffers d i ∙ w .many;
+        heads = release-heads;
+        idle = idle-release;
+      }
 
 module _ (m : Memory) (f : FileName) where
   pub released-none : m ≡ releaseUpTo f 0 m
@@ -166,15 +199,21 @@ module _ (m : Memory) (f : FileName) where
       let q : ofFile (releaseUpTo f i m) f i ≡ false = subst (λ (x : Memory). ofFile x f i ≡ false) e (sym (of-file d f i) ∙ h) in
       rw (add-one, q) e
 
-  way-next : (k : ℕ) (d : Memory) → Way m d → k < buffers m → Way m (releaseIf (ofFile d f k) d k)
+  way-next : (k : ℕ) (d : Memory) → Way m f d → k < buffers m → Way m f (releaseIf (ofFile d f k) d k)
   unfolding releaseIf
   way-next k d w l =
       ⊎-elim
-      (λ t. rw t (way-release m d k w l (of-says d f k .holds t .0)))
+      (λ t. rw t (way-release m f d k w l t))
       (λ n. rw n w)
       (true-or-false (ofFile d f k))
 
-  pub way-up-to : Good m → (k : ℕ) → k ≤ buffers m → Way m (releaseUpTo f k m)
-  unfolding releaseUpTo
-  way-up-to g zero l = record { good = g; many = refl; heads = refl }
-  way-up-to g (suc k) l = way-next k (releaseUpTo f k m) (way-up-to g k (omega arith)) l
+  -- where none was at first
+  module _ (g : Good m) (free : pinnedOf (m .states) (m .names) f ≡ false) where
+    way-first : (i : ℕ) → i < buffers m → ofFile m f i ≡ true → pins (wordOf m i) ≡ 0
+    unfolding filePinned pinnedOf ofFile heldOf emptyAt
+    way-first i l o = unpinned-none (wordOf m i) (none-pinned m f free i l o)
+
+    pub way-up-to : (k : ℕ) → k ≤ buffers m → Way m f (releaseUpTo f k m)
+    unfolding releaseUpTo
+    way-up-to zero l = record { good = g; many = refl; heads = refl; idle = way-first }
+    way-up-to (suc k) l = way-next k (releaseUpTo f k m) (way-up-to k (omega arith)) l

@@ -3,3 +3,4 @@ pub mod FlushLaws
 pub mod CheckpointLaws
 pub mod PeekLaws
 pub mod FileLaws
+pub mod GiveLaws

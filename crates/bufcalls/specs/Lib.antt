@@ -1,2 +1,3 @@
 pub mod Checkpoint
 pub mod File
+pub mod Give

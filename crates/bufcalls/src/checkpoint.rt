@@ -5,7 +5,7 @@ ghost use mathlib.Core.List.{[]};
 ghost use lib.ListN.{length, getD};
 ghost use Rattle.laws.specs.Sum.{count};
 ghost use Rattle.bufmodel.specs.Word.{dirty};
-ghost use Rattle.bufmodel.specs.Memory.{memory};
+ghost use Rattle.bufmodel.specs.Memory.{memory, withCounts};
 ghost use Rattle.bufmodel.specs.Moves.{writeUpTo};
 ghost use Rattle.bufmodel.specs.Answer.{writtenNumber, writtenWords, writtenOf};
 ghost use Rattle.bufmodel.specs.Calls.{checkpoint};
@@ -69,29 +69,35 @@ pub fn checkpoint_pool(
     chain: &[i32],
     rows: &[u32],
     store: &mut [u8],
+    counts: &[u16],
 ) -> WrittenEnd
     ensures { λ r.
         ⌜ r .answer
         ≡ writtenOf
         (checkpoint
+        (withCounts (now (counts .entry))
         (memory control (now (states .entry)) (now (names .entry)) (now (pool .entry)) (now (free .entry)) (now (heads .entry))
-        (now (chain .entry)) (now (rows .entry)) (now (store .entry)))) ⌝ }
+        (now (chain .entry)) (now (rows .entry)) (now (store .entry))))) ⌝ }
     ensures { λ r.
         ⌜ writtenNumber (r .answer)
         ≡ checkpoint
+        (withCounts (now (counts .entry))
         (memory control (now (states .entry)) (now (names .entry)) (now (pool .entry)) (now (free .entry)) (now (heads .entry))
-        (now (chain .entry)) (now (rows .entry)) (now (store .entry))) .refusal ⌝ }
+        (now (chain .entry)) (now (rows .entry)) (now (store .entry)))) .refusal ⌝ }
     ensures { λ r.
         ⌜ writtenWords (r .answer)
         ≡ checkpoint
+        (withCounts (now (counts .entry))
         (memory control (now (states .entry)) (now (names .entry)) (now (pool .entry)) (now (free .entry)) (now (heads .entry))
-        (now (chain .entry)) (now (rows .entry)) (now (store .entry))) .answer ⌝ }
+        (now (chain .entry)) (now (rows .entry)) (now (store .entry)))) .answer ⌝ }
     ensures { λ r.
-        ⌜ memory (r .control) (now (states .exit)) (now (names .entry)) (now (pool .entry)) (now (free .entry))
-        (now (heads .entry)) (now (chain .entry)) (now (rows .entry)) (now (store .exit))
+        ⌜ withCounts (now (counts .entry))
+        (memory (r .control) (now (states .exit)) (now (names .entry)) (now (pool .entry)) (now (free .entry))
+        (now (heads .entry)) (now (chain .entry)) (now (rows .entry)) (now (store .exit)))
         ≡ checkpoint
+        (withCounts (now (counts .entry))
         (memory control (now (states .entry)) (now (names .entry)) (now (pool .entry)) (now (free .entry)) (now (heads .entry))
-        (now (chain .entry)) (now (rows .entry)) (now (store .entry))) .after ⌝ }
+        (now (chain .entry)) (now (rows .entry)) (now (store .entry)))) .after ⌝ }
 {
     let k = refusal(
         control,
@@ -103,6 +109,7 @@ pub fn checkpoint_pool(
         chain,
         rows,
         store,
+        counts,
     );
     if k != 0 {
         return WrittenEnd {

@@ -1,9 +1,9 @@
 // Calls on a file: extend and drop.
 
 ghost use mathlib.Core.Path.{_≡_};
-ghost use mathlib.Core.Bool.{true};
+ghost use mathlib.Core.Bool.{true, false};
 ghost use lib.ListN.{length};
-ghost use Rattle.bufmodel.specs.Memory.{memory};
+ghost use Rattle.bufmodel.specs.Memory.{memory, withCounts};
 ghost use Rattle.bufmodel.specs.Sizes.{sized};
 ghost use Rattle.bufmodel.specs.Books.{sound};
 ghost use Rattle.bufmodel.specs.Moves.{releaseUpTo};
@@ -49,30 +49,36 @@ pub fn extend_file(
     chain: &[i32],
     rows: &mut [u32],
     store: &mut [u8],
+    counts: &[u16],
     file: FileName,
 ) -> Extended
     ensures { λ r.
         ⌜ r
         ≡ extendedOf
         (extend
+        (withCounts (now (counts .entry))
         (memory control (now (states .entry)) (now (names .entry)) (now (pool .entry)) (now (free .entry)) (now (heads .entry))
-        (now (chain .entry)) (now (rows .entry)) (now (store .entry))) file) ⌝ }
+        (now (chain .entry)) (now (rows .entry)) (now (store .entry)))) file) ⌝ }
     ensures { λ r.
         ⌜ extendedNumber r
         ≡ extend
+        (withCounts (now (counts .entry))
         (memory control (now (states .entry)) (now (names .entry)) (now (pool .entry)) (now (free .entry)) (now (heads .entry))
-        (now (chain .entry)) (now (rows .entry)) (now (store .entry))) file .refusal ⌝ }
+        (now (chain .entry)) (now (rows .entry)) (now (store .entry)))) file .refusal ⌝ }
     ensures { λ r.
         ⌜ extendedWords r
         ≡ extend
+        (withCounts (now (counts .entry))
         (memory control (now (states .entry)) (now (names .entry)) (now (pool .entry)) (now (free .entry)) (now (heads .entry))
-        (now (chain .entry)) (now (rows .entry)) (now (store .entry))) file .answer ⌝ }
+        (now (chain .entry)) (now (rows .entry)) (now (store .entry)))) file .answer ⌝ }
     ensures { λ _.
-        ⌜ memory control (now (states .entry)) (now (names .entry)) (now (pool .entry)) (now (free .entry))
-        (now (heads .entry)) (now (chain .entry)) (now (rows .exit)) (now (store .exit))
+        ⌜ withCounts (now (counts .entry))
+        (memory control (now (states .entry)) (now (names .entry)) (now (pool .entry)) (now (free .entry))
+        (now (heads .entry)) (now (chain .entry)) (now (rows .exit)) (now (store .exit)))
         ≡ extend
+        (withCounts (now (counts .entry))
         (memory control (now (states .entry)) (now (names .entry)) (now (pool .entry)) (now (free .entry)) (now (heads .entry))
-        (now (chain .entry)) (now (rows .entry)) (now (store .entry))) file .after ⌝ }
+        (now (chain .entry)) (now (rows .entry)) (now (store .entry)))) file .after ⌝ }
 {
     let k = refusal(
         control,
@@ -84,6 +90,7 @@ pub fn extend_file(
         chain,
         rows,
         store,
+        counts,
     );
     if k != 0 {
         return Extended::Refused(k);
@@ -134,7 +141,7 @@ fn any_pinned(states: &[u32], names: &[u32], file: FileName) -> bool
     false
 }
 
-// A file's buffers give up their pages, rising.
+// A file's buffers, none of which is pinned, give up their pages, rising.
 fn release_file(
     control: Control,
     states: &mut [u32],
@@ -145,18 +152,24 @@ fn release_file(
     chain: &mut [i32],
     rows: &[u32],
     store: &[u8],
+    counts: &[u16],
     file: FileName,
 ) -> Control
     requires { ⌜ (sized
-        (memory control (now states) (now names) (now pool) (now free) (now heads) (now chain) (now rows) (now store)) ≡ true)
+        (withCounts (now counts)
+        (memory control (now states) (now names) (now pool) (now free) (now heads) (now chain) (now rows) (now store))) ≡ true)
         × (sound
-        (memory control (now states) (now names) (now pool) (now free) (now heads) (now chain) (now rows) (now store)) ≡ true) ⌝ }
+        (withCounts (now counts)
+        (memory control (now states) (now names) (now pool) (now free) (now heads) (now chain) (now rows) (now store))) ≡ true)
+        × (pinnedOf (now states) (now names) file ≡ false) ⌝ }
     ensures { λ r.
-        ⌜ memory r (now (states .exit)) (now (names .exit)) (now (pool .entry)) (now (free .exit))
-        (now (heads .exit)) (now (chain .exit)) (now (rows .entry)) (now (store .entry))
+        ⌜ withCounts (now (counts .entry))
+        (memory r (now (states .exit)) (now (names .exit)) (now (pool .entry)) (now (free .exit))
+        (now (heads .exit)) (now (chain .exit)) (now (rows .entry)) (now (store .entry)))
         ≡ releaseUpTo file (length (now (states .entry)))
+        (withCounts (now (counts .entry))
         (memory control (now (states .entry)) (now (names .entry)) (now (pool .entry)) (now (free .entry)) (now (heads .entry))
-        (now (chain .entry)) (now (rows .entry)) (now (store .entry))) ⌝ }
+        (now (chain .entry)) (now (rows .entry)) (now (store .entry)))) ⌝ }
 {
     let n = states.len();
     let mut after = control;
@@ -181,30 +194,36 @@ pub fn drop_file(
     chain: &mut [i32],
     rows: &mut [u32],
     store: &[u8],
+    counts: &[u16],
     file: FileName,
 ) -> AcceptedEnd
     ensures { λ r.
         ⌜ r .answer
         ≡ acceptedOf
         (dropFile
+        (withCounts (now (counts .entry))
         (memory control (now (states .entry)) (now (names .entry)) (now (pool .entry)) (now (free .entry)) (now (heads .entry))
-        (now (chain .entry)) (now (rows .entry)) (now (store .entry))) file) ⌝ }
+        (now (chain .entry)) (now (rows .entry)) (now (store .entry)))) file) ⌝ }
     ensures { λ r.
         ⌜ acceptedNumber (r .answer)
         ≡ dropFile
+        (withCounts (now (counts .entry))
         (memory control (now (states .entry)) (now (names .entry)) (now (pool .entry)) (now (free .entry)) (now (heads .entry))
-        (now (chain .entry)) (now (rows .entry)) (now (store .entry))) file .refusal ⌝ }
+        (now (chain .entry)) (now (rows .entry)) (now (store .entry)))) file .refusal ⌝ }
     ensures { λ r.
         ⌜ acceptedWords (r .answer)
         ≡ dropFile
+        (withCounts (now (counts .entry))
         (memory control (now (states .entry)) (now (names .entry)) (now (pool .entry)) (now (free .entry)) (now (heads .entry))
-        (now (chain .entry)) (now (rows .entry)) (now (store .entry))) file .answer ⌝ }
+        (now (chain .entry)) (now (rows .entry)) (now (store .entry)))) file .answer ⌝ }
     ensures { λ r.
-        ⌜ memory (r .control) (now (states .exit)) (now (names .exit)) (now (pool .entry)) (now (free .exit))
-        (now (heads .exit)) (now (chain .exit)) (now (rows .exit)) (now (store .entry))
+        ⌜ withCounts (now (counts .entry))
+        (memory (r .control) (now (states .exit)) (now (names .exit)) (now (pool .entry)) (now (free .exit))
+        (now (heads .exit)) (now (chain .exit)) (now (rows .exit)) (now (store .entry)))
         ≡ dropFile
+        (withCounts (now (counts .entry))
         (memory control (now (states .entry)) (now (names .entry)) (now (pool .entry)) (now (free .entry)) (now (heads .entry))
-        (now (chain .entry)) (now (rows .entry)) (now (store .entry))) file .after ⌝ }
+        (now (chain .entry)) (now (rows .entry)) (now (store .entry)))) file .after ⌝ }
 {
     let k = refusal(
         control,
@@ -216,6 +235,7 @@ pub fn drop_file(
         chain,
         rows,
         store,
+        counts,
     );
     if k != 0 {
         return refused(control, k);
@@ -236,6 +256,7 @@ pub fn drop_file(
         chain,
         rows,
         store,
+        counts,
         file,
     );
     set_blocks(rows, row, 0);

@@ -1,7 +1,7 @@
-// Flush: the page of a pinned buffer is written back if it is dirty.
+// Flush: the page of a buffer that a holder has a pin on is written back if it is dirty.
 
 ghost use mathlib.Core.Path.{_≡_};
-ghost use Rattle.bufmodel.specs.Memory.{memory};
+ghost use Rattle.bufmodel.specs.Memory.{memory, withCounts};
 ghost use Rattle.bufmodel.specs.Answer.{writtenNumber, writtenWords, writtenOf};
 ghost use Rattle.bufmodel.specs.Calls.{flush};
 use crate::buffer::buffer_refusal;
@@ -11,6 +11,7 @@ use bufmem::state::state_of;
 use bufmem::word::is_dirty;
 use bufmodel::answer::Written;
 use bufmodel::control::Control;
+use bufmodel::holder::Holder;
 use bufmoves::back::write_back;
 use buftag::number::BufferNumber;
 
@@ -25,30 +26,37 @@ pub fn flush_buffer(
     chain: &[i32],
     rows: &[u32],
     store: &mut [u8],
+    counts: &[u16],
+    holder: Holder,
     buffer: BufferNumber,
 ) -> WrittenEnd
     ensures { λ r.
         ⌜ r .answer
         ≡ writtenOf
         (flush
+        (withCounts (now (counts .entry))
         (memory control (now (states .entry)) (now (names .entry)) (now (pool .entry)) (now (free .entry)) (now (heads .entry))
-        (now (chain .entry)) (now (rows .entry)) (now (store .entry))) (buffer .0)) ⌝ }
+        (now (chain .entry)) (now (rows .entry)) (now (store .entry)))) (holder .0) (buffer .0)) ⌝ }
     ensures { λ r.
         ⌜ writtenNumber (r .answer)
         ≡ flush
+        (withCounts (now (counts .entry))
         (memory control (now (states .entry)) (now (names .entry)) (now (pool .entry)) (now (free .entry)) (now (heads .entry))
-        (now (chain .entry)) (now (rows .entry)) (now (store .entry))) (buffer .0) .refusal ⌝ }
+        (now (chain .entry)) (now (rows .entry)) (now (store .entry)))) (holder .0) (buffer .0) .refusal ⌝ }
     ensures { λ r.
         ⌜ writtenWords (r .answer)
         ≡ flush
+        (withCounts (now (counts .entry))
         (memory control (now (states .entry)) (now (names .entry)) (now (pool .entry)) (now (free .entry)) (now (heads .entry))
-        (now (chain .entry)) (now (rows .entry)) (now (store .entry))) (buffer .0) .answer ⌝ }
+        (now (chain .entry)) (now (rows .entry)) (now (store .entry)))) (holder .0) (buffer .0) .answer ⌝ }
     ensures { λ r.
-        ⌜ memory (r .control) (now (states .exit)) (now (names .entry)) (now (pool .entry)) (now (free .entry))
-        (now (heads .entry)) (now (chain .entry)) (now (rows .entry)) (now (store .exit))
+        ⌜ withCounts (now (counts .entry))
+        (memory (r .control) (now (states .exit)) (now (names .entry)) (now (pool .entry)) (now (free .entry))
+        (now (heads .entry)) (now (chain .entry)) (now (rows .entry)) (now (store .exit)))
         ≡ flush
+        (withCounts (now (counts .entry))
         (memory control (now (states .entry)) (now (names .entry)) (now (pool .entry)) (now (free .entry)) (now (heads .entry))
-        (now (chain .entry)) (now (rows .entry)) (now (store .entry))) (buffer .0) .after ⌝ }
+        (now (chain .entry)) (now (rows .entry)) (now (store .entry)))) (holder .0) (buffer .0) .after ⌝ }
 {
     let k = buffer_refusal(
         control,
@@ -60,6 +68,8 @@ pub fn flush_buffer(
         chain,
         rows,
         store,
+        counts,
+        holder,
         buffer,
     );
     if k != 0 {

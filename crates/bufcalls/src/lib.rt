@@ -5,6 +5,7 @@ pub mod checkpoint;
 pub mod ends;
 pub mod file;
 pub mod flush;
+pub mod give;
 pub mod log;
 pub mod peek;
 pub mod set_up;

@@ -1,7 +1,7 @@
 // The log's positions.
 
 ghost use mathlib.Core.Path.{_≡_};
-ghost use Rattle.bufmodel.specs.Memory.{memory};
+ghost use Rattle.bufmodel.specs.Memory.{memory, withCounts};
 ghost use Rattle.bufmodel.specs.Answer.{acceptedNumber, acceptedWords, acceptedOf};
 ghost use Rattle.bufmodel.specs.Calls.{logInserted, logFlushed};
 use crate::ends::AcceptedEnd;
@@ -24,30 +24,36 @@ pub fn log_inserted(
     chain: &[i32],
     rows: &[u32],
     store: &[u8],
+    counts: &[u16],
     position: u64,
 ) -> AcceptedEnd
     ensures { λ r.
         ⌜ r .answer
         ≡ acceptedOf
         (logInserted
+        (withCounts (now (counts .entry))
         (memory control (now (states .entry)) (now (names .entry)) (now (pool .entry)) (now (free .entry)) (now (heads .entry))
-        (now (chain .entry)) (now (rows .entry)) (now (store .entry))) position) ⌝ }
+        (now (chain .entry)) (now (rows .entry)) (now (store .entry)))) position) ⌝ }
     ensures { λ r.
         ⌜ acceptedNumber (r .answer)
         ≡ logInserted
+        (withCounts (now (counts .entry))
         (memory control (now (states .entry)) (now (names .entry)) (now (pool .entry)) (now (free .entry)) (now (heads .entry))
-        (now (chain .entry)) (now (rows .entry)) (now (store .entry))) position .refusal ⌝ }
+        (now (chain .entry)) (now (rows .entry)) (now (store .entry)))) position .refusal ⌝ }
     ensures { λ r.
         ⌜ acceptedWords (r .answer)
         ≡ logInserted
+        (withCounts (now (counts .entry))
         (memory control (now (states .entry)) (now (names .entry)) (now (pool .entry)) (now (free .entry)) (now (heads .entry))
-        (now (chain .entry)) (now (rows .entry)) (now (store .entry))) position .answer ⌝ }
+        (now (chain .entry)) (now (rows .entry)) (now (store .entry)))) position .answer ⌝ }
     ensures { λ r.
-        ⌜ memory (r .control) (now (states .entry)) (now (names .entry)) (now (pool .entry)) (now (free .entry))
-        (now (heads .entry)) (now (chain .entry)) (now (rows .entry)) (now (store .entry))
+        ⌜ withCounts (now (counts .entry))
+        (memory (r .control) (now (states .entry)) (now (names .entry)) (now (pool .entry)) (now (free .entry))
+        (now (heads .entry)) (now (chain .entry)) (now (rows .entry)) (now (store .entry)))
         ≡ logInserted
+        (withCounts (now (counts .entry))
         (memory control (now (states .entry)) (now (names .entry)) (now (pool .entry)) (now (free .entry)) (now (heads .entry))
-        (now (chain .entry)) (now (rows .entry)) (now (store .entry))) position .after ⌝ }
+        (now (chain .entry)) (now (rows .entry)) (now (store .entry)))) position .after ⌝ }
 {
     let k = refusal(
         control,
@@ -59,6 +65,7 @@ pub fn log_inserted(
         chain,
         rows,
         store,
+        counts,
     );
     if k != 0 {
         return refused(control, k);
@@ -85,30 +92,36 @@ pub fn log_flushed(
     chain: &[i32],
     rows: &[u32],
     store: &[u8],
+    counts: &[u16],
     position: u64,
 ) -> AcceptedEnd
     ensures { λ r.
         ⌜ r .answer
         ≡ acceptedOf
         (logFlushed
+        (withCounts (now (counts .entry))
         (memory control (now (states .entry)) (now (names .entry)) (now (pool .entry)) (now (free .entry)) (now (heads .entry))
-        (now (chain .entry)) (now (rows .entry)) (now (store .entry))) position) ⌝ }
+        (now (chain .entry)) (now (rows .entry)) (now (store .entry)))) position) ⌝ }
     ensures { λ r.
         ⌜ acceptedNumber (r .answer)
         ≡ logFlushed
+        (withCounts (now (counts .entry))
         (memory control (now (states .entry)) (now (names .entry)) (now (pool .entry)) (now (free .entry)) (now (heads .entry))
-        (now (chain .entry)) (now (rows .entry)) (now (store .entry))) position .refusal ⌝ }
+        (now (chain .entry)) (now (rows .entry)) (now (store .entry)))) position .refusal ⌝ }
     ensures { λ r.
         ⌜ acceptedWords (r .answer)
         ≡ logFlushed
+        (withCounts (now (counts .entry))
         (memory control (now (states .entry)) (now (names .entry)) (now (pool .entry)) (now (free .entry)) (now (heads .entry))
-        (now (chain .entry)) (now (rows .entry)) (now (store .entry))) position .answer ⌝ }
+        (now (chain .entry)) (now (rows .entry)) (now (store .entry)))) position .answer ⌝ }
     ensures { λ r.
-        ⌜ memory (r .control) (now (states .entry)) (now (names .entry)) (now (pool .entry)) (now (free .entry))
-        (now (heads .entry)) (now (chain .entry)) (now (rows .entry)) (now (store .entry))
+        ⌜ withCounts (now (counts .entry))
+        (memory (r .control) (now (states .entry)) (now (names .entry)) (now (pool .entry)) (now (free .entry))
+        (now (heads .entry)) (now (chain .entry)) (now (rows .entry)) (now (store .entry)))
         ≡ logFlushed
+        (withCounts (now (counts .entry))
         (memory control (now (states .entry)) (now (names .entry)) (now (pool .entry)) (now (free .entry)) (now (heads .entry))
-        (now (chain .entry)) (now (rows .entry)) (now (store .entry))) position .after ⌝ }
+        (now (chain .entry)) (now (rows .entry)) (now (store .entry)))) position .after ⌝ }
 {
     let k = refusal(
         control,
@@ -120,6 +133,7 @@ pub fn log_flushed(
         chain,
         rows,
         store,
+        counts,
     );
     if k != 0 {
         return refused(control, k);

@@ -1,7 +1,7 @@
 // Peek: where a page lies, in the pool if it is held, else in the store, whose block is verified.
 
 ghost use mathlib.Core.Path.{_≡_};
-ghost use Rattle.bufmodel.specs.Memory.{memory};
+ghost use Rattle.bufmodel.specs.Memory.{memory, withCounts};
 ghost use Rattle.bufmodel.specs.Answer.{peekedNumber, peekedWords, peekedOf};
 ghost use Rattle.bufmodel.specs.Calls.{part, peek};
 use bufbooks::lent::refusal;
@@ -26,24 +26,28 @@ pub fn peek_at(
     chain: &[i32],
     rows: &[u32],
     store: &[u8],
+    counts: &[u16],
     name: PageName,
 ) -> Peeked
     ensures { λ r.
         ⌜ r
         ≡ peekedOf
         (peek
+        (withCounts (now (counts .entry))
         (memory control (now (states .entry)) (now (names .entry)) (now (pool .entry)) (now (free .entry)) (now (heads .entry))
-        (now (chain .entry)) (now (rows .entry)) (now (store .entry))) name) ⌝ }
+        (now (chain .entry)) (now (rows .entry)) (now (store .entry)))) name) ⌝ }
     ensures { λ r.
         ⌜ peekedNumber r
         ≡ peek
+        (withCounts (now (counts .entry))
         (memory control (now (states .entry)) (now (names .entry)) (now (pool .entry)) (now (free .entry)) (now (heads .entry))
-        (now (chain .entry)) (now (rows .entry)) (now (store .entry))) name .refusal ⌝ }
+        (now (chain .entry)) (now (rows .entry)) (now (store .entry)))) name .refusal ⌝ }
     ensures { λ r.
         ⌜ peekedWords r
         ≡ peek
+        (withCounts (now (counts .entry))
         (memory control (now (states .entry)) (now (names .entry)) (now (pool .entry)) (now (free .entry)) (now (heads .entry))
-        (now (chain .entry)) (now (rows .entry)) (now (store .entry))) name .answer ⌝ }
+        (now (chain .entry)) (now (rows .entry)) (now (store .entry)))) name .answer ⌝ }
 {
     let k = refusal(
         control,
@@ -55,6 +59,7 @@ pub fn peek_at(
         chain,
         rows,
         store,
+        counts,
     );
     if k != 0 {
         return Peeked::Refused(k);
@@ -85,14 +90,16 @@ pub fn peek_part<'a>(
     chain: &[i32],
     rows: &[u32],
     store: &'a [u8],
+    counts: &[u16],
     name: PageName,
 ) -> &'a [u8]
     ensures { λ r.
         ⌜ now r
         ≡ part
         (peek
+        (withCounts (now (counts .entry))
         (memory control (now (states .entry)) (now (names .entry)) (now (pool .entry)) (now (free .entry)) (now (heads .entry))
-        (now (chain .entry)) (now (rows .entry)) (now (store .entry))) name) ⌝ }
+        (now (chain .entry)) (now (rows .entry)) (now (store .entry)))) name) ⌝ }
 {
     let place = peek_at(
         control,
@@ -104,6 +111,7 @@ pub fn peek_part<'a>(
         chain,
         rows,
         store,
+        counts,
         name,
     );
     match place {

@@ -1,10 +1,10 @@
-// Set up: all buffers and chains empty, every buffer in the free list, hand 0, both positions and the cap as given.
+// Set up: all buffers and chains empty, every buffer in the free list, hand 0, both positions and the cap as given, all counts 0.
 
 ghost use mathlib.Core.Path.{_≡_};
 ghost use Prim.Native.Nat.{_<_, _^_};
 ghost use lib.ListN.{length, replicate};
 ghost use Rattle.buftag.specs.Link.{none};
-ghost use Rattle.bufmodel.specs.Memory.{memory};
+ghost use Rattle.bufmodel.specs.Memory.{memory, withCounts};
 ghost use Rattle.bufmodel.specs.Answer.{acceptedNumber, acceptedWords, acceptedOf};
 ghost use Rattle.bufmodel.specs.Calls.{freeLinks, setUp};
 use crate::ends::AcceptedEnd;
@@ -23,6 +23,16 @@ fn clear_words(words: &mut [u32])
     let mut i = 0;
     while i < words.len() {
         words[i] = 0;
+        i += 1;
+    }
+}
+
+fn clear_counts(counts: &mut [u16])
+    ensures { λ _. ⌜ now (counts .exit) ≡ replicate (length (now (counts .entry))) 0 ⌝ }
+{
+    let mut i = 0;
+    while i < counts.len() {
+        counts[i] = 0;
         i += 1;
     }
 }
@@ -62,6 +72,7 @@ pub fn set_up_pool(
     chain: &mut [i32],
     rows: &[u32],
     store: &[u8],
+    counts: &mut [u16],
     size: usize,
     position: u64,
     cap: usize,
@@ -70,24 +81,29 @@ pub fn set_up_pool(
         ⌜ r .answer
         ≡ acceptedOf
         (setUp
+        (withCounts (now (counts .entry))
         (memory control (now (states .entry)) (now (names .entry)) (now (pool .entry)) (now (free .entry)) (now (heads .entry))
-        (now (chain .entry)) (now (rows .entry)) (now (store .entry))) size position cap) ⌝ }
+        (now (chain .entry)) (now (rows .entry)) (now (store .entry)))) size position cap) ⌝ }
     ensures { λ r.
         ⌜ acceptedNumber (r .answer)
         ≡ setUp
+        (withCounts (now (counts .entry))
         (memory control (now (states .entry)) (now (names .entry)) (now (pool .entry)) (now (free .entry)) (now (heads .entry))
-        (now (chain .entry)) (now (rows .entry)) (now (store .entry))) size position cap .refusal ⌝ }
+        (now (chain .entry)) (now (rows .entry)) (now (store .entry)))) size position cap .refusal ⌝ }
     ensures { λ r.
         ⌜ acceptedWords (r .answer)
         ≡ setUp
+        (withCounts (now (counts .entry))
         (memory control (now (states .entry)) (now (names .entry)) (now (pool .entry)) (now (free .entry)) (now (heads .entry))
-        (now (chain .entry)) (now (rows .entry)) (now (store .entry))) size position cap .answer ⌝ }
+        (now (chain .entry)) (now (rows .entry)) (now (store .entry)))) size position cap .answer ⌝ }
     ensures { λ r.
-        ⌜ memory (r .control) (now (states .exit)) (now (names .exit)) (now (pool .entry)) (now (free .exit))
-        (now (heads .exit)) (now (chain .exit)) (now (rows .entry)) (now (store .entry))
+        ⌜ withCounts (now (counts .exit))
+        (memory (r .control) (now (states .exit)) (now (names .exit)) (now (pool .entry)) (now (free .exit))
+        (now (heads .exit)) (now (chain .exit)) (now (rows .entry)) (now (store .entry)))
         ≡ setUp
+        (withCounts (now (counts .entry))
         (memory control (now (states .entry)) (now (names .entry)) (now (pool .entry)) (now (free .entry)) (now (heads .entry))
-        (now (chain .entry)) (now (rows .entry)) (now (store .entry))) size position cap .after ⌝ }
+        (now (chain .entry)) (now (rows .entry)) (now (store .entry)))) size position cap .after ⌝ }
 {
     let fresh = Control {
         size: size,
@@ -97,7 +113,18 @@ pub fn set_up_pool(
         flushed: position,
         cap: cap,
     };
-    if !sizes_ok(fresh, states, names, pool, free, heads, chain, rows, store) {
+    if !sizes_ok(
+        fresh,
+        states,
+        names,
+        pool,
+        free,
+        heads,
+        chain,
+        rows,
+        store,
+        counts,
+    ) {
         return refused(control, SIZES);
     }
     if !cap_ok(cap) {
@@ -108,6 +135,7 @@ pub fn set_up_pool(
     link_all(free);
     clear_links(heads);
     clear_links(chain);
+    clear_counts(counts);
     AcceptedEnd {
         control: fresh,
         answer: Accepted::Done,

@@ -3,7 +3,7 @@ use denote.Ref.{now}
 use mathlib.Core.Path.{ap, _∙_}
 use Prim.Native.Nat.{ℕ}
 use Rattle.bufmodel.specs.Word.{makeDirty}
-use Rattle.bufmodel.specs.Memory.{Memory, memory}
+use Rattle.bufmodel.specs.Memory.{Memory, memory, withCounts}
 use Rattle.bufmodel.proofs.AnsweredLaws.{promised, write-answers}
 use Rattle.bufcalls.proofs.BufferLaws.{
   Held,
@@ -20,19 +20,23 @@ use Rattle.bufcalls.proofs.buffer.write_buffer.Statement.{statement}
 use Rattle.bufcalls.proofs.buffer.write_buffer.Tie as tie
 
 abbrev start : tie.After-buffer-refusal → tie.Start
-start c = c .before .before .before .before .before .before .before .before .before
+start c = c .before .before .before .before .before .before .before .before .before .before
 
 abbrev lent : tie.After-buffer-refusal → Memory
 lent r =
     let a = start r .args in
-    memory (a .control) (now (a .states)) (now (a .names)) (now (a .pool)) (now (a .free)) (now (a .heads)) (now (a .chain)) (now (a .rows))
-    (now (a .store))
+    withCounts (now (a .counts))
+    (memory (a .control) (now (a .states)) (now (a .names)) (now (a .pool)) (now (a .free)) (now (a .heads)) (now (a .chain))
+    (now (a .rows)) (now (a .store)))
+
+abbrev who : tie.After-buffer-refusal → ℕ
+who r = start r .args .holder .0
 
 abbrev at : tie.After-buffer-refusal → ℕ
 at r = start r .args .buffer .0
 
-held : (c : tie.Else1) → Held (lent (c .before)) (at (c .before))
-held c = let r = c .before in buffer-held (lent r) (at r) (r .buffer-refusal .ensures) (c .if1 .left)
+held : (c : tie.Else1) → Held (lent (c .before)) (who (c .before)) (at (c .before))
+held c = let r = c .before in buffer-held (lent r) (who r) (at r) (r .buffer-refusal .ensures) (c .if1 .left)
 
 buffer-refusal-requires : tie.Need-buffer-refusal-requires
 buffer-refusal-requires c κs = search needs
@@ -47,15 +51,16 @@ returns : tie.Need-returns
 returns c =
     let r = c .before in
     let a = start r .args in
-    promised (write-answers _ _ _ _ _)
-    (write-refused (lent r) (at r) (a .from) (now (a .bytes)) (a .position)
-    (write-early (lent r) (at r) (a .from) (now (a .bytes)) (a .position) (r .buffer-refusal .ensures) (c .if1 .taken)) (c .if1 .taken))
+    promised (write-answers _ _ _ _ _ _)
+    (write-refused (lent r) (who r) (at r) (a .from) (now (a .bytes)) (a .position)
+    (write-early (lent r) (who r) (at r) (a .from) (now (a .bytes)) (a .position) (r .buffer-refusal .ensures) (c .if1 .taken))
+    (c .if1 .taken))
 
 write-refusal-requires : tie.Need-write-refusal-requires
 write-refusal-requires c κs =
     let e = c .before in
     let r = e .before in
-    (held-page (lent r) (at r) (held e), held-pool (lent r) (at r) (held e))
+    (held-page (lent r) (who r) (at r) (held e), held-pool (lent r) (who r) (at r) (held e))
 
 same-length-3 : tie.Need-same-length-3
 same-length-3 c = search needs
@@ -69,9 +74,9 @@ returns-2 c =
     let e = w .before .before in
     let r = e .before in
     let a = start r .args in
-    promised (write-answers _ _ _ _ _)
-    (write-refused (lent r) (at r) (a .from) (now (a .bytes)) (a .position)
-    (write-later (lent r) (at r) (a .from) (now (a .bytes)) (a .position) (held e) (w .write-refusal .ensures)) (c .if2 .taken))
+    promised (write-answers _ _ _ _ _ _)
+    (write-refused (lent r) (who r) (at r) (a .from) (now (a .bytes)) (a .position)
+    (write-later (lent r) (who r) (at r) (a .from) (now (a .bytes)) (a .position) (held e) (w .write-refusal .ensures)) (c .if2 .taken))
 
 write-page-requires : tie.Need-write-page-requires
 write-page-requires c κs =
@@ -80,9 +85,9 @@ write-page-requires c κs =
     let e = w .before .before in
     let r = e .before in
     let a = start r .args in (
-      held-page (lent r) (at r) (held e),
-      held-pool (lent r) (at r) (held e),
-      write-range (lent r) (at r) (a .from) (now (a .bytes)) (a .position) (w .write-refusal .ensures) (d .if2 .left),
+      held-page (lent r) (who r) (at r) (held e),
+      held-pool (lent r) (who r) (at r) (held e),
+      write-range (lent r) (who r) (at r) (a .from) (now (a .bytes)) (a .position) (w .write-refusal .ensures) (d .if2 .left),
     )
 
 state-of-requires : tie.Need-state-of-requires
@@ -111,9 +116,9 @@ returns-3 c =
     let e = w .before .before in
     let r = e .before in
     let a = start r .args in
-    promised (write-answers _ _ _ _ _)
-    (write-done (lent r) (at r) (a .from) (now (a .bytes)) (a .position)
-    (write-later (lent r) (at r) (a .from) (now (a .bytes)) (a .position) (held e) (w .write-refusal .ensures)) (d .if2 .left)
+    promised (write-answers _ _ _ _ _ _)
+    (write-done (lent r) (who r) (at r) (a .from) (now (a .bytes)) (a .position)
+    (write-later (lent r) (who r) (at r) (a .from) (now (a .bytes)) (a .position) (held e) (w .write-refusal .ensures)) (d .if2 .left)
     (p .write-page .ensures) (t .make-dirty .ensures ∙ ap makeDirty (s .state-of .ensures)) (u .put-state .ensures))
 
 pub write-buffer-spec : {M : Type 1} → statement M

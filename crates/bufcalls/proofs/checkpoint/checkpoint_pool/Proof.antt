@@ -3,7 +3,7 @@ use denote.Ref.{now}
 use mathlib.Core.List.{[]}
 use mathlib.Core.Path.{sym, _∙_, ap}
 use Rattle.bufmodel.specs.declared.answer.Written.the-variants.{Pages}
-use Rattle.bufmodel.specs.Memory.{Memory, memory, buffers}
+use Rattle.bufmodel.specs.Memory.{Memory, memory, buffers, withCounts}
 use Rattle.bufmodel.specs.Calls.{checkpoint}
 use Rattle.bufmodel.proofs.OutcomeLaws.{refusal-none}
 use Rattle.bufmodel.proofs.GoodLaws.{passed-good}
@@ -16,11 +16,12 @@ use Rattle.bufcalls.proofs.checkpoint.checkpoint_pool.Tie as tie
 abbrev lent : tie.Start → Memory
 lent s =
     let a = s .args in
-    memory (a .control) (now (a .states)) (now (a .names)) (now (a .pool)) (now (a .free)) (now (a .heads)) (now (a .chain)) (now (a .rows))
-    (now (a .store))
+    withCounts (now (a .counts))
+    (memory (a .control) (now (a .states)) (now (a .names)) (now (a .pool)) (now (a .free)) (now (a .heads)) (now (a .chain))
+    (now (a .rows)) (now (a .store)))
 
 abbrev entry : tie.After-refusal → tie.Start
-entry c = c .before .before .before .before .before .before .before .before
+entry c = c .before .before .before .before .before .before .before .before .before
 
 refusal-requires : tie.Need-refusal-requires
 refusal-requires c κs = search needs

@@ -7,7 +7,7 @@ use mathlib.Core.Path.{_≡_, refl, sym, _∙_, ap, subst}
 use native.Mathlib.Omega.{arith}
 use Prim.Native.Nat.{ℕ, _≤_, _<_, _-_}
 use Rattle.bufmodel.specs.declared.control.Control.{Control}
-use Rattle.bufmodel.specs.Memory.{Memory, memory, buffers}
+use Rattle.bufmodel.specs.Memory.{Memory, memory, buffers, withCounts}
 use Rattle.bufmodel.specs.Moves.{writeBack, writeUpTo}
 use Rattle.bufmoves.proofs.BackLaws.{back-clean}
 use Rattle.bufcalls.specs.Checkpoint.{Stored}
@@ -17,7 +17,7 @@ use Rattle.bufcalls.proofs.checkpoint.write_all.Tie as tie
 
 -- a memory with parts that are equal to those of another
 same : (d : Memory) {c : Control} {states store : List ℕ} → c ≡ d .control → states ≡ d .states → store ≡ d .store
-    → memory c states (d .names) (d .pool) (d .free) (d .heads) (d .chain) (d .rows) store ≡ d
+    → withCounts (d .counts) (memory c states (d .names) (d .pool) (d .free) (d .heads) (d .chain) (d .rows) store) ≡ d
 same d a b c = rw (a, b, c)
 
 abbrev Inv-loop : tie.InvT-loop

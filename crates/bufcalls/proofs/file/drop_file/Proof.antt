@@ -6,7 +6,7 @@ use mathlib.Core.Path.{_≡_, sym, _∙_}
 use mathlib.Core.List.{List}
 use Rattle.laws.specs.First.{found}
 use Rattle.buftag.specs.declared.name.FileName.{FileName}
-use Rattle.bufmodel.specs.Memory.{Memory, memory}
+use Rattle.bufmodel.specs.Memory.{Memory, memory, withCounts}
 use Rattle.bufmodel.specs.Rows.{rowOf}
 use Rattle.bufmodel.proofs.GoodLaws.{Good, good-sized, good-sound}
 use Rattle.bufmodel.proofs.SizesLaws.{rows-say}
@@ -21,11 +21,12 @@ use Rattle.bufcalls.proofs.file.drop_file.Tie as tie
 -- the memory as it is lent
 abbrev lent : tie.Start → Memory
 lent c =
-    memory (c .args .control) (now (c .args .states)) (now (c .args .names)) (now (c .args .pool)) (now (c .args .free))
-    (now (c .args .heads)) (now (c .args .chain)) (now (c .args .rows)) (now (c .args .store))
+    withCounts (now (c .args .counts))
+    (memory (c .args .control) (now (c .args .states)) (now (c .args .names)) (now (c .args .pool)) (now (c .args .free))
+    (now (c .args .heads)) (now (c .args .chain)) (now (c .args .rows)) (now (c .args .store)))
 
 abbrev start : tie.Else1 → tie.Start
-start c = c .before .before .before .before .before .before .before .before .before .before .before .before .before
+start c = c .before .before .before .before .before .before .before .before .before .before .before .before .before .before
 
 good : (c : tie.Else1) → Good (lent (start c))
 good c = passed-good (lent (start c)) (c .before .refusal .ensures) (c .if1 .left)
@@ -77,7 +78,7 @@ same-length-6 c = search needs
 returns : tie.Need-returns
 returns c =
     let i = c .before in
-    let s = i .before .before .before .before .before .before .before .before .before .before .before .before .before in
+    let s = i .before .before .before .before .before .before .before .before .before .before .before .before .before .before in
     rw (c .refused .ensures)
     (promised (drop-answers _ _)
     (accepted-refused (i .if1 .taken) (drop-early (lent s) (s .args .file) (i .before .refusal .ensures) (i .if1 .taken))))
@@ -160,8 +161,11 @@ returns-3 c =
 release-file-requires : tie.Need-release-file-requires
 release-file-requires c κs =
     let b = c .before .before .before .before .before .before in
-    let e = passed (rowed b) in
-    (good-sized (lent (start e)) (good e), good-sound (lent (start e)) (good e))
+    let e = passed (rowed b) in (
+      good-sized (lent (start e)) (good e),
+      good-sound (lent (start e)) (good e),
+      sym (b .before .any-pinned .ensures) ∙ b .if2 .left,
+    )
 
 set-blocks-requires : tie.Need-set-blocks-requires
 set-blocks-requires c κs =

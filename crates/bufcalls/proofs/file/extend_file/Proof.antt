@@ -10,7 +10,7 @@ use Rattle.laws.specs.First.{found}
 use Rattle.laws.specs.Block.{putBlock}
 use Rattle.laws.proofs.Block.{block-in}
 use Rattle.buftag.specs.declared.name.FileName.{FileName}
-use Rattle.bufmodel.specs.Memory.{Memory, memory, size}
+use Rattle.bufmodel.specs.Memory.{Memory, memory, size, withCounts}
 use Rattle.bufmodel.specs.Rows.{rowWords, blocksAt, capacityAt, rowOf, startOf, storeBlocks}
 use Rattle.bufmodel.specs.Sizes.{maxFiles, maxBlocks}
 use Rattle.bufmodel.proofs.GoodLaws.{Good}
@@ -27,11 +27,12 @@ use Rattle.bufcalls.proofs.file.extend_file.Tie as tie
 -- the memory as it is lent
 abbrev lent : tie.Start → Memory
 lent c =
-    memory (c .args .control) (now (c .args .states)) (now (c .args .names)) (now (c .args .pool)) (now (c .args .free))
-    (now (c .args .heads)) (now (c .args .chain)) (now (c .args .rows)) (now (c .args .store))
+    withCounts (now (c .args .counts))
+    (memory (c .args .control) (now (c .args .states)) (now (c .args .names)) (now (c .args .pool)) (now (c .args .free))
+    (now (c .args .heads)) (now (c .args .chain)) (now (c .args .rows)) (now (c .args .store)))
 
 abbrev start : tie.Else1 → tie.Start
-start c = c .before .before .before .before .before .before .before .before .before
+start c = c .before .before .before .before .before .before .before .before .before .before
 
 good : (c : tie.Else1) → Good (lent (start c))
 good c = passed-good (lent (start c)) (c .before .refusal .ensures) (c .if1 .left)
@@ -74,7 +75,7 @@ same-length-2 c = search needs
 
 returns : tie.Need-returns
 returns c =
-    let s = c .before .before .before .before .before .before .before .before .before in
+    let s = c .before .before .before .before .before .before .before .before .before .before in
     promised (extend-answers _ _)
     (extended-refused (c .if1 .taken) (extend-early (lent s) (s .args .file) (c .before .refusal .ensures) (c .if1 .taken)))
 

@@ -6,7 +6,7 @@ use mathlib.Core.Path.{_≡_, sym, _∙_, subst}
 use mathlib.Core.Logic.{⊎-elim}
 use lib.ListN.{length}
 use Rattle.laws.proofs.Tests.{at-end}
-use Rattle.bufmodel.specs.Memory.{Memory, memory}
+use Rattle.bufmodel.specs.Memory.{Memory, memory, withCounts}
 use Rattle.bufmodel.specs.Moves.{releaseUpTo}
 use Rattle.bufmodel.proofs.GoodLaws.{Good, good-of}
 use Rattle.bufcalls.proofs.FileLaws.{Way, way-up-to, file-chained, memory-same}
@@ -16,40 +16,43 @@ use Rattle.bufcalls.proofs.file.release_file.Statement.{statement}
 use Rattle.bufcalls.proofs.file.release_file.Tie as tie
 
 abbrev Inv-loop : tie.InvT-loop
-Inv-loop states₀ names₀ pool free₀ heads₀ chain₀ rows store file n after₀ i₀ states names free heads chain after i =
+Inv-loop states₀ names₀ pool free₀ heads₀ chain₀ rows store counts file n after₀ i₀ states names free heads chain after i =
     (i ≤ n)
-    × (memory after states names pool free heads chain rows store
-    ≡ releaseUpTo file i (memory after₀ states₀ names₀ pool free₀ heads₀ chain₀ rows store))
+    × (withCounts counts (memory after states names pool free heads chain rows store)
+    ≡ releaseUpTo file i (withCounts counts (memory after₀ states₀ names₀ pool free₀ heads₀ chain₀ rows store)))
 
 abbrev μ-loop : tie.MeasureT-loop
-μ-loop states₀ names₀ pool free₀ heads₀ chain₀ rows store file n after₀ i₀ states names free heads chain after i = n - i
+μ-loop states₀ names₀ pool free₀ heads₀ chain₀ rows store counts file n after₀ i₀ states names free heads chain after i = n - i
 
 -- the memory at the start, and where a turn of the loop begins
 abbrev lent : tie.Start Inv-loop μ-loop → Memory
 lent c =
-    memory (c .args .control) (now (c .args .states)) (now (c .args .names)) (now (c .args .pool)) (now (c .args .free))
-    (now (c .args .heads)) (now (c .args .chain)) (now (c .args .rows)) (now (c .args .store))
+    withCounts (now (c .args .counts))
+    (memory (c .args .control) (now (c .args .states)) (now (c .args .names)) (now (c .args .pool)) (now (c .args .free))
+    (now (c .args .heads)) (now (c .args .chain)) (now (c .args .rows)) (now (c .args .store)))
 
 abbrev start : tie.At-loop Inv-loop μ-loop → tie.Start Inv-loop μ-loop
-start c = c .before .before .before .before .before .before
+start c = c .before .before .before .before .before .before .before
 
 abbrev turn : tie.At-loop Inv-loop μ-loop → Memory
 turn c =
     let a = start c .args in
-    memory (c .loop .after) (c .loop .states) (c .loop .names) (now (a .pool)) (c .loop .free) (c .loop .heads) (c .loop .chain)
-    (now (a .rows)) (now (a .store))
+    withCounts (now (a .counts))
+    (memory (c .loop .after) (c .loop .states) (c .loop .names) (now (a .pool)) (c .loop .free) (c .loop .heads) (c .loop .chain)
+    (now (a .rows)) (now (a .store)))
 
 good : (c : tie.Start Inv-loop μ-loop) → Good (lent c)
 good c = good-of (lent c) (c .pre .0) (c .pre .1)
 
-way : (c : tie.At-loop Inv-loop μ-loop) → Way (lent (start c)) (turn c)
+way : (c : tie.At-loop Inv-loop μ-loop) → Way (lent (start c)) (start c .args .file) (turn c)
 way c =
-    subst (Way (lent (start c))) (sym (c .loop .inv .1))
-    (way-up-to (lent (start c)) (start c .args .file) (good (start c)) (c .loop .i) (c .loop .inv .0))
+    let s = start c in
+    subst (Way (lent s) (s .args .file)) (sym (c .loop .inv .1))
+    (way-up-to (lent s) (s .args .file) (good s) (s .pre .2) (c .loop .i) (c .loop .inv .0))
 
 loop-holds : tie.Need-loop-holds Inv-loop μ-loop
 loop-holds c =
-    let s = c .before .before .before .before .before in (search needs, released-none (lent s) (s .args .file))
+    let s = c .before .before .before .before .before .before in (search needs, released-none (lent s) (s .args .file))
 
 is-of-file-requires : tie.Need-is-of-file-requires Inv-loop μ-loop
 is-of-file-requires c κs =
@@ -82,8 +85,9 @@ loop-again c =
       ⊎-elim
           (λ w.
           let r = w .6 in
-          let o : Memory = memory (r .result) (r .last .1 .0) (r .last .1 .1 .0) (d .pool) (r .last .1 .1 .1 .0)
-          (r .last .1 .1 .1 .1 .0) (r .last .1 .1 .1 .1 .1 .0) (d .rows) (d .store) in
+          let o : Memory = withCounts (d .counts)
+          (memory (r .result) (r .last .1 .0) (r .last .1 .1 .0) (d .pool) (r .last .1 .1 .1 .0) (r .last .1 .1 .1 .1 .0)
+          (r .last .1 .1 .1 .1 .1 .0) (d .rows) (d .store)) in
           memory-same o (w .19) (w .14) (w .15) (w .16) (w .17) (w .18)
           ∙ release-whole d i _ _ _ _ _ _ (r .ensures) ∙ released-hit m f i d e (sym h ∙ w .0 .taken))
           (λ w. memory-same d (w .6) (w .1) (w .2) (w .3) (w .4) (w .5) ∙ released-miss m f i d e (sym h ∙ w .0 .left))

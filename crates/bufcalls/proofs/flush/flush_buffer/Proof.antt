@@ -4,7 +4,7 @@ use mathlib.Core.Path.{ap, _∙_}
 use Prim.Native.Nat.{ℕ}
 use Rattle.laws.specs.Sum.{ind}
 use Rattle.bufmodel.specs.Word.{dirty}
-use Rattle.bufmodel.specs.Memory.{Memory, memory}
+use Rattle.bufmodel.specs.Memory.{Memory, memory, withCounts}
 use Rattle.bufmodel.proofs.AnsweredLaws.{promised, flush-answers}
 use Rattle.bufmoves.proofs.WholeLaws.{good-backed}
 use Rattle.bufcalls.proofs.BufferLaws.{Held, buffer-held}
@@ -13,19 +13,23 @@ use Rattle.bufcalls.proofs.flush.flush_buffer.Statement.{statement}
 use Rattle.bufcalls.proofs.flush.flush_buffer.Tie as tie
 
 abbrev start : tie.After-buffer-refusal → tie.Start
-start c = c .before .before .before .before .before .before .before .before
+start c = c .before .before .before .before .before .before .before .before .before
 
 abbrev lent : tie.After-buffer-refusal → Memory
 lent r =
     let a = start r .args in
-    memory (a .control) (now (a .states)) (now (a .names)) (now (a .pool)) (now (a .free)) (now (a .heads)) (now (a .chain)) (now (a .rows))
-    (now (a .store))
+    withCounts (now (a .counts))
+    (memory (a .control) (now (a .states)) (now (a .names)) (now (a .pool)) (now (a .free)) (now (a .heads)) (now (a .chain))
+    (now (a .rows)) (now (a .store)))
+
+abbrev who : tie.After-buffer-refusal → ℕ
+who r = start r .args .holder .0
 
 abbrev at : tie.After-buffer-refusal → ℕ
 at r = start r .args .buffer .0
 
-held : (c : tie.Else1) → Held (lent (c .before)) (at (c .before))
-held c = let r = c .before in buffer-held (lent r) (at r) (r .buffer-refusal .ensures) (c .if1 .left)
+held : (c : tie.Else1) → Held (lent (c .before)) (who (c .before)) (at (c .before))
+held c = let r = c .before in buffer-held (lent r) (who r) (at r) (r .buffer-refusal .ensures) (c .if1 .left)
 
 buffer-refusal-requires : tie.Need-buffer-refusal-requires
 buffer-refusal-requires c κs = search needs
@@ -39,7 +43,7 @@ same-length-2 c = search needs
 returns : tie.Need-returns
 returns c =
     let r = c .before in
-    promised (flush-answers _ _) (flush-refused (lent r) (at r) (r .buffer-refusal .ensures) (c .if1 .taken))
+    promised (flush-answers _ _ _) (flush-refused (lent r) (who r) (at r) (r .buffer-refusal .ensures) (c .if1 .taken))
 
 state-of-requires : tie.Need-state-of-requires
 state-of-requires c κs = held (c .before) .within
@@ -69,8 +73,8 @@ returns-2 c =
     let d = o .before in
     let s = d .before in
     let e = s .before .before in
-    promised (flush-answers _ _)
-    (flush-done (lent (e .before)) (at (e .before)) (held e)
+    promised (flush-answers _ _ _)
+    (flush-done (lent (e .before)) (who (e .before)) (at (e .before)) (held e)
     (o .one-if .ensures ∙ ap ind (d .is-dirty .ensures ∙ ap dirty (s .state-of .ensures))) (b .write-back .ensures))
 
 pub flush-buffer-spec : {M : Type 1} → statement M

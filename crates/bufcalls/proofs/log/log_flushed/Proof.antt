@@ -5,7 +5,7 @@ use mathlib.Core.List.{[]}
 use mathlib.Core.Path.{_∙_, ap}
 use native.Mathlib.Omega.{arith}
 use Rattle.bufmodel.specs.declared.control.Control.{Control}
-use Rattle.bufmodel.specs.Memory.{memory}
+use Rattle.bufmodel.specs.Memory.{memory, withCounts}
 use Rattle.bufmodel.specs.Calls.{logFlushed}
 use Rattle.bufmodel.proofs.OutcomeLaws.{refusal-at, refusal-past, refusal-none}
 use Rattle.bufmodel.proofs.GoodLaws.{passed-good}
@@ -49,14 +49,15 @@ returns-3 : tie.Need-returns-3
 unfolding logFlushed
 returns-3 c =
     let n = c .before .before .before in
-    let a = n .before .before .before .before .before .before .before .args in
+    let a = n .before .before .before .before .before .before .before .before .args in
     let none = refusal-past 16 [] (le-ltb _ _ (c .before .if2 .left)) ∙ refusal-none in
     let end = accepted-done (end-done _ _ _ _ (passed-good _ (n .before .refusal .ensures) (n .if1 .left)) none) in
     promised (flushed-answers _ _) (
       end .0,
       ap (λ (x : Control).
-          memory x (now (a .states)) (now (a .names)) (now (a .pool)) (now (a .free)) (now (a .heads)) (now (a .chain)) (now (a .rows))
-          (now (a .store))) (c .flushed-to .ensures)
+          withCounts (now (a .counts))
+          (memory x (now (a .states)) (now (a .names)) (now (a .pool)) (now (a .free)) (now (a .heads)) (now (a .chain))
+          (now (a .rows)) (now (a .store)))) (c .flushed-to .ensures)
           ∙ end .1,
     )
 

@@ -7,7 +7,7 @@ use Rattle.buftag.specs.declared.name.PageName.{PageName}
 use Rattle.buftag.specs.declared.lookup.Held as held
 use Rattle.buftag.specs.Lookup.{lookUp}
 use Rattle.bufmodel.specs.declared.answer.Peeked.the-variants.{InPool}
-use Rattle.bufmodel.specs.Memory.{Memory, memory}
+use Rattle.bufmodel.specs.Memory.{Memory, memory, withCounts}
 use Rattle.bufmodel.proofs.GoodLaws.{Good, passed-good}
 use Rattle.bufmodel.proofs.SizesLaws.{rows-say}
 use Rattle.bufmodel.proofs.AnsweredLaws.{answered, peek-answers}
@@ -29,11 +29,12 @@ use Rattle.bufcalls.proofs.peek.peek_at.Tie as tie
 -- the memory as it is lent
 abbrev lent : tie.Start → Memory
 lent c =
-    memory (c .args .control) (now (c .args .states)) (now (c .args .names)) (now (c .args .pool)) (now (c .args .free))
-    (now (c .args .heads)) (now (c .args .chain)) (now (c .args .rows)) (now (c .args .store))
+    withCounts (now (c .args .counts))
+    (memory (c .args .control) (now (c .args .states)) (now (c .args .names)) (now (c .args .pool)) (now (c .args .free))
+    (now (c .args .heads)) (now (c .args .chain)) (now (c .args .rows)) (now (c .args .store)))
 
 abbrev start : tie.Else1 → tie.Start
-start c = c .before .before .before .before .before .before .before
+start c = c .before .before .before .before .before .before .before .before
 
 good : (c : tie.Else1) → Good (lent (start c))
 good c = passed-good (lent (start c)) (c .before .refusal .ensures) (c .if1 .left)
@@ -60,7 +61,7 @@ refusal-requires c κs = search needs
 
 returns : tie.Need-returns
 returns c =
-    let s = c .before .before .before .before .before .before .before in
+    let s = c .before .before .before .before .before .before .before .before in
     answered (peek-answers _ _) (peek-early (lent s) (s .args .name) (c .before .refusal .ensures) (c .if1 .taken))
 
 seek-requires : tie.Need-seek-requires
@@ -102,8 +103,8 @@ returns-2 c =
     (peek-differs (lent (start (passed k))) (name k) (good (passed k)) (placed k) (nowhere e)
     (sym (c .before .passes-block .ensures) ∙ not-true _ (c .if2 .taken)))
 
-mul-t21 : tie.Need-mul-t21
-mul-t21 c =
+mul-t22 : tie.Need-mul-t22
+mul-t22 c =
     let k = c .before .before .before .before .before .before in
     record { fits = place-small (lent (start (passed k))) (name k) (good (passed k)) (placed k) }
 
@@ -147,7 +148,7 @@ peek-at-spec =
     enum-told
     passes-block-requires
     returns-2
-    mul-t21
+    mul-t22
     returns-3
     page-offset-requires
     returns-4

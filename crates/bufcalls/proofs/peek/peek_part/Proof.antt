@@ -5,21 +5,22 @@ use denote.Ref.{now}
 use mathlib.Core.Path.{_≡_, sym, _∙_}
 use Rattle.bufmodel.specs.declared.answer.Peeked.{Peeked}
 use Rattle.bufmodel.specs.declared.answer.Peeked.the-variants.{InPool, InStore}
-use Rattle.bufmodel.specs.Memory.{Memory, memory}
+use Rattle.bufmodel.specs.Memory.{Memory, memory, withCounts}
 use Rattle.bufmodel.specs.Calls.{part, peek}
 use Rattle.bufcalls.proofs.PeekLaws.{Told, told}
 use Rattle.bufcalls.proofs.peek.peek_part.Statement.{statement}
 use Rattle.bufcalls.proofs.peek.peek_part.Tie as tie
 
 abbrev start : tie.After-peek-at → tie.Start
-start c = c .before .before .before .before .before .before
+start c = c .before .before .before .before .before .before .before
 
 -- the memory as it is lent
 abbrev lent : tie.After-peek-at → Memory
 lent c =
     let s = start c in
-    memory (s .args .control) (now (s .args .states)) (now (s .args .names)) (now (s .args .pool)) (now (s .args .free))
-    (now (s .args .heads)) (now (s .args .chain)) (now (s .args .rows)) (now (s .args .store))
+    withCounts (now (s .args .counts))
+    (memory (s .args .control) (now (s .args .states)) (now (s .args .names)) (now (s .args .pool)) (now (s .args .free))
+    (now (s .args .heads)) (now (s .args .chain)) (now (s .args .rows)) (now (s .args .store)))
 
 -- what an answer tells of the part
 abbrev Tells : tie.After-peek-at → Peeked → Type 0

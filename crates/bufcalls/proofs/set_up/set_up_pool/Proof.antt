@@ -10,7 +10,7 @@ use native.Mathlib.Omega.{arith}
 use Prim.Native.Nat.{ℕ}
 use Rattle.buftag.specs.Link.{none}
 use Rattle.bufmodel.specs.Word.{soundCap}
-use Rattle.bufmodel.specs.Memory.{Memory, memory}
+use Rattle.bufmodel.specs.Memory.{Memory, memory, withCounts}
 use Rattle.bufmodel.specs.Sizes.{sized, sizedFor}
 use Rattle.bufmodel.specs.Outcome.{place, refusalOf, refused, done, zeros}
 use Rattle.bufmodel.specs.Calls.{freeLinks, fresh, setUp}
@@ -38,29 +38,32 @@ module _ (m : Memory) (p at cap : ℕ) where
     capless h = let f = past ∙ refusal-at 18 [] (ap not h) in rw f (outcome-refused [] m _ 18 (λ z. omega arith))
 
     -- both fit: each part was filled to its own length
-    fit : soundCap cap ≡ true → {states names : List ℕ} {free heads chain : List ℤ}
+    fit : soundCap cap ≡ true → {states names counts : List ℕ} {free heads chain : List ℤ}
         → states ≡ replicate (length (m .states)) 0
         → names ≡ replicate (length (m .names)) 0
         → free ≡ freeLinks 0 (length (m .free))
         → heads ≡ replicate (length (m .heads)) none
         → chain ≡ replicate (length (m .chain)) none
+        → counts ≡ replicate (length (m .counts)) 0
         → setUp m p at cap
         ≡ done zeros []
+        (withCounts counts
         (memory (record { size = p; hand = 0; top = pos 0; inserted = at; flushed = at; cap = cap }) states names (m .pool) free heads chain
-        (m .rows) (m .store))
+        (m .rows) (m .store)))
     unfolding setUp fresh
-    fit h s n f b c =
+    fit h s n f b c k =
         let z = sizes-say p m .holds e in
-        rw (s, n, f, b, c, z .names, z .free) (outcome-done [] m _ (past ∙ refusal-past 18 [] (ap not h) ∙ refusal-none))
+        rw (s, n, f, b, c, k, z .names, z .free) (outcome-done [] m _ (past ∙ refusal-past 18 [] (ap not h) ∙ refusal-none))
 
 abbrev lent : tie.Start → Memory
 lent s =
     let a = s .args in
-    memory (a .control) (now (a .states)) (now (a .names)) (now (a .pool)) (now (a .free)) (now (a .heads)) (now (a .chain)) (now (a .rows))
-    (now (a .store))
+    withCounts (now (a .counts))
+    (memory (a .control) (now (a .states)) (now (a .names)) (now (a .pool)) (now (a .free)) (now (a .heads)) (now (a .chain))
+    (now (a .rows)) (now (a .store)))
 
 abbrev entry : tie.After-sizes-ok → tie.Start
-entry c = c .before .before .before .before .before .before .before .before .before .before .before
+entry c = c .before .before .before .before .before .before .before .before .before .before .before .before .before
 
 -- what the test of the sizes said
 passed : (c : tie.Else1) → sizedFor (entry (c .before) .args .size) (lent (entry (c .before))) ≡ true
@@ -88,6 +91,9 @@ same-length-4 c = search needs
 same-length-5 : tie.Need-same-length-5
 same-length-5 c = search needs
 
+same-length-6 : tie.Need-same-length-6
+same-length-6 c = search needs
+
 returns : tie.Need-returns
 unfolding sized sizedFor
 returns c =
@@ -105,9 +111,6 @@ cap-ok-requires c κs = search needs
 refused-requires-2 : tie.Need-refused-requires-2
 refused-requires-2 c κs = search needs
 
-same-length-6 : tie.Need-same-length-6
-same-length-6 c = search needs
-
 same-length-7 : tie.Need-same-length-7
 same-length-7 c = search needs
 
@@ -119,6 +122,12 @@ same-length-9 c = search needs
 
 same-length-10 : tie.Need-same-length-10
 same-length-10 c = search needs
+
+same-length-11 : tie.Need-same-length-11
+same-length-11 c = search needs
+
+same-length-12 : tie.Need-same-length-12
+same-length-12 c = search needs
 
 returns-2 : tie.Need-returns-2
 returns-2 c =
@@ -150,11 +159,8 @@ clear-links-requires c κs = search needs
 clear-links-requires-2 : tie.Need-clear-links-requires-2
 clear-links-requires-2 c κs = search needs
 
-same-length-11 : tie.Need-same-length-11
-same-length-11 c = search needs
-
-same-length-12 : tie.Need-same-length-12
-same-length-12 c = search needs
+clear-counts-requires : tie.Need-clear-counts-requires
+clear-counts-requires c κs = search needs
 
 same-length-13 : tie.Need-same-length-13
 same-length-13 c = search needs
@@ -165,9 +171,20 @@ same-length-14 c = search needs
 same-length-15 : tie.Need-same-length-15
 same-length-15 c = search needs
 
+same-length-16 : tie.Need-same-length-16
+same-length-16 c = search needs
+
+same-length-17 : tie.Need-same-length-17
+same-length-17 c = search needs
+
+same-length-18 : tie.Need-same-length-18
+same-length-18 c = search needs
+
 returns-3 : tie.Need-returns-3
 returns-3 c =
-    let h = c .before .before .before .before in
+    let k = c .before .before in
+    let l = k .before .before .before in
+    let h = l .before .before .before in
     let f = h .before .before .before in
     let n = f .before .before .before .before in
     let w = n .before .before .before .before in
@@ -178,7 +195,7 @@ returns-3 c =
     (accepted-done
     (fit (lent s) (s .args .size) (s .args .position) (s .args .cap) (passed e)
     (sym (i .before .cap-ok .ensures) ∙ not-false _ (i .if2 .left)) (w .clear-words .ensures) (n .clear-words2 .ensures)
-    (f .link-all .ensures) (h .clear-links .ensures) (c .before .clear-links2 .ensures)))
+    (f .link-all .ensures) (h .clear-links .ensures) (l .clear-links2 .ensures) (k .clear-counts .ensures)))
 
 pub set-up-pool-spec : {M : Type 1} → statement M
 set-up-pool-spec =
@@ -191,23 +208,27 @@ set-up-pool-spec =
     same-length-3
     same-length-4
     same-length-5
+    same-length-6
     returns
     cap-ok-requires
     refused-requires-2
-    same-length-6
     same-length-7
     same-length-8
     same-length-9
     same-length-10
+    same-length-11
+    same-length-12
     returns-2
     clear-words-requires
     clear-words-requires-2
     link-all-requires
     clear-links-requires
     clear-links-requires-2
-    same-length-11
-    same-length-12
+    clear-counts-requires
     same-length-13
     same-length-14
     same-length-15
+    same-length-16
+    same-length-17
+    same-length-18
     returns-3)

@@ -7,7 +7,8 @@ use Rattle.bufpool.proofs.page.bufpool_pin.Statement.{statement}
 use Rattle.bufpool.proofs.page.bufpool_pin.Tie as tie
 
 returns : tie.Need-returns
-returns c = export-answer _ _ _ _ (c .if1 .taken)
+returns c =
+    export-answer _ _ _ _ (c .if1 .taken)
 
 refuse-requires : tie.Need-refuse-requires
 refuse-requires c κs = search needs
@@ -32,14 +33,17 @@ pin-page-requires : tie.Need-pin-page-requires
 pin-page-requires c κs = search needs
 
 put-pinned-requires : tie.Need-put-pinned-requires
-put-pinned-requires c κs = search needs
+put-pinned-requires c κs =
+    let at-if1 = c .before .before .before .before .before .before .before .before .before .before .before .before .before .before .before
+    .before .before .before .before .before .before .before .before .before .before .before .before in
+    at-if1 .if1 .left
 
 keep-control-requires : tie.Need-keep-control-requires
 keep-control-requires c κs =
     let at-put-pinned = c .before .before .before in
-    let at-answer = at-put-pinned .before .before .before .before .before .before in
-    let at-pin-page = at-answer .before .before .before .before .before .before .before in
-    let at-if2 = at-pin-page .before .before .before .before .before .before .before .before .before .before .before in
+    let at-pin-page = at-put-pinned .before .before .before .before .before .before .before .before .before .before .before .before .before
+    .before .before in
+    let at-if2 = at-pin-page .before .before .before .before .before .before .before .before .before .before .before .before in
     at-if2 .if2 .left
 
 same-length-2 : tie.Need-same-length-2
@@ -69,21 +73,24 @@ same-length-9 c = search needs
 same-length-10 : tie.Need-same-length-10
 same-length-10 c = search needs
 
+same-length-11 : tie.Need-same-length-11
+same-length-11 c = search needs
+
 returns-3 : tie.Need-returns-3
 returns-3 c =
     let at-keep-control = c .before .before in
     let at-put-pinned = at-keep-control .before .before .before .before in
-    let at-answer = at-put-pinned .before .before .before .before .before .before in
-    let at-pin-page = at-answer .before .before .before .before .before .before .before in
-    let at-read-control = at-pin-page .before .before .before .before .before .before .before .before in
+    let at-pin-page = at-put-pinned .before .before .before .before .before .before .before .before .before .before .before .before .before
+    .before .before in
+    let at-read-control = at-pin-page .before .before .before .before .before .before .before .before .before in
     let at-page-name = at-read-control .before .before in
     let at-if2 = at-page-name .before in
     let at-if1 = at-if2 .before in
     let p = at-put-pinned .put-pinned .ensures in
     let u = at-pin-page .pin-page .ensures in
-    let read = call-read _ _ _ (pin-early _) _ (at-read-control .read-control .ensures) in
+    let read = call-read _ _ _ (pin-early _ _) _ (at-read-control .read-control .ensures) in
     rw (at-keep-control .keep-control .ensures, ← at-page-name .page-name .ensures)
-    (export-made _ _ _ _ (at-if1 .if1 .left) (at-if2 .if2 .left) read (pin-answers _ _)
+    (export-made _ _ _ _ (at-if1 .if1 .left) (at-if2 .if2 .left) read (pin-answers _ _ _)
     (p .0 ∙ u .1 .0) (p .1 ∙ u .1 .1 .0) (u .1 .1 .1))
 
 pub bufpool-pin-spec : {M : Type 1} → statement M
@@ -108,4 +115,5 @@ bufpool-pin-spec =
     same-length-8
     same-length-9
     same-length-10
+    same-length-11
     returns-3)
