@@ -189,9 +189,15 @@ benchCases =
 -- two files
 unfoldable pub fileCases : List Case
 fileCases =
-    -- Two files: the map's pages are read from their places behind the table's full capacity, and flush and checkpoint put them there
-    case unmarked (seenThen (λ m. bytes 1 8 4 m ++ bytes 2 8 4 m) twoFiles spread [])
-    ((218 ∷ 199 ∷ 13 ∷ 13 ∷ []) ∷ (55 ∷ 120 ∷ 12 ∷ 12 ∷ []) ∷ [])
+    -- Two files: the map's pages are read from their places behind the table's full capacity, and flush and checkpoint put them there. A
+    -- peek of a page in the pool, and of one in the store: 1 or 0, and the byte offset
+    case unmarked (seenThen (λ m. bytes 1 8 4 m ++ bytes 2 8 4 m) twoFiles (block 0 ∷ mapBlock 1 ∷ []) (mapPeek 1 ∷ mapPeek 0 ∷ mapBlock 0 ∷ []))
+    ((0 ∷ 1 ∷ 1024 ∷ 0 ∷ 0 ∷ [])
+    ∷ (0 ∷ 0 ∷ 2048 ∷ 0 ∷ 0 ∷ [])
+    ∷ at 2 0
+    ∷ (218 ∷ 199 ∷ 13 ∷ 13 ∷ [])
+    ∷ (55 ∷ 120 ∷ 12 ∷ 12 ∷ [])
+    ∷ [])
     ∷ case unmarked (seenThen blocks twoFiles spread settled)
     (only 0
     ∷ counted 1
@@ -206,9 +212,6 @@ fileCases =
     ∷ (91 ∷ 0 ∷ 0 ∷ 0 ∷ 32 ∷ 250 ∷ 13 ∷ 13 ∷ 77 ∷ [])
     ∷ (0 ∷ 0 ∷ 0 ∷ 0 ∷ 14 ∷ 0 ∷ 14 ∷ 14 ∷ 0 ∷ [])
     ∷ [])
-    -- A peek of a page in the pool, and of one in the store: 1 or 0, and the byte offset
-    ∷ case unmarked (seen twoFiles (block 0 ∷ mapBlock 1 ∷ []) (mapPeek 1 ∷ mapPeek 0 ∷ []))
-    ((0 ∷ 1 ∷ 1024 ∷ 0 ∷ 0 ∷ []) ∷ (0 ∷ 0 ∷ 2048 ∷ 0 ∷ 0 ∷ []) ∷ [])
     -- An extend's block is the next one of its file
     ∷ case unmarked (seenThen blocks twoFiles [] (Extend file ∷ Extend mapFile ∷ Extend mapFile ∷ []))
     (counted 1
