@@ -70,8 +70,10 @@ module _ (m : Memory) where
         low = s .0 .1;
         counts = s .1;
       })
-      (λ k.
-      (((((((((k .cap, k .hand), k .log), k .words), k .blank), (k .free, k .off)), k .page), (k .chains, k .distinct)), k .low), k .counts))
+      (λ k. (
+        ((((((((k .cap, k .hand), k .log), k .words), k .blank), (k .free, k .off)), k .page), (k .chains, k .distinct)), k .low),
+        k .counts,
+      ))
       (says-and
       (says-and
       (says-and

@@ -17,7 +17,18 @@ use Rattle.bufmodel.specs.Counts.{maxHolders, countAt, setCount, hasPin,
 use Rattle.bufmodel.specs.Books.{emptyAt}
 use Rattle.bufmodel.specs.Pin.{heldWord}
 use Rattle.bufmodel.specs.Calls.{lessWord, unpinAt, givenWord, giveAt, giveUpTo}
-use Rattle.bufmodel.proofs.WordLaws.{Held, Fields, sound-held, held-sound, held-lt, pin-more, pin-less, pins-pinned, empty-zero, zero-pins}
+use Rattle.bufmodel.proofs.WordLaws.{
+  Held,
+  Fields,
+  sound-held,
+  held-sound,
+  held-lt,
+  pin-more,
+  pin-less,
+  pins-pinned,
+  empty-zero,
+  zero-pins,
+}
 use Rattle.bufmodel.proofs.CountLaws.{
   length-setCount,
   count-same,

@@ -61,8 +61,10 @@ sizes-say p m =
       store = s .0 .1;
       counts = s .1;
     })
-    (λ k.
-    (((((((((((k .permitted, k .least), k .most), k .wide), k .heads), k .names), k .pool), k .free), k .chain), k .rows), k .store), k .counts))
+    (λ k. (
+      ((((((((((k .permitted, k .least), k .most), k .wide), k .heads), k .names), k .pool), k .free), k .chain), k .rows), k .store),
+      k .counts,
+    ))
     (says-and
     (says-and
     (says-and

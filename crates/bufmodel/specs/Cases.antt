@@ -191,7 +191,8 @@ unfoldable pub fileCases : List Case
 fileCases =
     -- Two files: the map's pages are read from their places behind the table's full capacity, and flush and checkpoint put them there. A
     -- peek of a page in the pool, and of one in the store: 1 or 0, and the byte offset
-    case unmarked (seenThen (λ m. bytes 1 8 4 m ++ bytes 2 8 4 m) twoFiles (block 0 ∷ mapBlock 1 ∷ []) (mapPeek 1 ∷ mapPeek 0 ∷ mapBlock 0 ∷ []))
+    case unmarked
+    (seenThen (λ m. bytes 1 8 4 m ++ bytes 2 8 4 m) twoFiles (block 0 ∷ mapBlock 1 ∷ []) (mapPeek 1 ∷ mapPeek 0 ∷ mapBlock 0 ∷ []))
     ((0 ∷ 1 ∷ 1024 ∷ 0 ∷ 0 ∷ [])
     ∷ (0 ∷ 0 ∷ 2048 ∷ 0 ∷ 0 ∷ [])
     ∷ at 2 0
@@ -281,7 +282,8 @@ holderCases =
     (replicate 6 (only 19))
     ∷ case unmarked (seen bench [] (blockBy 63 0 ∷ Unpin 63 0 ∷ Unpin 63 0 ∷ [])) (at 0 0 ∷ only 0 ∷ only 8 ∷ [])
     -- 8: this holder has no pin on the buffer, though another has
-    ∷ case unmarked (seen bench (block 0 ∷ []) (Unpin 1 0 ∷ Read 1 0 0 [] ∷ Write 1 0 8 (1 ∷ []) 100 ∷ Flush 1 0 ∷ [])) (replicate 4 (only 8))
+    ∷ case unmarked (seen bench (block 0 ∷ []) (Unpin 1 0 ∷ Read 1 0 0 [] ∷ Write 1 0 8 (1 ∷ []) 100 ∷ Flush 1 0 ∷ []))
+    (replicate 4 (only 8))
     -- A word counts holders; usage rises with a holder's first pin, and the pin count falls with its last one
     ∷ case unmarked (seenAlong (holders 2) bench shared (unpin 0 ∷ unpin 1 ∷ []))
     ((0x83040001 ∷ 2 ∷ 0 ∷ [])

@@ -205,8 +205,8 @@ unfolding Rattle.laws.specs.Every.all Rattle.laws.specs.Every.any Rattle.laws
     Rattle.bufmodel.specs.Lent.wordsOf Rattle.bufmodel.specs.Lent.opened Rattle.bufmodel.specs.Lent.closed
     Rattle.bufmodel.specs.Lent.ended Rattle.bufmodel.specs.Lent.called Rattle.bufmodel.specs.Bench.bench
     Rattle.bufmodel.specs.Bench.twoFiles Rattle.bufmodel.specs.Bench.damaged
-    after warmed seen seenAt looked seenThen followed seenAlong clock holders bytes blocks results told seenStore seenCounts seenCount seenWord
-    linksAfter
+    after warmed seen seenAt looked seenThen followed seenAlong clock holders bytes blocks results told seenStore seenCounts seenCount
+    seenWord linksAfter
 given [] = []
 given (c ∷ cs) = c .gives ∷ given cs
 

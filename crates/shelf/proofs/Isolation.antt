@@ -187,7 +187,12 @@ module _ (m : Memory) (good : Good m) (h i : ℕ) (few : h < 64) (l : i < buffer
   call-stays : (cap many : ℕ) (c : Call) (o : Outcome) → Without h c → BooksSound (o .after) → Published m cap many c o
       → Stays m h i (o .after)
   call-stays cap many c o other books p =
-      ⊎-elim (accepted c other p) (λ ne. let e = p .same ne in record { many = ap buffers e; name = ap (λ (y : Memory). nameOf y i) e; count = ap (λ (y : Memory). countsBy y h i) e }) (eq-or-ne (o .refusal) 0)
+      ⊎-elim
+      (accepted c other p)
+      (λ ne.
+      let e = p .same ne in
+      record { many = ap buffers e; name = ap (λ (y : Memory). nameOf y i) e; count = ap (λ (y : Memory). countsBy y h i) e })
+      (eq-or-ne (o .refusal) 0)
     where
       others : (u : ℕ) → u ≢ h → (x : ℕ) → with u x (λ v. countsBy m v i) h ≡ countsBy m h i
       others u ne x = holder-other m h i few l o u ne (λ v. countsBy m v i) x

@@ -46,8 +46,8 @@ viewLoad v o i g =
       put = v .put;
     }
 
-module _ (m : Memory) (v : View) (k : Kept m v) (o : ℕ) (few : o < maxHolders) (n : PageName) (i g : ℕ) (top : linkOf (m .control .top) ≡ To i)
-    (place : placeOf (m .rows) n ≡ found g) (new : heldIn m n ≡ Nowhere) (fine : v .bad g ≡ false) where
+module _ (m : Memory) (v : View) (k : Kept m v) (o : ℕ) (few : o < maxHolders) (n : PageName) (i g : ℕ)
+    (top : linkOf (m .control .top) ≡ To i) (place : placeOf (m .rows) n ≡ found g) (new : heldIn m n ≡ Nowhere) (fine : v .bad g ≡ false) where
   abbrev after : Memory
   after = loadedFor m o n i g
 
@@ -178,7 +178,8 @@ module _ (m : Memory) (v : View) (k : Kept m v) (o : ℕ) (few : o < maxHolders)
   load-same j h x =
       ⊎-elim
       (λ e.
-      let q : g ≡ h = has-place after (load-good m (k .good) o few n i g top place new) i g h has-own (subst (λ (y : ℕ). Has after y h) e x) in
+      let good = load-good m (k .good) o few n i g top place new in
+      let q : g ≡ h = has-place after good i g h has-own (subst (λ (y : ℕ). Has after y h) e x) in
       subst (λ (y : ℕ). Same after (viewLoad v o i g) y h) (sym e) (subst (Same after (viewLoad v o i g) i) q own-same))
       (λ ne. other-same j h ne (has-load j h ne x))
       (eq-or-ne j i)

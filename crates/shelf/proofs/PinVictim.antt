@@ -53,8 +53,8 @@ sweepOf m = sweepAll (capOf m) (m .states) (m .control .hand)
 
 -- ---- a buffer with a clean unpinned page is released, and another page that no buffer has is loaded there
 module _ (m : Memory) (v : View) (k : Kept m v) (w h : ℕ) (own : Has m w h) (free : pinned (wordOf m w) ≡ false)
-    (clean : dirty (wordOf m w) ≡ false) (o : ℕ) (few : o < maxHolders) (n : PageName) (g : ℕ) (place : placeOf (m .rows) n ≡ found g) (none : Nobody m g)
-    (fine : v .bad g ≡ false) where
+    (clean : dirty (wordOf m w) ≡ false) (o : ℕ) (few : o < maxHolders) (n : PageName) (g : ℕ)
+    (place : placeOf (m .rows) n ≡ found g) (none : Nobody m g) (fine : v .bad g ≡ false) where
   released : Kept (release m w) v
   released = kept-release m v k w h own free clean
 

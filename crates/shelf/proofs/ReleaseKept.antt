@@ -114,7 +114,11 @@ module _ (m : Memory) (v : View) (k : Kept m v) (i g : ℕ) (own : Has m i g) (f
         good = release-good m (k .good) i (own .below) (own .full) idle;
         words = release-words;
         same = λ j h x. let y = has-release m i (own .below) j h x in release-same j h (y .0) (y .1);
-        unpinned = λ h none. ⊎-elim (λ n. k .unpinned h n) (λ e. subst (λ (y : ℕ). (o : ℕ) → o < maxHolders → v .counts o y ≡ 0) (sym e) left-pins) (gone h none);
+        unpinned = λ h none.
+            ⊎-elim
+            (λ n. k .unpinned h n)
+            (λ e. subst (λ (y : ℕ). (o : ℕ) → o < maxHolders → v .counts o y ≡ 0) (sym e) left-pins)
+            (gone h none);
         unmarked = λ h none. ⊎-elim (λ n. k .unmarked h n) (λ e. rw e left-clean) (gone h none);
         stored = λ n h e none. ⊎-elim (λ z. k .stored n h e z) (λ q. rw q left-stored) (gone h none);
         passed = k .passed;
