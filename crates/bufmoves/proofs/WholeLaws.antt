@@ -11,7 +11,7 @@ use Rattle.laws.specs.First.{found}
 use Rattle.buftag.specs.declared.name.PageName.{PageName}
 use Rattle.bufmodel.specs.declared.control.Control.{Control}
 use Rattle.bufmodel.specs.Rows.{placeOf, storeBlocks}
-use Rattle.bufmodel.specs.Memory.{Memory, memory, buffers, size}
+use Rattle.bufmodel.specs.Memory.{Memory, memory, buffers, size, withCounts}
 use Rattle.bufmodel.specs.Books.{emptyAt}
 use Rattle.bufmodel.specs.Moves.{writeBack, release, loadAt}
 use Rattle.bufmodel.proofs.SizesLaws.{rows-say, sized-least}
@@ -34,27 +34,33 @@ loadPart m = memory (m .control) (m .states) (m .names) (m .pool) (m .free) (m .
 -- ---- the moves
 module _ (m : Memory) (i : ℕ) (c : Control) (states : List ℕ) where
   pub back-whole : (store : List ℕ) → memory c states (m .names) (m .pool) [] [] [] (m .rows) store ≡ writeBack (backPart m) i
-      → memory c states (m .names) (m .pool) (m .free) (m .heads) (m .chain) (m .rows) store ≡ writeBack m i
+      → withCounts (m .counts) (memory c states (m .names) (m .pool) (m .free) (m .heads) (m .chain) (m .rows) store) ≡ writeBack m i
   unfolding writeBack
   back-whole store e =
       ap
-      (λ (o : Memory). memory (o .control) (o .states) (m .names) (m .pool) (m .free) (m .heads) (m .chain) (m .rows) (o .store)) e
+      (λ (o : Memory).
+      withCounts (m .counts)
+      (memory (o .control) (o .states) (m .names) (m .pool) (m .free) (m .heads) (m .chain) (m .rows) (o .store))) e
 
   pub release-whole : (names : List ℕ) (free heads chain : List ℤ)
       → memory c states names [] free heads chain [] [] ≡ release (releasePart m) i
-      → memory c states names (m .pool) free heads chain (m .rows) (m .store) ≡ release m i
+      → withCounts (m .counts) (memory c states names (m .pool) free heads chain (m .rows) (m .store)) ≡ release m i
   unfolding release
   release-whole names free heads chain e =
       ap
-      (λ (o : Memory). memory (o .control) (o .states) (o .names) (m .pool) (o .free) (o .heads) (o .chain) (m .rows) (m .store)) e
+      (λ (o : Memory).
+      withCounts (m .counts)
+      (memory (o .control) (o .states) (o .names) (m .pool) (o .free) (o .heads) (o .chain) (m .rows) (m .store))) e
 
   pub load-whole : (n : PageName) (g : ℕ) (names pool : List ℕ) (free heads chain : List ℤ)
       → memory c states names pool free heads chain [] (m .store) ≡ loadAt (loadPart m) n i g
-      → memory c states names pool free heads chain (m .rows) (m .store) ≡ loadAt m n i g
+      → withCounts (m .counts) (memory c states names pool free heads chain (m .rows) (m .store)) ≡ loadAt m n i g
   unfolding loadAt
   load-whole n g names pool free heads chain e =
       ap
-      (λ (o : Memory). memory (o .control) (o .states) (o .names) (o .pool) (o .free) (o .heads) (o .chain) (m .rows) (m .store)) e
+      (λ (o : Memory).
+      withCounts (m .counts)
+      (memory (o .control) (o .states) (o .names) (o .pool) (o .free) (o .heads) (o .chain) (m .rows) (m .store))) e
 
 -- ---- what they ask
 module _ (m : Memory) (k : Good m) (i : ℕ) (l : i < buffers m) where
