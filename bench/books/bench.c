@@ -43,15 +43,18 @@ static int bench(const struct bench_shape *s, size_t rounds, size_t calls)
     return above;
 }
 
-/* What the pass over the counts takes, which is the last: the time of a check less that of one that ends with 2 just before it, at the last
-   bucket's head. */
+/* What the pass over the counts takes, which is the last: the time of a check less that of one that ends with 2 just before it. The library
+   comes last to the last buffer's name, plain C to the last bucket's head. */
 static double time_of_counts(check_fn *check, struct memory *m, size_t calls)
 {
-    int32_t *last = m->heads + m->heads_len - 1, kept = *last;
-    double whole = time_of(check, m, calls, 0);
-    *last = (int32_t)m->states_len;
-    double without = time_of(check, m, calls, 2);
-    *last = kept;
+    uint32_t *block = m->names + m->names_len - 1, name = *block;
+    int32_t *last = m->heads + m->heads_len - 1, head = *last;
+    double whole = time_of(check, m, calls, 0), without;
+    if (check == plain_check) *last = (int32_t)m->states_len;
+    else *block = UINT32_MAX;
+    without = time_of(check, m, calls, 2);
+    *last = head;
+    *block = name;
     return whole - without;
 }
 
