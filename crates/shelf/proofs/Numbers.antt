@@ -167,6 +167,7 @@ numbers =
           );
       pinnedWord = λ w. refl;
       holders = λ counts i. refl;
+      counted = λ m b i l. b .counts i l;
       lowered = lowered-by;
       onward = λ n hand. rw (one-more hand) refl;
       control = λ m. refl;

@@ -27,6 +27,7 @@ use Rattle.bufmodel.specs.Rows.{files, fileAt, blocksAt, capacityAt, setBlocks,
 use Rattle.bufmodel.specs.Memory.{Memory, memory, pageOf, withCounts}
 use Rattle.bufmodel.specs.Counts.{holdersOf}
 use Rattle.bufmodel.specs.Sizes.{RowsSound, SizedFor}
+use Rattle.bufmodel.specs.Books.{BooksSound}
 use Rattle.bufmodel.specs.Sweep.{next}
 use Rattle.bufmodel.specs.Outcome.{zeros, one, two, done, refused}
 use Rattle.bufmodel.specs.Pin.{heldIn}
@@ -86,6 +87,8 @@ pub record Numbers : Type 0 where
   pub pinnedWord : (w : ℕ) → pinned w ≡ not (eqb (w % 262144) 0)
   -- the word counts the holders whose private count isn't 0: N × 64, buffer by buffer (document 02)
   pub holders : (counts : List ℕ) (i : ℕ) → holdersOf counts i ≡ count 64 (λ h. not (eqb (getD counts (i * 64 + h) 0) 0))
+  pub counted : (m : Memory) → BooksSound m → (i : ℕ) → i < length (m .states)
+      → getD (m .states) i 0 % 262144 ≡ count 64 (λ h. not (eqb (getD (m .counts) (i * 64 + h) 0) 0))
   -- unpinned with usage above 0 loses one
   pub lowered : (w : ℕ) → 0 < w / 262144 % 16 → useLess w ≡ w - 262144
   -- moves the hand on, wrapping at N

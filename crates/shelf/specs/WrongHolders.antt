@@ -1,8 +1,8 @@
 -- Wrong pools: each does one thing wrong, which a set up or a short list of calls shows. Holders, their private counts, give back.
-use Prim.Native.Nat.{ℕ, suc, _+_, _-_, _*_}
+use Prim.Native.Nat.{ℕ, suc, _+_, _-_, _*_, _%_}
 use mathlib.Core.Bool.{not, _&&_, cond}
 use mathlib.Core.List.{List, [], _∷_, _++_, map}
-use lib.ListN.{set, replicate}
+use lib.ListN.{length, set, replicate}
 use lib.Dec.{eqb, leb}
 use Rattle.laws.specs.First.{Found, found, missing, first}
 use Rattle.buftag.specs.Name.{fileOf}
@@ -153,7 +153,7 @@ wrongOwners =
     ∷ wrong (pins (λ m c o. let o′ = pinTo m 64 (c .page) (heldIn m (c .page)) in cond (eqb (c .holder) 64) o′ o)) 1
     (pinBy 64 sales 0 ∷ []) Number
     -- holders are counted modulo 64
-    ∷ wrong (pins (λ m c o. firstBy (λ k. step k (Pin 0 (c .page))) m 0 o)) 1 (pinBy 64 sales 0 ∷ []) Number
+    ∷ wrong (pins (λ m c o. step m (Pin (c .holder % 64) (c .page)))) 1 (pinBy 64 sales 0 ∷ []) Number
     -- 19 stands behind 3; behind 7; behind 8
     ∷ wrong (pins (λ m c o. firstBy (λ k. step k (Pin 0 (c .page))) m 3 o)) 1 (pinBy 64 (fileOf 1 2 3 0) 0 ∷ []) Number
     ∷ wrong (unpins (λ m c o. firstBy (λ k. step k (Unpin 0 (c .number))) m 7 o)) 1 (Unpin 64 1 ∷ []) Number
@@ -205,5 +205,5 @@ wrongPrivate =
     -- it clears those of holder 0 alone
     ∷ wrongSetUp (setsUpTo (λ m k. withCounts (set (m .counts) 0 0) k)) (bench 1) size log Fresh
     -- 65 for one buffer are accepted
-    ∷ wrongSetUp (setsUp (λ p at cap m r. ended 0 m r)) oneMore size log Accepted
+    ∷ wrongSetUp (setsUp (λ p at cap m r. cond (eqb (length (m .counts)) 65) (ended 0 m r) r)) oneMore size log Accepted
     ∷ []
