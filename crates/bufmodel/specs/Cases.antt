@@ -63,10 +63,13 @@ use Rattle.bufmodel.specs.Seen.{
   joined,
 }
 
--- number and answer of an accepted pin, buffer, loaded, wrote nothing, probes; of an accepted call that answers a count or a block number;
--- and a number with zeros
+-- number and answer of an accepted pin, buffer, loaded, wrote nothing, probes; of one that was a hit; of an accepted call that answers a
+-- count or a block number; and a number with zeros
 abbrev at : ℕ → ℕ → List ℕ
 at buffer probes = 0 ∷ buffer ∷ 0 ∷ 0 ∷ probes ∷ []
+
+abbrev hit : ℕ → List ℕ
+hit buffer = 0 ∷ buffer ∷ 1 ∷ 0 ∷ 0 ∷ []
 
 abbrev counted : ℕ → List ℕ
 counted k = 0 ∷ k ∷ 0 ∷ 0 ∷ 0 ∷ []
@@ -127,6 +130,10 @@ settled =
 abbrev shared : List Call
 shared = block 0 ∷ block 0 ∷ block 1 ∷ blockBy 1 1 ∷ blockBy 63 2 ∷ []
 
+-- each call that names a holder, of holder 64, on no page and no buffer
+abbrev beyond : List Call
+beyond = Pin 64 (nameOf 9 9 9 0 9) ∷ Unpin 64 9 ∷ Read 64 9 0 [] ∷ Write 64 9 0 [] 0 ∷ Flush 64 9 ∷ GiveBack 64 ∷ []
+
 -- document 01's, and others on the bench
 unfoldable pub benchCases : List Case
 benchCases =
@@ -164,7 +171,7 @@ benchCases =
     ∷ case J (seen bench unpinned (Drop file ∷ [])) (only 0 ∷ [])
     ∷ linked J (linksAfter bench (unpinned ++ (Drop file ∷ []))) (links (negsuc 0 ∷ pos 0 ∷ pos 1 ∷ []) (pos 2))
     -- A page that is loaded, and the same page held: hit
-    ∷ case unmarked (seen bench (block 0 ∷ block 1 ∷ []) (block 2 ∷ block 2 ∷ [])) (at 2 0 ∷ (0 ∷ 2 ∷ 1 ∷ 0 ∷ 0 ∷ []) ∷ [])
+    ∷ case unmarked (seen bench (block 0 ∷ block 1 ∷ []) (block 2 ∷ block 2 ∷ [])) (at 2 0 ∷ hit 2 ∷ [])
     -- A dirty victim is written back before its buffer is loaded again, a clean one is not; the page comes back with what was written,
     -- and with the checksum that write-back gave it
     ∷ case unmarked (seenThen (bytes 0 4 8) bench dirtied back)
@@ -246,13 +253,15 @@ sumCases =
 -- caps
 unfoldable pub capCases : List Case
 capCases =
-    -- H at other caps, the usage count 15 lent: the sweep looks at each buffer cap + 1 times
+    -- H at other caps: the sweep looks at each buffer cap + 1 times
     case unmarked (seenAt 1 (three ++ (unpin 2 ∷ [])) (block 3 ∷ [])) (at 2 6 ∷ [])
-    ∷ case unmarked (seenWord 15 (three ++ (unpin 2 ∷ [])) 2 0x833C0000 (block 3 ∷ [])) (at 2 48 ∷ [])
-    -- A page pinned by more holders than the cap: usage stays there
+    ∷ case unmarked (seenWord 15 (three ++ (unpin 2 ∷ [])) 2 0x833C0000 (block 3 ∷ []))
+    (at 2 48 ∷ (0 ∷ 0x83040001 ∷ 0x83040001 ∷ 0x83040001 ∷ []) ∷ [])
+    -- A page pinned by more holders than the cap: usage stays there. Usage counts near 15 are lent
     ∷ case unmarked (just (getD (warmed 1 (each (λ h. blockBy h 0) 0 3) .states) 0 0)) (just 0x83040003)
     ∷ case unmarked (just (getD (warmed 2 (each (λ h. blockBy h 0) 0 3) .states) 0 0)) (just 0x83080003)
-    ∷ case unmarked (just (getD (warmed 15 (each (λ h. blockBy h 0) 0 16) .states) 0 0)) (just 0x833C0010)
+    ∷ case unmarked (seenWord 15 (block 0 ∷ []) 0 0x83380001 (each (λ h. blockBy h 0) 1 2))
+    (hit 0 ∷ hit 0 ∷ (0 ∷ 0x833C0003 ∷ 0 ∷ 0 ∷ []) ∷ [])
     -- Set up: 18, cap outside 1 to 15, after 1, sizes
     ∷ case unmarked (just (setUp bench 1024 100 0 .refusal)) (just 18)
     ∷ case unmarked (just (setUp bench 1024 100 1 .refusal)) (just 0)
@@ -276,16 +285,13 @@ capCases =
 -- holders
 unfoldable pub holderCases : List Case
 holderCases =
-    -- 19, holder 64 or above, before 3 and 7, for each call that names a holder; 63 is one
-    case unmarked
-    (seen bench [] (Pin 64 (nameOf 9 9 9 0 9) ∷ Unpin 64 9 ∷ Read 64 9 0 [] ∷ Write 64 9 0 [] 0 ∷ Flush 64 9 ∷ GiveBack 64 ∷ []))
-    (replicate 6 (only 19))
-    ∷ case unmarked (seen bench [] (blockBy 63 0 ∷ Unpin 63 0 ∷ Unpin 63 0 ∷ [])) (at 0 0 ∷ only 0 ∷ only 8 ∷ [])
+    -- 19, holder 64 or above, before 3 and 7, for each call that names a holder; 63, below, is one
+    case unmarked (seen bench [] beyond) (replicate 6 (only 19))
     -- 8: this holder has no pin on the buffer, though another has
     ∷ case unmarked (seen bench (block 0 ∷ []) (Unpin 1 0 ∷ Read 1 0 0 [] ∷ Write 1 0 8 (1 ∷ []) 100 ∷ Flush 1 0 ∷ []))
     (replicate 4 (only 8))
-    -- A word counts holders; usage rises with a holder's first pin, and the pin count falls with its last one
-    ∷ case unmarked (seenAlong (holders 2) bench shared (unpin 0 ∷ unpin 1 ∷ []))
+    -- A word counts holders; usage rises with a holder's first pin, and the pin count falls with its last one. Who comes again arrives anew
+    ∷ case unmarked (seenAlong (holders 2) bench shared (unpin 0 ∷ unpin 1 ∷ block 1 ∷ []))
     ((0x83040001 ∷ 2 ∷ 0 ∷ [])
     ∷ (0x83080002 ∷ 1 ∷ 1 ∷ [])
     ∷ (0x83040001 ∷ 0 ∷ 0 ∷ [])
@@ -297,37 +303,45 @@ holderCases =
     ∷ (0x83040001 ∷ 1 ∷ 0 ∷ [])
     ∷ (0x83080001 ∷ 0 ∷ 1 ∷ [])
     ∷ (0x83040001 ∷ 0 ∷ 0 ∷ [])
+    ∷ hit 1
+    ∷ (0x83040001 ∷ 1 ∷ 0 ∷ [])
+    ∷ (0x830C0002 ∷ 1 ∷ 1 ∷ [])
+    ∷ (0x83040001 ∷ 0 ∷ 0 ∷ [])
     ∷ [])
-    -- A holder that comes again arrives anew
-    ∷ case unmarked (just (getD (after bench (block 0 ∷ unpin 0 ∷ block 0 ∷ []) .states) 0 0)) (just 0x83080001)
-    -- Give back: all of one holder's pins, and no other's; a second time, and by one who has nothing, it is accepted and changes nothing
-    ∷ case unmarked (seenThen (holders 2) bench shared (GiveBack 0 ∷ GiveBack 0 ∷ GiveBack 5 ∷ unpin 0 ∷ []))
-    (only 0
+    -- 6 and 14 go by all holders together. Give back: all of one holder's pins, and no other's; a second time, and by one who has nothing,
+    -- it is accepted and changes nothing
+    ∷ case unmarked
+    (seenThen (holders 2) bench shared (blockBy 9 3 ∷ Drop file ∷ GiveBack 0 ∷ GiveBack 0 ∷ GiveBack 5 ∷ unpin 0 ∷ Unpin 63 2 ∷ []))
+    (only 6
+    ∷ only 14
+    ∷ only 0
     ∷ only 0
     ∷ only 0
     ∷ only 8
+    ∷ only 0
     ∷ (0x83040000 ∷ 0 ∷ 0 ∷ [])
     ∷ (0x83080001 ∷ 0 ∷ 1 ∷ [])
-    ∷ (0x83040001 ∷ 0 ∷ 0 ∷ [])
+    ∷ (0x83040000 ∷ 0 ∷ 0 ∷ [])
     ∷ [])
-    -- 6 and 14 go by all holders together; what one gave back is taken, and what others have is not
-    ∷ case unmarked (seen bench shared (blockBy 9 3 ∷ Drop file ∷ GiveBack 0 ∷ blockBy 9 3 ∷ [])) (only 6 ∷ only 14 ∷ only 0 ∷ at 0 4 ∷ [])
+    -- What a holder gave back is taken, for another; what others have is not
+    ∷ case unmarked (seen bench shared (GiveBack 0 ∷ Drop file ∷ blockBy 9 3 ∷ Unpin 9 0 ∷ [])) (only 0 ∷ only 14 ∷ at 0 4 ∷ only 0 ∷ [])
     ∷ []
 
 -- counts that are lent
 unfoldable pub countCases : List Case
 countCases =
-    -- 5: this holder's count is full; another's pin passes
-    case unmarked (seenCount (block 0 ∷ []) 0 65535 (block 0 ∷ blockBy 1 0 ∷ [])) (only 5 ∷ (0 ∷ 0 ∷ 1 ∷ 0 ∷ 0 ∷ []) ∷ [])
-    -- 1: another number of counts than N × 64, at set up too, which sets them all to 0
-    ∷ case unmarked (seenCounts [] (replicate 191 0) (Checkpoint ∷ [])) (only 1 ∷ [])
+    -- 5: this holder's count is full, with its 65,535th pin; another's pin passes
+    case unmarked (seenCount (block 0 ∷ []) 0 65534 (block 0 ∷ block 0 ∷ blockBy 1 0 ∷ [])) (hit 0 ∷ only 5 ∷ hit 0 ∷ [])
+    -- 1, before 19: another number of counts than N × 64, at set up too, which sets them all to 0
+    ∷ case unmarked (seenCounts [] (replicate 191 0) (Checkpoint ∷ beyond)) (replicate 7 (only 1))
     ∷ case unmarked (seenCounts [] (replicate 193 0) (Checkpoint ∷ [])) (only 1 ∷ [])
     ∷ case unmarked (just (setUp (withCounts (replicate 193 7) bench) 1024 100 5 .refusal)) (just 1)
     ∷ case unmarked (after bench [] .counts ∷ []) (replicate 192 0 ∷ [])
-    -- 2: a count under an empty buffer; a word that counts a holder too many, or too few
+    -- 2, before 19: a count under an empty buffer; a word that counts a holder too many, or too few
     ∷ case unmarked (seenCount (block 0 ∷ []) 191 1 (Checkpoint ∷ [])) (only 2 ∷ [])
-    ∷ case unmarked (seenWord 5 (block 0 ∷ []) 0 0x83040002 (Checkpoint ∷ [])) (only 2 ∷ [])
-    ∷ case unmarked (seenWord 5 (block 0 ∷ []) 0 0x83040000 (Checkpoint ∷ [])) (only 2 ∷ [])
+    ∷ case unmarked (seenWord 5 (block 0 ∷ []) 0 0x83040002 (Checkpoint ∷ beyond))
+    (replicate 7 (only 2) ++ ((0 ∷ 0x83040002 ∷ 0 ∷ 0 ∷ []) ∷ []))
+    ∷ case unmarked (seenWord 5 (block 0 ∷ []) 0 0x83040000 (Checkpoint ∷ [])) (only 2 ∷ (0 ∷ 0x83040000 ∷ 0 ∷ 0 ∷ []) ∷ [])
     ∷ []
 
 unfoldable pub cases : List Case

@@ -97,7 +97,7 @@ told m before words calls =
     })
     calls
 
--- calls where another store, other counts, one other count, or, at a cap, one other word are lent with the rest of the bench after others
+-- calls where another store, other counts or one other count are lent with the rest of the bench after others
 unfoldable pub seenStore : List Call → List ℕ → List Call → List (List ℕ)
 seenStore before store calls = let left = after bench before in answers (withStore store left) calls
 
@@ -107,8 +107,9 @@ seenCounts before counts calls = let left = after bench before in answers (withC
 unfoldable pub seenCount : List Call → ℕ → ℕ → List Call → List (List ℕ)
 seenCount before at c calls = let left = after bench before in answers (withCounts (set (left .counts) at c) left) calls
 
+-- the same of one other word, at a cap, with the hand and the words that the last call leaves
 unfoldable pub seenWord : ℕ → List Call → ℕ → ℕ → List Call → List (List ℕ)
-seenWord cap before i w calls = let left = warmed cap before in answers (withStates (set (left .states) i w) left) calls
+seenWord cap before i w calls = let left = warmed cap before in looked clock (withStates (set (left .states) i w) left) calls
 
 -- ---- what the definitions give, beside what document 01 says
 pub data Letter : Type 0 where
@@ -205,8 +206,8 @@ unfolding Rattle.laws.specs.Every.all Rattle.laws.specs.Every.any Rattle.laws
     Rattle.bufmodel.specs.Lent.wordsOf Rattle.bufmodel.specs.Lent.opened Rattle.bufmodel.specs.Lent.closed
     Rattle.bufmodel.specs.Lent.ended Rattle.bufmodel.specs.Lent.called Rattle.bufmodel.specs.Bench.bench
     Rattle.bufmodel.specs.Bench.twoFiles Rattle.bufmodel.specs.Bench.damaged
-    after warmed seen seenAt looked seenThen followed seenAlong clock holders bytes blocks results told seenStore seenCounts seenCount
-    seenWord linksAfter
+    after warmed seen seenAt looked seenThen followed seenAlong clock holders bytes blocks results told seenStore seenCounts
+    seenCount seenWord linksAfter
 given [] = []
 given (c ∷ cs) = c .gives ∷ given cs
 
