@@ -30,7 +30,7 @@ use Rattle.shelf.specs.Trial.{size, log, cap, bench, sales, stock, block
 use Rattle.shelf.specs.Changes.{pins, lends}
 use Rattle.shelf.specs.WrongHolders.{withCountWords, evicts, emptiesAll, wrongHolders, wrongOwners, wrongGiven, wrongPrivate}
 use Rattle.shelf.proofs.Computes.{computes}
-use Rattle.shelf.proofs.Trials.{fits-lent, fits-calls, Shown}
+use Rattle.shelf.proofs.Trials.{fits-lent, fits-calls, Passed, Shown, chosen, spread}
 use Rattle.shelf.proofs.ShutCaps.{begun, Trusts, shut}
 
 -- ---- the list
@@ -42,9 +42,17 @@ pub owners : Shown wrongOwners
 unfolding computes
 owners = record { trials = refl; caught = refl; passed = refl }
 
+given-once : Passed (chosen (1 ∷ 1 ∷ 0 ∷ 1 ∷ 1 ∷ 0 ∷ 1 ∷ 0 ∷ 0 ∷ 1 ∷ 1 ∷ 0 ∷ []) wrongGiven)
+unfolding computes chosen
+given-once = refl
+
+given-passed : Passed wrongGiven
+unfolding wrongGiven chosen spread
+given-passed = ap (spread (0 ∷ 1 ∷ 0 ∷ 2 ∷ 3 ∷ 1 ∷ 4 ∷ 1 ∷ 1 ∷ 5 ∷ 6 ∷ 1 ∷ [])) given-once
+
 pub given : Shown wrongGiven
 unfolding computes
-given = record { trials = refl; caught = refl; passed = refl }
+given = record { trials = refl; caught = refl; passed = given-passed }
 
 pub private : Shown wrongPrivate
 unfolding computes

@@ -33,7 +33,7 @@ use Rattle.shelf.specs.WrongLent.{wrongLent, wrongSetUps}
 use Rattle.shelf.specs.WrongCaps.{wrongRises, wrongCaps}
 use Rattle.shelf.specs.WrongPools.{wrongPools}
 use Rattle.shelf.proofs.Computes.{computes}
-use Rattle.shelf.proofs.Trials.{below, passes, refuted, tried, isTrial, Shown, _&_}
+use Rattle.shelf.proofs.Trials.{below, passes, refuted, tried, isTrial, Passed, Shown, chosen, spread, _&_}
 use Rattle.shelf.proofs.ShutHolders.{holders, owners, given, private}
 
 -- ---- the wrong pools of the list
@@ -42,9 +42,17 @@ refusals : Shown wrongRefusals
 unfolding computes
 refusals = record { trials = refl; caught = refl; passed = refl }
 
+flushes-once : Passed (chosen (1 ∷ 0 ∷ 0 ∷ 1 ∷ 0 ∷ 0 ∷ 1 ∷ 0 ∷ 0 ∷ []) wrongFlushes)
+unfolding computes chosen
+flushes-once = refl
+
+flushes-passed : Passed wrongFlushes
+unfolding wrongFlushes chosen spread
+flushes-passed = ap (spread (0 ∷ 0 ∷ 0 ∷ 1 ∷ 0 ∷ 0 ∷ 2 ∷ 0 ∷ 0 ∷ [])) flushes-once
+
 flushes : Shown wrongFlushes
 unfolding computes
-flushes = record { trials = refl; caught = refl; passed = refl }
+flushes = record { trials = refl; caught = refl; passed = flushes-passed }
 
 backs : Shown wrongBacks
 unfolding computes

@@ -147,11 +147,27 @@ tried pool w = verdict pool (w .lent) (w .size) (w .log) (w .cap) (w .calls)
 abbrev pub isTrial : Wrong → Bool
 isTrial w = fits (w .lent) (w .size) (w .log) (w .cap) (w .calls)
 
+-- the right pool passes these trials
+abbrev pub Passed : List Wrong → Type 0
+Passed ws = map (tried (calling step)) ws ≡ map (λ w. Fine) ws
+
 -- each entry is a trial; each pool is caught, by the clause that the list says; the right pool passes the same trials
 pub record Shown (ws : List Wrong) : Type 0 where
   pub trials : every (map isTrial ws) ≡ true
   pub caught : map (λ w. tried (w .pool) w) ws ≡ map (λ w. Fails (w .refusedBy)) ws
-  pub passed : map (tried (calling step)) ws ≡ map (λ w. Fine) ws
+  pub passed : Passed ws
+
+-- the entries marked 1: where pools share a trial that takes long, the right pool passes the list if it passes each of its trials once
+unfoldable pub chosen : List ℕ → List Wrong → List Wrong
+chosen [] ws = []
+chosen (k ∷ ks) [] = []
+chosen (zero ∷ ks) (w ∷ ws) = chosen ks ws
+chosen (suc k ∷ ks) (w ∷ ws) = w ∷ chosen ks ws
+
+-- verdicts, each so often as its place among them is named
+unfoldable pub spread : List ℕ → List Verdict → List Verdict
+spread [] vs = []
+spread (j ∷ js) vs = getD vs j Fine ∷ spread js vs
 
 every-append : (xs ys : List Bool) → every xs ≡ true → every ys ≡ true → every (xs ++ ys) ≡ true
 unfolding every
