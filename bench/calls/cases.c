@@ -164,7 +164,7 @@ const struct bench_case bench_cases[] = {
     {.name = "pin, dirty victim", .call = pin_other, .kind = SUMMED, .dirty = DIRTY_HAND, .batch = QUARTER, .all_sizes = 1},
     {.name = "pin, longest sweep", .call = pin_other, .kind = SUMMED, .usage = DEFAULT_CAP, .dirty = DIRTY_NEXT, .batch = ONE},
     {.name = "unpin", .call = unpin, .kind = STILL, .count = 60000, .usage = 3, .dirty = DIRTY_NEXT, .batch = ANY_NUMBER},
-    {.name = "unpin, a holder's last", .call = unpin, .kind = STILL, .count = 1, .usage = 3, .dirty = DIRTY_NEXT, .batch = QUARTER},
+    {.name = "unpin, a holder's last", .call = unpin, .count = 1, .usage = 3, .dirty = DIRTY_NEXT, .batch = QUARTER},
     {.name = "read 64 bytes", .call = read_some, .kind = STILL, .span = 64, IN_USE},
     {.name = "read 1 KiB", .call = read_some, .span = 1024, IN_USE},
     {.name = "read 4,000 bytes", .call = read_some, .span = 4000, IN_USE},
