@@ -2,16 +2,16 @@
 use Prim.Native.Nat.{ℕ, zero, suc, _+_, _-_, _*_, _^_, _≤_, _<_}
 use native.Mathlib.Omega.{arith}
 use mathlib.Core.Path.{_≡_, refl, sym, ap, ap₂, _∙_, subst}
-use mathlib.Core.Bool.{Bool, true, false, not, cond}
+use mathlib.Core.Bool.{true, false, not}
 use mathlib.Core.Logic.{_≢_, ⊎-elim}
 use lib.Dec.{eqb}
 use lib.ListN.{length, getD, set, length-set}
 use lib.Seq.{getD-set-same, getD-set-other}
-use borrow.Author.Tests.{eq-eqb, ne-eqb, eqb-false}
+use borrow.Author.Tests.{eq-eqb, ne-eqb}
 use Rattle.laws.specs.Sum.{ind}
 use Rattle.laws.proofs.Tests.{eq-or-ne, true-or-false, never}
 use Rattle.laws.proofs.Sum.{ind-one, ind-none}
-use Rattle.bufmodel.specs.Word.{maxCap, pins, pinned, empty, dirty, soundWord, pinMore, pinLess}
+use Rattle.bufmodel.specs.Word.{pins, pinned, empty, dirty, soundWord}
 use Rattle.bufmodel.specs.Memory.{Memory, buffers, capOf, wordOf, withStates, withCounts}
 use Rattle.bufmodel.specs.Counts.{maxHolders, countAt, setCount, hasPin, holdersOf}
 use Rattle.bufmodel.specs.Books.{emptyAt}

@@ -52,7 +52,6 @@ use Rattle.bufmodel.specs.Seen.{
   I,
   J,
   unmarked,
-  Shown,
   links,
   Case,
   case,

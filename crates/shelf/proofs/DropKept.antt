@@ -12,7 +12,7 @@ use Rattle.laws.proofs.First.{found-missing}
 use Rattle.buftag.specs.declared.name.FileName.{FileName}
 use Rattle.buftag.specs.declared.name.PageName.{PageName}
 use Rattle.bufmodel.specs.Checksum.{passes}
-use Rattle.bufmodel.specs.Word.{pins, pinned, dirty, empty}
+use Rattle.bufmodel.specs.Word.{pinned, dirty, empty}
 use Rattle.bufmodel.specs.Rows.{setBlocks, rowOf, placeOf}
 use Rattle.bufmodel.specs.Memory.{Memory, buffers, size, capOf, wordOf, nameOf, withRows}
 use Rattle.bufmodel.specs.Counts.{maxHolders}

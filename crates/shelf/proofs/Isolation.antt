@@ -1,12 +1,11 @@
 -- ISOLATION, proved: whichever pool meets demand 3 leaves a page in its buffer, and a holder's count of it, while others call.
-use Prim.Native.Nat.{ℕ, zero, suc, _+_, _*_, _<_}
+use Prim.Native.Nat.{ℕ, zero, suc, _+_, _<_}
 use mathlib.Core.Path.{_≡_, refl, sym, ap, _∙_, subst}
-use mathlib.Core.Bool.{Bool, true, false, not, _&&_, cond}
+use mathlib.Core.Bool.{false, not}
 use mathlib.Core.Logic.{_≢_, _⊎_, inl, inr, ⊎-elim}
 use mathlib.Core.List.{List, [], _∷_, _++_}
 use native.Mathlib.Omega.{arith}
-use lib.Dec.{eqb}
-use lib.ListN.{length, getD}
+use lib.ListN.{getD}
 use borrow.Author.Tests.{ne-eqb}
 use Rattle.laws.specs.First.{found}
 use Rattle.laws.proofs.Tests.{eq-or-ne, never, true-or-false}
@@ -52,7 +51,6 @@ use Rattle.shelf.specs.Published.{
   Marks,
   emptied,
   loadedInto,
-  marksOf,
   Leaves,
   countsBy,
   Probes,
