@@ -20,7 +20,8 @@ extern "C" {
 #define BUFBOOKS_SIZES 1 /* a length, the block size or a file row breaks a rule */
 #define BUFBOOKS_BOOKS 2 /* these are right, and the books are not sound */
 
-/* Whether memory is fit for a call: what every call but set up checks first. It changes nothing. Each slice is a pointer and its
+/* Whether memory is fit for a call: what every call but set up checks first. It changes nothing. It takes the counts since interface 4 of
+   the pool, whose number this library does not carry: objects from before are compiled again. Each slice is a pointer and its
    number of elements; no pointer is null.
    control      P, hand, top of the free list (-1 as 64 one bits), inserted and flushed log position, cap
    states       N state words                       names   N names of five words

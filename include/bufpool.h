@@ -189,9 +189,10 @@ BUFPOOL_INLINE int bufpool_has_free(const struct bufpool *m)
     return m->control[BUFPOOL_CONTROL_AT_FREE_TOP] != BUFPOOL_BUFFER_NONE;
 }
 
-/* How many pins a holder has on a buffer: its private count. The holder is below 64, the buffer below N. */
+/* How many pins a holder has on a buffer: its private count. 0 where there is no such holder or buffer. */
 BUFPOOL_INLINE uint32_t bufpool_count_of(const struct bufpool *m, struct bufpool_holder holder, struct bufpool_buffer buffer)
 {
+    if (holder.number >= BUFPOOL_MAX_HOLDERS || buffer.number >= m->states_len) return 0;
     return m->counts[buffer.number * BUFPOOL_MAX_HOLDERS + holder.number];
 }
 

@@ -101,7 +101,8 @@ extern "C" {
 #define BUFPOOL_POSITION_BYTES 8 /* a page begins with its log position: high word, then low word; writes begin behind it */
 #define BUFPOOL_CHECKSUM_BYTES 2 /* behind it, in the store: the page's checksum, low byte first */
 
-/* A buffer number that every call refuses with 7, and a block number that pin and peek refuse with 4. */
+/* A buffer number that every call refuses with 7 (19 comes first, for a holder that is none), and a block number that pin and peek refuse
+   with 4. */
 #define BUFPOOL_BUFFER_NONE UINT64_MAX
 #define BUFPOOL_BLOCK_NONE UINT32_MAX
 

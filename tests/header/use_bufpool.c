@@ -164,6 +164,12 @@ static int six_pins(struct bufpool *m)
     SEE(bufpool_count_of(m, me, p.buffer) == 1 && counts[BUFPOOL_MAX_HOLDERS + 3] == 1);
     SEE(bufpool_give_back_pins(m, me) == BUFPOOL_DONE && states[0] == 0x83040000u && states[1] == 0x83040000u);
     SEE(counts[3] == 0 && counts[BUFPOOL_MAX_HOLDERS + 3] == 0);
+    p.buffer.number = BUFPOOL_BUFFER_NONE;
+    for (h = 0; h <= BUFPOOL_MAX_HOLDERS; h++) SEE(bufpool_count_of(m, bufpool_holder_of(h), p.buffer) == 0);
+    p.buffer.number = 0;
+    SEE(bufpool_pin_page(m, bufpool_holder_of(0), bufpool_name_of(table, 2), &p) == BUFPOOL_DONE && p.buffer.number == 1);
+    p.buffer.number = 0;
+    SEE(bufpool_count_of(m, bufpool_holder_of(BUFPOOL_MAX_HOLDERS), p.buffer) == 0 && counts[BUFPOOL_MAX_HOLDERS] == 1);
     return 0;
 }
 

@@ -47,7 +47,8 @@ viewLoad v o i g =
     }
 
 module _ (m : Memory) (v : View) (k : Kept m v) (o : ℕ) (few : o < maxHolders) (n : PageName) (i g : ℕ)
-    (top : linkOf (m .control .top) ≡ To i) (place : placeOf (m .rows) n ≡ found g) (new : heldIn m n ≡ Nowhere) (fine : v .bad g ≡ false) where
+    (top : linkOf (m .control .top) ≡ To i) (place : placeOf (m .rows) n ≡ found g) (new : heldIn m n ≡ Nowhere)
+    (fine : v .bad g ≡ false) where
   abbrev after : Memory
   after = loadedFor m o n i g
 
