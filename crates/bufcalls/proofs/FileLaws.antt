@@ -2,9 +2,9 @@
 use Prim.Native.Nat.{ℕ, zero, suc, _+_, _≤_, _<_}
 use native.Mathlib.Numerals.{add-one}
 use native.Mathlib.Omega.{arith}
-use mathlib.Core.Path.{_≡_, refl, sym, ap, ap₂, _∙_, subst}
+use mathlib.Core.Path.{_≡_, refl, sym, ap, _∙_, subst}
 use mathlib.Core.Logic.{_≢_, ⊎-elim}
-use mathlib.Core.Bool.{Bool, true, false, not, _&&_}
+use mathlib.Core.Bool.{Bool, true, false}
 use mathlib.Core.List.{List, [], _∷_}
 use lib.IntN.{ℤ}
 use lib.ListN.{length, replicate}
@@ -13,14 +13,12 @@ use Rattle.laws.specs.First.{Found, found, missing}
 use Rattle.laws.specs.Block.{putBlock}
 use Rattle.laws.proofs.Tests.{eq-or-ne, true-or-false}
 use Rattle.buftag.specs.declared.name.FileName.{FileName}
-use Rattle.buftag.specs.declared.name.PageName.{PageName}
-use Rattle.buftag.specs.Name.{sameFile}
 use Rattle.buftag.proofs.UnchainLaws.{length-unchain-heads}
 use Rattle.bufmodel.specs.declared.control.Control.{Control}
 use Rattle.bufmodel.specs.declared.answer.Extended as extended
 use Rattle.bufmodel.specs.declared.answer.Accepted as accepted
-use Rattle.bufmodel.specs.Word.{pins, empty}
-use Rattle.bufmodel.specs.Memory.{Memory, memory, buffers, size, wordOf, nameOf, withRows, withCounts}
+use Rattle.bufmodel.specs.Word.{pins}
+use Rattle.bufmodel.specs.Memory.{Memory, memory, buffers, size, wordOf, withRows, withCounts}
 use Rattle.bufmodel.specs.Books.{emptyAt}
 use Rattle.bufmodel.specs.Rows.{blocksAt, capacityAt, setBlocks, rowOf, startOf, storeBlocks}
 use Rattle.bufmodel.specs.Outcome.{Outcome, Place, place, checked, refused, outcome}
@@ -34,7 +32,7 @@ use Rattle.bufmodel.proofs.AnswerLaws.{end-first, end-own, end-done}
 use Rattle.bufmodel.proofs.RowsLaws.{row-found, start-in}
 use Rattle.bufmodel.proofs.WordLaws.{unpinned-none}
 use Rattle.bufmodel.proofs.ReleaseLaws.{release-buffers, release-own, release-word, release-name, release-good}
-use Rattle.bufmodel.proofs.DropLaws.{of-says, none-pinned}
+use Rattle.bufmodel.proofs.DropLaws.{of-says, of-same, none-pinned}
 use Rattle.bufmoves.specs.Exchange.{Chained}
 use Rattle.bufcalls.specs.File.{heldOf, pinnedOf}
 use Rattle.bufmoves.proofs.WholeLaws.{good-chained}
@@ -141,11 +139,6 @@ file-chained m f i g l e = good-chained m g i l (of-says m f i .holds (sym (of-f
 zero-pins : pins 0 ≡ 0
 unfolding pins
 zero-pins = refl
-
--- whether a buffer is of a file goes by its word and name
-of-same : (m d : Memory) (f : FileName) (i : ℕ) → wordOf d i ≡ wordOf m i → nameOf d i ≡ nameOf m i → ofFile d f i ≡ ofFile m f i
-unfolding ofFile emptyAt
-of-same m d f i w n = ap₂ (λ (x : ℕ) (y : PageName). not (empty x) && sameFile (y .file) f) w n
 
 -- a memory on the way: the books are sound, the lengths are those of before, and none of the file's buffers is pinned
 pub record Way (m : Memory) (f : FileName) (d : Memory) : Type 0 where

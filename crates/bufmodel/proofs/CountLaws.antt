@@ -11,7 +11,7 @@ use lib.Dec.{eqb}
 use borrow.Author.Tests.{eq-eqb, ne-eqb}
 use Rattle.laws.specs.Sum.{ind, count}
 use Rattle.laws.proofs.Tests.{eq-or-ne}
-use Rattle.laws.proofs.Sum.{ind-one, ind-none, sum-same, count-not, count-some, count-change, count-le}
+use Rattle.laws.proofs.Sum.{ind-one, ind-none, sum-same, count-not, count-some, count-change}
 use Rattle.bufmodel.specs.Counts.{maxHolders, countPlace, countAt, setCount, hasPin, holdersOf}
 
 pub length-setCount : (cs : List ℕ) (i h c : ℕ) → length (setCount cs i h c) ≡ length cs
@@ -80,7 +80,3 @@ module _ (cs : List ℕ) (i h : ℕ) where
           count-not (hasPin cs i) maxHolders,
           count-some (λ k. not (hasPin cs i k)) maxHolders h l (ap (λ (x : ℕ). not (not (eqb x 0))) z),
         )
-
-pub holders-le : (cs : List ℕ) (i : ℕ) → holdersOf cs i ≤ maxHolders
-unfolding holdersOf
-holders-le cs i = count-le (hasPin cs i) maxHolders

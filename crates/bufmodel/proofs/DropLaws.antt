@@ -31,7 +31,7 @@ unfolding ofFile
 of-says m f i = says-and (says-as (not-true _) (ap not) (says-it (not (emptyAt m i)))) (says-same-file (nameOf m i .file) f)
 
 -- it goes by the buffer's word and name
-of-same : (m d : Memory) (f : FileName) (i : ℕ) → wordOf d i ≡ wordOf m i → nameOf d i ≡ nameOf m i → ofFile d f i ≡ ofFile m f i
+pub of-same : (m d : Memory) (f : FileName) (i : ℕ) → wordOf d i ≡ wordOf m i → nameOf d i ≡ nameOf m i → ofFile d f i ≡ ofFile m f i
 unfolding ofFile emptyAt
 of-same m d f i w n = ap₂ (λ (x : ℕ) (y : PageName). not (empty x) && sameFile (y .file) f) w n
 

@@ -1,4 +1,5 @@
--- The word of a buffer and one of its private counts change together, as a hit, an unpin and a giving back do.
+-- The word of a buffer and one of its private counts change together: what a hit, an unpin and a giving back do to the word, and that a
+-- giving back keeps the books.
 use Prim.Native.Nat.{ℕ, zero, suc, _+_, _-_, _*_, _^_, _≤_, _<_}
 use native.Mathlib.Omega.{arith}
 use mathlib.Core.Path.{_≡_, refl, sym, ap, ap₂, _∙_, subst}
@@ -16,7 +17,7 @@ use Rattle.bufmodel.specs.Memory.{Memory, buffers, capOf, wordOf, withSt
 use Rattle.bufmodel.specs.Counts.{maxHolders, countAt, setCount, hasPin, holdersOf}
 use Rattle.bufmodel.specs.Books.{emptyAt}
 use Rattle.bufmodel.specs.Pin.{heldWord}
-use Rattle.bufmodel.specs.Calls.{lessWord, unpinAt, givenWord, giveAt, giveUpTo}
+use Rattle.bufmodel.specs.Calls.{lessWord, givenWord, giveAt, giveUpTo}
 use Rattle.bufmodel.proofs.WordLaws.{
   Held,
   Fields,
@@ -144,14 +145,6 @@ module _ (m : Memory) (k : Good m) (h i : ℕ) (few : h < maxHolders) (l : i < b
       (λ ne. rw (ne-eqb c 0 ne) (held f, refl))
       (eq-or-ne c 0)
 
-  pub hit-turned : emptyAt m i ≡ false → Turned (capOf m) w (heldWord (capOf m) c w)
-  unfolding heldWord
-  hit-turned f =
-      ⊎-elim
-      (λ z. rw (eq-eqb c 0 z) (turned-fields (held f) (pin-more (held f) (k .books .cap .1) (first-fits z))))
-      (λ ne. rw (ne-eqb c 0 ne) (turned-same (capOf m) w (k .books .words i l)))
-      (eq-or-ne c 0)
-
   pub hit-pins : emptyAt m i ≡ false → pins (heldWord (capOf m) c w) + ind (hasPin (m .counts) i h) ≡ pins w + 1
   unfolding heldWord
   hit-pins f =
@@ -170,26 +163,12 @@ module _ (m : Memory) (k : Good m) (h i : ℕ) (few : h < maxHolders) (l : i < b
       (λ ne. omega (arith, hit-pins f, some-pins ne, pin-one (m .counts) i h ne))
       (eq-or-ne c 0)
 
-  -- A HIT
-  pub hit-good : emptyAt m i ≡ false → Good (recounted m h i (heldWord (capOf m) c w) (c + 1))
-  hit-good f =
-      recount-good m k h i few l (heldWord (capOf m) c w) (c + 1) (hit-turned f)
-      (hit-pins f ∙ ap (λ (x : ℕ). pins w + x) (sym (ind-one (ap not (ne-eqb (c + 1) 0 (λ e. omega arith))))))
-
   pub less-held : c ≢ 0 → Held (capOf m) (lessWord c w) × (dirty (lessWord c w) ≡ dirty w)
   unfolding lessWord
   less-held ne =
       ⊎-elim
       (λ z. rw (eq-eqb c 1 z) (let x = pin-less (held (some-full ne)) in (x .held, x .dirty)))
       (λ q. rw (ne-eqb c 1 q) (held (some-full ne), refl))
-      (eq-or-ne c 1)
-
-  pub less-turned : c ≢ 0 → Turned (capOf m) w (lessWord c w)
-  unfolding lessWord
-  less-turned ne =
-      ⊎-elim
-      (λ z. rw (eq-eqb c 1 z) (turned-fields (held (some-full ne)) (pin-less (held (some-full ne)))))
-      (λ q. rw (ne-eqb c 1 q) (turned-same (capOf m) w (k .books .words i l)))
       (eq-or-ne c 1)
 
   pub less-pins : c ≢ 0 → pins (lessWord c w) + 1 ≡ pins w + ind (not (eqb (c - 1) 0))
@@ -217,13 +196,6 @@ module _ (m : Memory) (k : Good m) (h i : ℕ) (few : h < maxHolders) (l : i < b
         pin-one (m .counts) i h ne,
         holders-change (m .counts) i h (c - 1) (row-fits m k h i few l) few,
       )
-
-  -- AN UNPIN
-  pub unpin-good : c ≢ 0 → Good (unpinAt m h i)
-  unfolding unpinAt
-  unpin-good ne =
-      recount-good m k h i few l (lessWord c w) (c - 1) (less-turned ne)
-      (ap (λ (x : ℕ). pins (lessWord c w) + x) (pin-one (m .counts) i h ne) ∙ less-pins ne)
 
   pub given-turned : Turned (capOf m) w (givenWord c w)
   unfolding givenWord

@@ -1,18 +1,12 @@
--- The moves of a page leave the private counts, and do not look at them.
+-- Write-back and release leave the private counts, and do not look at them.
 use Prim.Native.Nat.{ℕ, zero, suc}
 use mathlib.Core.Path.{_≡_, refl, ap, _∙_}
 use mathlib.Core.Bool.{Bool, true, false}
 use mathlib.Core.List.{List}
-use Rattle.laws.specs.First.{Found, found, missing}
-use Rattle.buftag.specs.declared.link.Link.{Link}
-use Rattle.buftag.specs.declared.link.Link.the-variants.{To, End, Off, Bad}
 use Rattle.buftag.specs.declared.name.FileName.{FileName}
-use Rattle.buftag.specs.declared.name.PageName.{PageName}
-use Rattle.buftag.specs.Link.{linkOf}
-use Rattle.bufmodel.specs.Rows.{placeOf}
 use Rattle.bufmodel.specs.Memory.{Memory, withCounts}
 use Rattle.bufmodel.specs.Books.{emptyAt}
-use Rattle.bufmodel.specs.Moves.{writeBack, writeUpTo, release, ofFile, releaseIf, releaseUpTo, loadAt, loadTop, load}
+use Rattle.bufmodel.specs.Moves.{writeBack, writeUpTo, release, ofFile, releaseIf, releaseUpTo}
 
 module _ (cs : List ℕ) where
   pub back-counts : (m : Memory) (i : ℕ) → writeBack (withCounts cs m) i ≡ withCounts cs (writeBack m i)
@@ -45,19 +39,3 @@ module _ (cs : List ℕ) where
       ap (λ (x : Memory). releaseIf (ofFile x f k) x k) (released-counts f k m)
       ∙ ap (λ (t : Bool). releaseIf t (withCounts cs on) k) (of-counts on f k)
       ∙ if-counts (ofFile on f k) on k
-
-  pub load-at-counts : (m : Memory) (n : PageName) (i g : ℕ) → loadAt (withCounts cs m) n i g ≡ withCounts cs (loadAt m n i g)
-  unfolding loadAt
-  load-at-counts m n i g = refl
-
-  top-counts : (m : Memory) (n : PageName) (l : Link) (g : Found) → loadTop (withCounts cs m) n l g ≡ withCounts cs (loadTop m n l g)
-  unfolding loadTop
-  top-counts m n (To i) (found g) = load-at-counts m n i g
-  top-counts m n (To i) missing = refl
-  top-counts m n End g = refl
-  top-counts m n Off g = refl
-  top-counts m n Bad g = refl
-
-  pub load-counts : (m : Memory) (n : PageName) → load (withCounts cs m) n ≡ withCounts cs (load m n)
-  unfolding load
-  load-counts m n = top-counts m n (linkOf (m .control .top)) (placeOf (m .rows) n)
