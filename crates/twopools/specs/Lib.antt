@@ -1,0 +1,4 @@
+pub mod Asked
+pub mod Pins
+pub mod Receipts
+pub mod TwoSizes
