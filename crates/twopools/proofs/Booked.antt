@@ -193,35 +193,35 @@ module _ (s : Shelf) (p : Pins) (page : ℕ → ℕ) (h b x : ℕ) (u : Booked s
 
 -- ---- some pins given back: those that are held still, under counts that cover them, are booked
 module _ (s : Shelf) (p : Pins) (page : ℕ → ℕ) (u : Booked s p page) (held : ℕ → Bool) (fewer : (k : ℕ) → held k ≡ true → p .held k ≡ true)
-    where
-  abbrev rest : Pins
-  rest = record { made = suc (p .made); number = p .number; holder = p .holder; held = held }
+  where
+    abbrev rest : Pins
+    rest = record { made = suc (p .made); number = p .number; holder = p .holder; held = held }
 
-  -- with those made so far counted
-  abbrev before : Pins
-  before = record { made = p .made; number = p .number; holder = p .holder; held = held }
+    -- with those made so far counted
+    abbrev before : Pins
+    before = record { made = p .made; number = p .number; holder = p .holder; held = held }
 
-  rest-made : (k : ℕ) → held k ≡ true → k < p .made
-  rest-made k e = u .made k (fewer k e)
+    rest-made : (k : ℕ) → held k ≡ true → k < p .made
+    rest-made k e = u .made k (fewer k e)
 
-  rest-count : (h x : ℕ) → count (suc (p .made)) (mine rest page h x) ≡ count (p .made) (mine before page h x)
-  unfolding count sum
-  rest-count h x =
-      let closed : held (p .made) ≡ false =
-            ⊎-elim (λ t. absurd (omega (arith, rest-made (p .made) t))) (λ f. f) (true-or-false (held (p .made))) in
-      omega (arith, ap (λ (b : Bool). ind (b && (eqb (page (p .made)) x && eqb (p .holder (p .made)) h))) closed)
+    rest-count : (h x : ℕ) → count (suc (p .made)) (mine rest page h x) ≡ count (p .made) (mine before page h x)
+    unfolding count sum
+    rest-count h x =
+        let closed : held (p .made) ≡ false =
+        ⊎-elim (λ t. absurd (omega (arith, rest-made (p .made) t))) (λ f. f) (true-or-false (held (p .made))) in
+        omega (arith, ap (λ (b : Bool). ind (b && (eqb (page (p .made)) x && eqb (p .holder (p .made)) h))) closed)
 
-  pub back-booked : (counts : ℕ → ℕ → ℕ) (holds : ℕ → Found) → ((h x : ℕ) → count (p .made) (mine before page h x) ≤ counts h x)
-      → ((k : ℕ) → held k ≡ true → stillHeld counts (found (page k)) ≡ found (page k) → holds (p .number k) ≡ found (page k))
-      → Booked (withPins counts holds s) rest page
-  back-booked counts holds owed still =
-      record {
-        below = λ k e. u .below k (fewer k e);
-        holds = λ k e. still k e (owed-held counts before page owed k e (rest-made k e) (u .who k (fewer k e)));
-        owed = λ h x. omega (arith, rest-count h x, owed h x);
-        who = λ k e. u .who k (fewer k e);
-        made = λ k e. omega (arith, rest-made k e);
-      }
+    pub back-booked : (counts : ℕ → ℕ → ℕ) (holds : ℕ → Found) → ((h x : ℕ) → count (p .made) (mine before page h x) ≤ counts h x)
+        → ((k : ℕ) → held k ≡ true → stillHeld counts (found (page k)) ≡ found (page k) → holds (p .number k) ≡ found (page k))
+        → Booked (withPins counts holds s) rest page
+    back-booked counts holds owed still =
+        record {
+          below = λ k e. u .below k (fewer k e);
+          holds = λ k e. still k e (owed-held counts before page owed k e (rest-made k e) (u .who k (fewer k e)));
+          owed = λ h x. omega (arith, rest-count h x, owed h x);
+          who = λ k e. u .who k (fewer k e);
+          made = λ k e. omega (arith, rest-made k e);
+        }
 
 -- ---- an accepted unpin, by its holder h, of the pin of call k, which is of page x at number b
 module _ (s : Shelf) (p : Pins) (page : ℕ → ℕ) (k : ℕ) (u : Booked s p page) (held : p .held k ≡ true) where
