@@ -1,2 +1,4 @@
 pub mod Booked
 pub mod FewPages
+pub mod Twins
+pub mod After
