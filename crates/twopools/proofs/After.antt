@@ -197,12 +197,11 @@ module _ (s : Shelf) (m : ℕ) (holds : ℕ → Found) (p : Pins) (number page :
     unfolding shelfAfter resolve
     pin-after h n z x y =
         let e = found-same (sym (y .1) ∙ x .1) in
-        let g = pin-passed s h n z in
-        (
+        let g = pin-passed s h n z in (
           with (p .made) (x .0) page,
           rw (x .1)
-          (pin-twins h i j (x .0) n (g .0) o q refl refl (x .2) (subst (λ (r : ℕ). PinRule (twin s m holds) q r) e (y .2))
-          (ap (noBuffer s) (sym (x .1)) ∙ g .1)),
+              (pin-twins h i j (x .0) n (g .0) o q refl refl (x .2) (subst (λ (r : ℕ). PinRule (twin s m holds) q r) e (y .2))
+              (ap (noBuffer s) (sym (x .1)) ∙ g .1)),
         )
 
     pub after : (c : Asked) → Names p c → refuses s (resolve (p .number) c) ≡ 0 → Shows s o (resolve (p .number) c)

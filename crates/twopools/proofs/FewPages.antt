@@ -68,11 +68,11 @@ module _ (s : Shelf) (h x : ℕ) where
         arith,
         l,
         sum-below (λ y. ind (pinsIn more y)) (λ y. ind (pinsIn (s .counts) y)) (storeBlocks (s .rows))
-        (λ y q.
-        ⊎-elim
-        (λ e. omega (arith, ind-le (pinsIn more y), ind-one (ap (pinsIn (s .counts)) e ∙ t)))
-        (λ ne. omega (arith, ap ind (more-other y ne)))
-        (eq-or-ne y x)),
+            (λ y q.
+            ⊎-elim
+            (λ e. omega (arith, ind-le (pinsIn more y), ind-one (ap (pinsIn (s .counts)) e ∙ t)))
+            (λ ne. omega (arith, ap ind (more-other y ne)))
+            (eq-or-ne y x)),
       ))
       (λ f.
       let ne = eqb-false (pinnedPages s) (s .buffers) (subst (λ (t : Bool). (not t && eqb (pinnedPages s) (s .buffers)) ≡ false) f six) in
