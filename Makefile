@@ -20,7 +20,7 @@ HEADERS = $(wildcard include/*.h)
 ARCHIVES = $(addprefix target/staticlib/,libbufpool.a libbufbooks.a libbuftag.a)
 PROGRAMS = target/examples/bufpool-show
 # messages cite the rules; the other pages are for whoever writes or supports a till
-DOCUMENTS = $(addprefix docs/,RULES.md C-API.md CALLS.md CAP.md HOLDERS.md CHECKSUMS.md LOOKING.md CARD.md)
+DOCUMENTS = $(addprefix docs/,RULES.md C-API.md CALLS.md CAP.md HOLDERS.md BOXES.md CHECKSUMS.md LOOKING.md CARD.md)
 PC = lib/pkgconfig/bufpool.pc
 DOC = share/doc/bufpool
 INSTALLED = $(HEADERS) $(addprefix lib/,$(notdir $(ARCHIVES))) $(PC) $(addprefix bin/,$(notdir $(PROGRAMS))) \
