@@ -2,16 +2,15 @@
 use Prim.Native.Nat.{ℕ, _≤_, _<_}
 use native.Mathlib.Omega.{arith}
 use mathlib.Core.Path.{_≡_, refl, sym, ap, _∙_, subst}
-use mathlib.Core.Bool.{Bool, false}
+use mathlib.Core.Bool.{false}
 use mathlib.Core.List.{List, []}
-use lib.Dec.{leb}
 use borrow.Author.Tests.{leb-false}
 use Rattle.laws.specs.First.{Found, found, missing}
 use Rattle.laws.specs.Sum.{count}
 use Rattle.laws.proofs.First.{found-same}
 use Rattle.buftag.specs.declared.name.PageName.{PageName}
 use Rattle.bufmodel.specs.Rows.{rowOf, storeBlocks, placeOf}
-use Rattle.bufmodel.specs.Outcome.{Outcome, place, refusalOf}
+use Rattle.bufmodel.specs.Outcome.{Outcome, place}
 use Rattle.bufmodel.specs.Step.{Pin}
 use Rattle.bufmodel.proofs.RowsLaws.{store-set}
 use Rattle.bufmodel.proofs.OutcomeLaws.{refusal-passed}

@@ -8,7 +8,7 @@ use lib.Dec.{eqb}
 use borrow.Author.Tests.{eqb-true, eq-eqb, ne-eqb, not-true}
 use Rattle.laws.specs.Sum.{sum, ind, count}
 use Rattle.laws.specs.First.{Found, found, missing}
-use Rattle.laws.proofs.Tests.{true-or-false, lt-or-le, eq-or-ne, and-left, and-right, and-true, never}
+use Rattle.laws.proofs.Tests.{true-or-false, eq-or-ne, and-left, and-right, and-true, never}
 use Rattle.laws.proofs.Every.{any-found}
 use Rattle.laws.proofs.Sum.{ind-one, ind-none, ind-le, sum-same, sum-below, sum-zero, count-some, count-change}
 use Rattle.laws.proofs.First.{found-same, found-missing}

@@ -7,7 +7,7 @@ use mathlib.Core.Logic.{_≢_, ⊎-elim}
 use lib.Dec.{eqb}
 use borrow.Author.Tests.{eqb-false, not-true, not-false}
 use Rattle.laws.specs.Every.{any}
-use Rattle.laws.specs.Sum.{sum, ind, count}
+use Rattle.laws.specs.Sum.{ind, count}
 use Rattle.laws.specs.First.{found}
 use Rattle.laws.proofs.Tests.{true-or-false, lt-or-le, eq-or-ne, same-tests}
 use Rattle.laws.proofs.Every.{all-false-at}

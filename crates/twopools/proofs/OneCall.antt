@@ -1,6 +1,5 @@
 -- One call of the list, given to both pools: one refusal, one receipt, and two pools in mid-list again.
 use Prim.Native.Nat.{ℕ, zero, suc}
-use native.Mathlib.Omega.{arith}
 use mathlib.Core.Path.{_≡_, refl, sym, ap, _∙_, subst}
 use mathlib.Core.Logic.{_≢_, ⊎-elim}
 use mathlib.Core.List.{List, []}
@@ -69,50 +68,51 @@ module _ {s t : Shelf} {p q : Pins} {page : ℕ → ℕ} (w : Twins s t p q page
   page-bytes x y e = ap (s .bytes) e ∙ ap (λ (z : Shelf). z .bytes y) (sym (w .same))
 
 -- ---- what both show
-module _ {s t : Shelf} {p q : Pins} {page : ℕ → ℕ} (w : Twins s t p q page) (o r : Outcome) (zo : o .refusal ≡ 0) (zr : r .refusal ≡ 0)
-  where
-    -- the page that a read's pin is for
-    read-page : (h k x y : ℕ) → Mine p h k → s .holds (p .number k) ≡ found x → t .holds (q .number k) ≡ found y → x ≡ y
-    read-page h k x y u e f =
-        found-same (sym e ∙ w .left .holds k (u .held) ∙ sym (w .right .holds k (sym (held-too w k) ∙ u .held)) ∙ f)
+module _ {s t : Shelf} {p q : Pins} {page : ℕ → ℕ} (w : Twins s t p q page) (o r : Outcome) where
+  -- the page that a read's pin is for
+  read-page : (h k x y : ℕ) → Mine p h k → s .holds (p .number k) ≡ found x → t .holds (q .number k) ≡ found y → x ≡ y
+  read-page h k x y u e f =
+      found-same (sym e ∙ w .left .holds k (u .held) ∙ sym (w .right .holds k (sym (held-too w k) ∙ u .held)) ∙ f)
 
-    bytes-shown : (c : Asked) → Names p c → Shows s o (resolve (p .number) c) → Shows t r (resolve (q .number) c) → bytesBy c o ≡ bytesBy c r
-    unfolding bytesBy resolve readBytes
-    bytes-shown (AskPin h n) u x y = x .3 ∙ sym (y .3)
-    bytes-shown (AskUnpin h k) u x y = x ∙ sym y
-    bytes-shown (AskRead h k from out) u x y =
-        rw (zo, zr)
-        (x .2
-        ∙ ap (λ (z : List ℕ). take (length out) (drop from (bare z))) (page-bytes w (x .0) (y .0) (read-page h k _ _ u (x .1) (y .1)))
-        ∙ sym (y .2))
-    bytes-shown (AskWrite h k from bytes at) u x y = x ∙ sym y
-    bytes-shown (AskFlush h k) u x y = x ∙ sym y
-    bytes-shown (AskGiveBack h) u x y = x ∙ sym y
-    bytes-shown AskCheckpoint u x y = x ∙ sym y
-    bytes-shown (AskPeek n) u x y =
-        let same = found-same (sym (x .1) ∙ ap (λ (z : Shelf). placeOf (z .rows) n) (sym (w .same)) ∙ y .1) in
-        x .2 ∙ ap bare (page-bytes w (x .0) (y .0) same) ∙ sym (y .2)
-    bytes-shown (AskExtend f) u x y = x .3 ∙ sym (y .3)
-    bytes-shown (AskDrop f) u x y = x ∙ sym y
-    bytes-shown (AskInserted k) u x y = x ∙ sym y
-    bytes-shown (AskFlushed k) u x y = x ∙ sym y
+  bytes-shown : o .refusal ≡ 0 → r .refusal ≡ 0 → (c : Asked) → Names p c → Shows s o (resolve (p .number) c)
+      → Shows t r (resolve (q .number) c)
+      → bytesBy c o ≡ bytesBy c r
+  unfolding bytesBy resolve readBytes
+  bytes-shown zo zr (AskPin h n) u x y = x .3 ∙ sym (y .3)
+  bytes-shown zo zr (AskUnpin h k) u x y = x ∙ sym y
+  bytes-shown zo zr (AskRead h k from out) u x y =
+      rw (zo, zr)
+      (x .2
+      ∙ ap (λ (z : List ℕ). take (length out) (drop from (bare z))) (page-bytes w (x .0) (y .0) (read-page h k _ _ u (x .1) (y .1)))
+      ∙ sym (y .2))
+  bytes-shown zo zr (AskWrite h k from bytes at) u x y = x ∙ sym y
+  bytes-shown zo zr (AskFlush h k) u x y = x ∙ sym y
+  bytes-shown zo zr (AskGiveBack h) u x y = x ∙ sym y
+  bytes-shown zo zr AskCheckpoint u x y = x ∙ sym y
+  bytes-shown zo zr (AskPeek n) u x y =
+      let same = found-same (sym (x .1) ∙ ap (λ (z : Shelf). placeOf (z .rows) n) (sym (w .same)) ∙ y .1) in
+      x .2 ∙ ap bare (page-bytes w (x .0) (y .0) same) ∙ sym (y .2)
+  bytes-shown zo zr (AskExtend f) u x y = x .3 ∙ sym (y .3)
+  bytes-shown zo zr (AskDrop f) u x y = x ∙ sym y
+  bytes-shown zo zr (AskInserted k) u x y = x ∙ sym y
+  bytes-shown zo zr (AskFlushed k) u x y = x ∙ sym y
 
-    block-shown : (c : Asked) → Shows s o (resolve (p .number) c) → Shows t r (resolve (q .number) c) → blockBy c o ≡ blockBy c r
-    unfolding blockBy resolve
-    block-shown (AskPin h n) x y = refl
-    block-shown (AskUnpin h k) x y = refl
-    block-shown (AskRead h k from out) x y = refl
-    block-shown (AskWrite h k from bytes at) x y = refl
-    block-shown (AskFlush h k) x y = refl
-    block-shown (AskGiveBack h) x y = refl
-    block-shown AskCheckpoint x y = refl
-    block-shown (AskPeek n) x y = refl
-    block-shown (AskExtend f) x y =
-        let same = found-same (sym (x .1) ∙ ap (λ (z : Shelf). rowOf (z .rows) f) (sym (w .same)) ∙ y .1) in
-        x .2 ∙ ap (blocksAt (s .rows)) same ∙ ap (λ (z : Shelf). blocksAt (z .rows) (y .0)) (sym (w .same)) ∙ sym (y .2)
-    block-shown (AskDrop f) x y = refl
-    block-shown (AskInserted k) x y = refl
-    block-shown (AskFlushed k) x y = refl
+  block-shown : (c : Asked) → Shows s o (resolve (p .number) c) → Shows t r (resolve (q .number) c) → blockBy c o ≡ blockBy c r
+  unfolding blockBy resolve
+  block-shown (AskPin h n) x y = refl
+  block-shown (AskUnpin h k) x y = refl
+  block-shown (AskRead h k from out) x y = refl
+  block-shown (AskWrite h k from bytes at) x y = refl
+  block-shown (AskFlush h k) x y = refl
+  block-shown (AskGiveBack h) x y = refl
+  block-shown AskCheckpoint x y = refl
+  block-shown (AskPeek n) x y = refl
+  block-shown (AskExtend f) x y =
+      let same = found-same (sym (x .1) ∙ ap (λ (z : Shelf). rowOf (z .rows) f) (sym (w .same)) ∙ y .1) in
+      x .2 ∙ ap (blocksAt (s .rows)) same ∙ ap (λ (z : Shelf). blocksAt (z .rows) (y .0)) (sym (w .same)) ∙ sym (y .2)
+  block-shown (AskDrop f) x y = refl
+  block-shown (AskInserted k) x y = refl
+  block-shown (AskFlushed k) x y = refl
 
 -- ---- a refused call: the caller's own bytes, no part of a page, no block number
 own-same : (a b : ℕ → ℕ) (c : Asked) → own (resolve a c) ≡ own (resolve b c)
@@ -174,7 +174,7 @@ receipt-is e f g = cc
 module _ (l l′ : Ledger) {p q : Pins} {page : ℕ → ℕ} (w : Twins (l .shelf) (l′ .shelf) p q page) (c : Asked) (names : Names p c)
     (o r : Outcome) (x : Ends (l .shelf) (resolve (p .number) c) o) (y : Ends (l′ .shelf) (resolve (q .number) c) r)
     (six : o .refusal ≢ 6) where
-  pub number-same : o .refusal ≡ r .refusal
+  number-same : o .refusal ≡ r .refusal
   number-same = x .number ∙ sym (refuses-twins w c names (λ z. six (x .number ∙ z))) ∙ sym (y .number)
 
   pub receipt-same : receipt c o ≡ receipt c r
@@ -184,7 +184,7 @@ module _ (l l′ : Ledger) {p q : Pins} {page : ℕ → ℕ} (w : Twins (l .shel
       (λ z.
       let a = x .shows z in
       let b = y .shows (sym number-same ∙ z) in
-      receipt-is number-same (bytes-shown w o r z (sym number-same ∙ z) c names a b) (block-shown w o r z (sym number-same ∙ z) c a b))
+      receipt-is number-same (bytes-shown w o r z (sym number-same ∙ z) c names a b) (block-shown w o r c a b))
       (λ ne.
       let no : r .refusal ≢ 0 = λ z. ne (number-same ∙ z) in
       receipt-is number-same

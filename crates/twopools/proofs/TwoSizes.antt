@@ -8,15 +8,14 @@ use mathlib.Core.List.{List, [], _∷_}
 use lib.ListN.{length}
 use lib.Dec.{ltb}
 use borrow.Author.Tests.{ltb-true, lt-ltb}
-use Rattle.laws.specs.First.{Found, missing}
 use Rattle.laws.specs.Sum.{sum, ind, count}
 use Rattle.laws.proofs.Sum.{sum-zero, ind-none}
 use Rattle.laws.proofs.Tests.{true-or-false}
 use Rattle.bufmodel.specs.Rows.{storeBlocks}
 use Rattle.bufmodel.specs.Memory.{Memory, buffers}
-use Rattle.bufmodel.specs.Step.{Call, Pin, Unpin, Read, Write, Flush, step}
+use Rattle.bufmodel.specs.Step.{Call, Unpin, Read, Write, Flush, step}
 use Rattle.bufmodel.specs.Lent.{Lent, Called, answerWords, opened}
-use Rattle.shelf.specs.Shelf.{Shelf, pinsIn, hasPins, pinnedPages, firstShelf}
+use Rattle.shelf.specs.Shelf.{pinsIn, hasPins, pinnedPages, firstShelf}
 use Rattle.shelf.specs.Ledger.{Ledger, firstLedger, ledgerAfter, acceptedBy}
 use Rattle.shelf.specs.Statement.{FitsCall, own, Left, Made, FitsMade, outcomeOf, Pool, calling, Agrees, ClaimFor, Demand3For}
 use Rattle.shelf.specs.Published.{Published}
@@ -40,13 +39,13 @@ use Rattle.twopools.specs.Asked.{
   resolve,
   FitsAsked,
 }
-use Rattle.twopools.specs.Pins.{Pins, noPins, Mine, Names}
-use Rattle.twopools.specs.Receipts.{Receipt, receipt, Turn, calledBy, pinsThen, turns, receipts, Named, NeverSix}
-use Rattle.twopools.specs.TwoSizes.{Box, FitsBox, buffersIn, setUpIn, servedIn, TwoSizesFor, TwoSizes}
+use Rattle.twopools.specs.Pins.{Pins, noPins, Names}
+use Rattle.twopools.specs.Receipts.{Receipt, calledBy, pinsThen, turns, receipts, Named, NeverSix}
+use Rattle.twopools.specs.TwoSizes.{setUpIn, TwoSizesFor, TwoSizes}
 use Rattle.twopools.proofs.Booked.{Booked}
-use Rattle.twopools.proofs.Twins.{twin, renumbered}
+use Rattle.twopools.proofs.Twins.{twin}
 use Rattle.twopools.proofs.After.{Twins}
-use Rattle.twopools.proofs.OneCall.{Ends, ends-of, held-too, number-same, receipt-same, next}
+use Rattle.twopools.proofs.OneCall.{ends-of, held-too, receipt-same, next}
 
 -- ---- Demand 3 is about lists of calls whose numbers fit 64 bits, and that the pool's answers do is known along its run alone. So it is
 -- taken for the list in which a number that does not fit is 0; that none is follows
@@ -166,19 +165,18 @@ module _ (pool : Pool) (slices slices′ : ℕ → List ℕ) where
       more e h = cc
 
 -- ---- the start
-module _ (m k : Memory) (p at : ℕ) (rows : m .rows ≡ k .rows) (store : m .store ≡ k .store) where
-  first-same : firstShelf k p at ≡ twin (firstShelf m p at) (firstShelf k p at .buffers) (firstShelf k p at .holds)
-  unfolding firstShelf
-  first-same = rw (rows, store) refl
+first-same : (m k : Memory) (p at : ℕ) → m .rows ≡ k .rows → m .store ≡ k .store
+    → firstShelf k p at ≡ twin (firstShelf m p at) (firstShelf k p at .buffers) (firstShelf k p at .holds)
+unfolding firstShelf
+first-same m k p at rows store = rw (rows, store) refl
 
-  first-few : pinnedPages (firstShelf m p at) ≤ firstShelf m p at .buffers
-  unfolding firstShelf pinnedPages hasPins count
-  first-few =
-      omega (
-        arith,
-        sum-zero (λ g. ind (pinsIn (λ h g. 0) g)) (storeBlocks (m .rows))
-            (λ g l. ind-none (pins-none (λ h g. 0) g (λ h i. refl))),
-      )
+first-few : (m : Memory) (p at : ℕ) → pinnedPages (firstShelf m p at) ≤ firstShelf m p at .buffers
+unfolding firstShelf pinnedPages hasPins count
+first-few m p at =
+    omega (
+      arith,
+      sum-zero (λ g. ind (pinsIn (λ h g. 0) g)) (storeBlocks (m .rows)) (λ g l. ind-none (pins-none (λ h g. 0) g (λ h i. refl))),
+    )
 
 first-booked : (m : Memory) (p at : ℕ) → Booked (firstShelf m p at) noPins (λ k. 0)
 unfolding firstShelf noPins count sum
@@ -199,7 +197,7 @@ first-twins m k p at fewer rows store =
       same = first-same m k p at rows store;
       pins = refl;
       fewer = fewer;
-      few = first-few m k p at rows store;
+      few = first-few m p at;
       left = first-booked m p at;
       right = first-booked k p at;
     }
