@@ -56,16 +56,7 @@ use Rattle.twopools.specs.Asked.{
 use Rattle.twopools.specs.Pins.{Pins, Mine, Names, entered}
 use Rattle.twopools.proofs.Booked.{Booked, onward, booked-on, pin-booked, unpin-booked, give-booked}
 use Rattle.twopools.proofs.FewPages.{pin-few, unpin-few, give-few}
-use Rattle.twopools.proofs.Twins.{twin, renumbered}
-
--- two pools in mid-list: their shelves, their pins, the pages that these are for
-pub record Twins (s t : Shelf) (p q : Pins) (page : ℕ → ℕ) : Type 0 where
-  pub same : t ≡ twin s (t .buffers) (t .holds)
-  pub pins : q ≡ renumbered p (q .number)
-  pub fewer : s .buffers ≤ t .buffers
-  pub few : pinnedPages s ≤ s .buffers
-  pub left : Booked s p page
-  pub right : Booked t q page
+use Rattle.twopools.proofs.Twins.{twin, renumbered, Twins}
 
 -- a pin that no place refuses: its holder is one of the 64, and a buffer is left for its page
 pub pin-passed : (s : Shelf) (h : ℕ) (n : PageName) → refuses s (Pin h n) ≡ 0 → (h < 64) × (noBuffer s (placeOf (s .rows) n) ≡ false)

@@ -34,9 +34,9 @@ use Rattle.twopools.specs.Asked.{
 }
 use Rattle.twopools.specs.Pins.{Pins, Mine, Names, entered, pinsAfter}
 use Rattle.twopools.specs.Receipts.{Receipt, readBytes, bytesBy, blockBy, receipt}
-use Rattle.twopools.proofs.Booked.{Booked, onward, booked-on}
-use Rattle.twopools.proofs.Twins.{twin, renumbered, refuses-same}
-use Rattle.twopools.proofs.After.{Twins, after}
+use Rattle.twopools.proofs.Booked.{onward, booked-on}
+use Rattle.twopools.proofs.Twins.{renumbered, Twins, right-twin, held-too, refuses-twins}
+use Rattle.twopools.proofs.After.{after}
 
 -- what demand 3 says of a call, as far as receipts go by it
 pub record Ends (s : Shelf) (d : Call) (o : Outcome) : Type 0 where
@@ -48,26 +48,11 @@ pub record Ends (s : Shelf) (d : Call) (o : Outcome) : Type 0 where
 pub ends-of : {m : Memory} {l : Ledger} {d : Call} {o : Outcome} {l′ : Ledger} → Agrees m l d o l′ → Ends (l .shelf) d o
 ends-of a = record { number = a .number; shows = a .shows; blank = a .blank; kept = a .kept }
 
--- ---- the shelves of both, in the shape that the laws of twins have
+-- ---- what both show
 module _ {s t : Shelf} {p q : Pins} {page : ℕ → ℕ} (w : Twins s t p q page) where
-  right-twin : Booked (twin s (t .buffers) (t .holds)) (renumbered p (q .number)) page
-  right-twin =
-      subst (λ (z : Shelf). Booked z (renumbered p (q .number)) page) (w .same)
-      (subst (λ (z : Pins). Booked t z page) (w .pins) (w .right))
-
-  pub held-too : (k : ℕ) → p .held k ≡ q .held k
-  held-too k = ap (λ (z : Pins). z .held k) (sym (w .pins))
-
-  refuses-twins : (c : Asked) → Names p c → refuses s (resolve (p .number) c) ≢ 6
-      → refuses t (resolve (q .number) c) ≡ refuses s (resolve (p .number) c)
-  refuses-twins c names six =
-      ap (λ (z : Shelf). refuses z (resolve (q .number) c)) (w .same)
-      ∙ refuses-same s (t .buffers) (t .holds) p (q .number) page (w .fewer) (w .few) (w .left) right-twin c names six
-
   page-bytes : (x y : ℕ) → x ≡ y → s .bytes x ≡ t .bytes y
   page-bytes x y e = ap (s .bytes) e ∙ ap (λ (z : Shelf). z .bytes y) (sym (w .same))
 
--- ---- what both show
 module _ {s t : Shelf} {p q : Pins} {page : ℕ → ℕ} (w : Twins s t p q page) (o r : Outcome) where
   -- the page that a read's pin is for
   read-page : (h k x y : ℕ) → Mine p h k → s .holds (p .number k) ≡ found x → t .holds (q .number k) ≡ found y → x ≡ y

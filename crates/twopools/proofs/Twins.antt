@@ -1,7 +1,7 @@
 -- Two shelves that differ in the number of buffers and in which number holds which page: they refuse alike.
 use Prim.Native.Nat.{ℕ, _+_, _≤_, _<_}
 use native.Mathlib.Omega.{arith}
-use mathlib.Core.Path.{_≡_, refl, sym, ap, _∙_}
+use mathlib.Core.Path.{_≡_, refl, sym, ap, _∙_, subst}
 use mathlib.Core.Bool.{Bool, true, false, not, _||_, cond, false≢true}
 use mathlib.Core.Logic.{_≢_}
 use mathlib.Core.List.{List, [], _∷_, _++_}
@@ -149,7 +149,7 @@ module _ (s : Shelf) (m : ℕ) (holds : ℕ → Found) where
 module _ (s : Shelf) (m : ℕ) (holds : ℕ → Found) (p : Pins) (number page : ℕ → ℕ) (fewer : s .buffers ≤ m)
     (few : pinnedPages s ≤ s .buffers) (left : Booked s p page) (right : Booked (twin s m holds) (renumbered p number) page) where
   -- the holder of a pin not given back has pins of its page
-  pub counted : (h k : ℕ) → Mine p h k → s .counts h (page k) ≢ 0
+  counted : (h k : ℕ) → Mine p h k → s .counts h (page k) ≢ 0
   counted h k e z =
       owed-some (s .counts) p page (left .owed) k (e .held) (left .made k (e .held)) (ap (λ (i : ℕ). s .counts i (page k)) (e .by) ∙ z)
 
@@ -168,7 +168,7 @@ module _ (s : Shelf) (m : ℕ) (holds : ℕ → Found) (p : Pins) (number page :
       ∙ ap (tooLow s at) (right .holds k (e .held) ∙ sym (left .holds k (e .held)))
 
   -- THE REFUSALS: where the smaller pool does not answer 6, both answer one number
-  pub refuses-same : (c : Asked) → Names p c → refuses s (resolve (p .number) c) ≢ 6
+  refuses-same : (c : Asked) → Names p c → refuses s (resolve (p .number) c) ≢ 6
       → refuses (twin s m holds) (resolve number c) ≡ refuses s (resolve (p .number) c)
   unfolding refuses resolve places
   refuses-same (AskPin h n) u six =
@@ -197,3 +197,28 @@ module _ (s : Shelf) (m : ℕ) (holds : ℕ → Found) (p : Pins) (number page :
       ap (λ (b : Bool). firstOf (place 3 (noFile (rowOf (s .rows) f)) ∷ place 14 b ∷ [])) (file-pinned s m holds (rowOf (s .rows) f))
   refuses-same (AskInserted q) u six = refl
   refuses-same (AskFlushed q) u six = refl
+
+-- ---- two pools in mid-list
+-- their shelves, their pins, the pages that these are for
+pub record Twins (s t : Shelf) (p q : Pins) (page : ℕ → ℕ) : Type 0 where
+  pub same : t ≡ twin s (t .buffers) (t .holds)
+  pub pins : q ≡ renumbered p (q .number)
+  pub fewer : s .buffers ≤ t .buffers
+  pub few : pinnedPages s ≤ s .buffers
+  pub left : Booked s p page
+  pub right : Booked t q page
+
+module _ {s t : Shelf} {p q : Pins} {page : ℕ → ℕ} (w : Twins s t p q page) where
+  pub right-twin : Booked (twin s (t .buffers) (t .holds)) (renumbered p (q .number)) page
+  right-twin =
+      subst (λ (z : Shelf). Booked z (renumbered p (q .number)) page) (w .same)
+      (subst (λ (z : Pins). Booked t z page) (w .pins) (w .right))
+
+  pub held-too : (k : ℕ) → p .held k ≡ q .held k
+  held-too k = ap (λ (z : Pins). z .held k) (sym (w .pins))
+
+  pub refuses-twins : (c : Asked) → Names p c → refuses s (resolve (p .number) c) ≢ 6
+      → refuses t (resolve (q .number) c) ≡ refuses s (resolve (p .number) c)
+  refuses-twins c names six =
+      ap (λ (z : Shelf). refuses z (resolve (q .number) c)) (w .same)
+      ∙ refuses-same s (t .buffers) (t .holds) p (q .number) page (w .fewer) (w .few) (w .left) right-twin c names six

@@ -43,9 +43,8 @@ use Rattle.twopools.specs.Pins.{Pins, noPins, Names}
 use Rattle.twopools.specs.Receipts.{Receipt, calledBy, pinsThen, turns, receipts, Named, NeverSix}
 use Rattle.twopools.specs.TwoSizes.{setUpIn, TwoSizesFor, TwoSizes}
 use Rattle.twopools.proofs.Booked.{Booked}
-use Rattle.twopools.proofs.Twins.{twin}
-use Rattle.twopools.proofs.After.{Twins}
-use Rattle.twopools.proofs.OneCall.{ends-of, held-too, receipt-same, next}
+use Rattle.twopools.proofs.Twins.{twin, Twins, held-too}
+use Rattle.twopools.proofs.OneCall.{ends-of, receipt-same, next}
 
 -- ---- Demand 3 is about lists of calls whose numbers fit 64 bits, and that the pool's answers do is known along its run alone. So it is
 -- taken for the list in which a number that does not fit is 0; that none is follows
