@@ -2,3 +2,4 @@ pub mod Asked
 pub mod Pins
 pub mod Receipts
 pub mod TwoSizes
+pub mod WrongSizes
