@@ -1,3 +1,4 @@
 pub mod Booked
+pub mod ServedLate
 pub mod ShutSizes
 pub mod SizesTests

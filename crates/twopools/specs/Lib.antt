@@ -1,5 +1,6 @@
 pub mod Asked
 pub mod Pins
 pub mod Receipts
+pub mod ServedLate
 pub mod TwoSizes
 pub mod WrongSizes
