@@ -12,7 +12,7 @@ use Rattle.bufmodel.specs.Outcome.{Outcome}
 use Rattle.bufmodel.specs.Calls.{part}
 use Rattle.bufmodel.specs.Lent.{opened, closed}
 use Rattle.shelf.specs.Statement.{Pool, outcomeOf}
-use Rattle.shelf.specs.Trial.{size, cap, bench, blockWith, sales, stock, blockOf, slice}
+use Rattle.shelf.specs.Trial.{size, cap, bench, blockWith, sales, blockOf, slice}
 use Rattle.twopools.specs.Asked.{
   Asked,
   AskPin,
