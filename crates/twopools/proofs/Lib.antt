@@ -1,4 +1,5 @@
 pub mod Booked
 pub mod ServedLate
+pub mod ShutReceipts
 pub mod ShutSizes
 pub mod SizesTests

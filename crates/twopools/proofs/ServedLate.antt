@@ -12,11 +12,11 @@ use Rattle.twopools.specs.Pins.{Pins}
 use Rattle.twopools.specs.Receipts.{Receipt, receipt, calledBy, pinsThen, turns, receipts}
 use Rattle.twopools.specs.WrongSizes.{Boxes, box}
 use Rattle.twopools.specs.ServedLate.{late, oneMore, gives, done, writtenPage, lateReceipts, ServedLate}
-use Rattle.twopools.proofs.SizesTests.{namedTest, named, never-six, runs, served, fits-box, Ready, two, Served, asked}
+use Rattle.twopools.proofs.SizesTests.{namedTest, named, runs, served, fits-box, Ready, two-ready, Served, asked, names-in, never-in}
 
-three : Ready log (box 3)
+three-ready : Ready log (box 3)
 unfolding runs
-three = record { fits = fits-box 2 _ 3 refl; up = refl }
+three-ready = record { fits = fits-box 2 _ 3 refl; up = refl }
 
 two-three : Boxes (box 2) (box 3)
 unfolding runs
@@ -24,7 +24,7 @@ two-three = (omega arith, refl, refl)
 
 late-two : Served namedTest (box 2) late
 unfolding runs late
-late-two = record { fits = refl; names = refl; six = refl }
+late-two = record { fits = refl; serves = refl }
 
 six : receipts (served (box 2) (late ++ (oneMore ∷ []))) ≡ lateReceipts ++ (gives 6 [] 0 ∷ [])
 unfolding runs late lateReceipts writtenPage
@@ -51,12 +51,12 @@ first-ones last = refl
 pub served-late : ServedLate
 served-late =
     record {
-      fits = (two .fits, three .fits, asked late-two);
+      fits = (two-ready .fits, three-ready .fits, asked late-two);
       boxes = two-three;
-      smallUp = two .up;
-      largeUp = three .up;
-      named = named _ (late-two .names);
-      never = never-six _ (late-two .six);
+      smallUp = two-ready .up;
+      largeUp = three-ready .up;
+      named = named _ (names-in late-two);
+      never = never-in late-two;
       small = sym (begun _ _ _ _ late _) ∙ ap (take (length late)) six ∙ first-ones _;
       large = sym (begun _ _ _ _ late _) ∙ ap (take (length late)) accepted ∙ first-ones _;
       six = six;

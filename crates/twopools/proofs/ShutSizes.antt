@@ -1,23 +1,25 @@
 -- Wrong statements of two sizes are false of the right pool: each is refuted by a list of calls, computed.
-use Prim.Native.Nat.{ℕ}
+use Prim.Native.Nat.{ℕ, _*_, _/_, _^_, _<_}
+use native.Mathlib.Nat.{mul-div-cancel-left}
 use native.Mathlib.Omega.{arith}
-use mathlib.Core.Path.{_≡_, refl, sym}
-use mathlib.Core.Logic.{_≢_}
-use mathlib.Core.Bool.{Bool, true, false}
+use mathlib.Core.Path.{_≡_, refl, sym, ap, _∙_}
+use mathlib.Core.Bool.{true, false}
 use mathlib.Core.List.{List, [], _∷_}
-use lib.ListN.{getD}
-use Rattle.bufmodel.specs.Outcome.{Outcome}
+use lib.ListN.{length}
+use Rattle.bufmodel.specs.Rows.{storeBlocks}
+use Rattle.bufmodel.specs.Sizes.{SizedFor}
 use Rattle.bufmodel.specs.Step.{step}
+use Rattle.bufmodel.specs.Lent.{opened}
 use Rattle.shelf.specs.Statement.{Pool, calling}
 use Rattle.shelf.specs.Trial.{size, log, sales, stock, blockOf}
+use Rattle.shelf.proofs.Demand.{demand-3}
 use Rattle.twopools.specs.Asked.{Asked, AskPeek, AskInserted}
-use Rattle.twopools.specs.Receipts.{Receipt, receipts}
-use Rattle.twopools.specs.TwoSizes.{TwoSizesFor}
+use Rattle.twopools.specs.Receipts.{receipts}
+use Rattle.twopools.specs.TwoSizes.{Box, FitsBox, setUpIn, TwoSizesFor}
 use Rattle.twopools.specs.WrongSizes.{
   Fewer,
   OneRows,
   OneStore,
-  Boxes,
   RightParts,
   AnySizes,
   AnyStores,
@@ -27,26 +29,11 @@ use Rattle.twopools.specs.WrongSizes.{
   AnyHolders,
   EvenAtSix,
   LargeNever,
-  each,
-  Showing,
-  pinning,
-  writing,
-  peeking,
-  wordOf,
-  SameNumbers,
-  SameHits,
-  SameWrote,
-  SameProbes,
-  SameCounts,
-  SamePlaces,
-  wholeBytes,
-  SameBytes,
   box,
   stocked,
   shorter,
   askPin,
   both,
-  oneByOne,
   afterUnpin,
   afterOther,
 }
@@ -57,14 +44,15 @@ use Rattle.twopools.proofs.SizesTests.{
   named-since,
   byTest,
   named-by,
-  never-six,
+  names-in,
+  never-in,
   runs,
   servedAt,
   served,
   fits-box,
   Ready,
-  one,
-  two,
+  one-ready,
+  two-ready,
   one-two,
   Served,
   asked,
@@ -85,7 +73,7 @@ parts-right pool h p at small large calls fp fat fs fl fc few rows store = h p a
 -- two pages at once, in two buffers and in one
 both-two : Served namedTest (box 2) both
 unfolding runs
-both-two = record { fits = refl; names = refl; six = refl }
+both-two = record { fits = refl; serves = refl }
 
 both-differ : Differ (refusalAt 1) (receipts (served (box 1) both)) (receipts (served (box 2) both)) 6 0
 unfolding runs
@@ -99,20 +87,20 @@ pub any-sizes-shut : AnySizes (calling step) → ⊥
 any-sizes-shut h =
     apart (refusalAt 1) both-differ (λ e. omega (arith, e))
     (sym
-    (h size log (box 2) (box 1) both (omega arith) (omega arith) (two .fits) (one .fits) (asked both-two) two-one (two .up) (one .up)
-    (named _ (both-two .names)) (never-six _ (both-two .six))))
+    (h size log (box 2) (box 1) both (omega arith) (omega arith) (two-ready .fits) (one-ready .fits) (asked both-two) two-one
+    (two-ready .up) (one-ready .up) (named _ (names-in both-two)) (never-in both-two)))
 
 -- two blocks of stock
-stocked-one : Ready log (stocked 1)
+stocked-ready : Ready log (stocked 1)
 unfolding runs
-stocked-one = record { fits = fits-box 2 _ 1 refl; up = refl }
+stocked-ready = record { fits = fits-box 2 _ 1 refl; up = refl }
 
 abbrev peeked : List Asked
 peeked = AskPeek (blockOf stock 0) ∷ []
 
 peeked-one : Served namedTest (box 1) peeked
 unfolding runs
-peeked-one = record { fits = refl; names = refl; six = refl }
+peeked-one = record { fits = refl; serves = refl }
 
 peeked-differ : Differ (byteAt 0 10) (receipts (served (box 1) peeked)) (receipts (served (stocked 1) peeked)) 0 77
 unfolding runs
@@ -125,20 +113,20 @@ one-stocked = (omega arith, refl)
 pub any-stores-shut : AnyStores (calling step) → ⊥
 any-stores-shut h =
     apart (byteAt 0 10) peeked-differ (λ e. omega (arith, e))
-    (h size log (box 1) (stocked 1) peeked (omega arith) (omega arith) (one .fits) (stocked-one .fits) (asked peeked-one) one-stocked
-    (one .up) (stocked-one .up) (named _ (peeked-one .names)) (never-six _ (peeked-one .six)))
+    (h size log (box 1) (stocked 1) peeked (omega arith) (omega arith) (one-ready .fits) (stocked-ready .fits) (asked peeked-one)
+    one-stocked (one-ready .up) (stocked-ready .up) (named _ (names-in peeked-one)) (never-in peeked-one))
 
 -- a block of sales that one of them has
-shorter-one : Ready log (shorter 1)
+shorter-ready : Ready log (shorter 1)
 unfolding runs
-shorter-one = record { fits = fits-box 1 _ 1 refl; up = refl }
+shorter-ready = record { fits = fits-box 1 _ 1 refl; up = refl }
 
 abbrev second : List Asked
 second = askPin 0 sales 1 ∷ []
 
 second-one : Served namedTest (box 1) second
 unfolding runs
-second-one = record { fits = refl; names = refl; six = refl }
+second-one = record { fits = refl; serves = refl }
 
 second-differ : Differ (refusalAt 0) (receipts (served (box 1) second)) (receipts (served (shorter 1) second)) 0 4
 unfolding runs
@@ -151,20 +139,42 @@ one-shorter = (omega arith, refl)
 pub any-rows-shut : AnyRows (calling step) → ⊥
 any-rows-shut h =
     apart (refusalAt 0) second-differ (λ e. omega (arith, e))
-    (h size log (box 1) (shorter 1) second (omega arith) (omega arith) (one .fits) (shorter-one .fits) (asked second-one) one-shorter
-    (one .up) (shorter-one .up) (named _ (second-one .names)) (never-six _ (second-one .six)))
+    (h size log (box 1) (shorter 1) second (omega arith) (omega arith) (one-ready .fits) (shorter-ready .fits) (asked second-one)
+    one-shorter (one-ready .up) (shorter-ready .up) (named _ (names-in second-one)) (never-in second-one))
+
+-- of block sizes there is nothing to refute: where there is a block at all, rows and store say what its size is
+sized-up : (p at : ℕ) (b : Box) → p < 2 ^ 64 → at < 2 ^ 64 → FitsBox b → setUpIn (calling step) p at b .result ≡ 0
+    → SizedFor p (opened (b .lent))
+sized-up p at b fp fat f up =
+    demand-3 (b .lent) p at (b .cap) (b .answer) [] (f .lent) fp fat (f .cap) (f .answer) tt .0 .accepted .0 up .0 .0
+
+pub one-block-size : (p q at to : ℕ) (small large : Box) → p < 2 ^ 64 → q < 2 ^ 64 → at < 2 ^ 64 → to < 2 ^ 64 → FitsBox small
+    → FitsBox large
+    → OneRows small large
+    → OneStore small large
+    → setUpIn (calling step) p at small .result ≡ 0
+    → setUpIn (calling step) q to large .result ≡ 0
+    → 0 < storeBlocks (small .lent .rows)
+    → p ≡ q
+unfolding opened
+one-block-size p q at to small large fp fq fat fto fs fl rows store s l some =
+    let n = storeBlocks (small .lent .rows) in
+    let first : length (small .lent .store) ≡ n * p = sized-up p at small fp fat fs s .store in
+    let second : length (large .lent .store) ≡ storeBlocks (large .lent .rows) * q = sized-up q to large fq fto fl l .store in
+    let one : n * p ≡ n * q = sym first ∙ ap length store ∙ second ∙ ap (λ (r : List ℕ). storeBlocks r * q) (sym rows) in
+    sym (mul-div-cancel-left p some) ∙ ap (λ (x : ℕ). x / n) one ∙ mul-div-cancel-left q some
 
 -- a position between those of the two
-one-later : Ready 102 (box 1)
+later-ready : Ready 102 (box 1)
 unfolding runs
-one-later = record { fits = one .fits; up = refl }
+later-ready = record { fits = one-ready .fits; up = refl }
 
 abbrev between : List Asked
 between = AskInserted 101 ∷ []
 
 between-one : Served namedTest (box 1) between
 unfolding runs
-between-one = record { fits = refl; names = refl; six = refl }
+between-one = record { fits = refl; serves = refl }
 
 between-differ : Differ (refusalAt 0) (receipts (served (box 1) between)) (receipts (servedAt 102 (box 1) between)) 0 15
 unfolding runs
@@ -173,14 +183,14 @@ between-differ = record { first = refl; second = refl }
 pub any-positions-shut : AnyPositions (calling step) → ⊥
 any-positions-shut h =
     apart (refusalAt 0) between-differ (λ e. omega (arith, e))
-    (h size log 102 (box 1) (box 1) between (omega arith) (omega arith) (omega arith) (one .fits) (one .fits) (asked between-one)
-    (omega arith, refl, refl) (one .up) (one-later .up) (named _ (between-one .names)) (never-six _ (between-one .six)))
+    (h size log 102 (box 1) (box 1) between (omega arith) (omega arith) (omega arith) (one-ready .fits) (one-ready .fits)
+    (asked between-one) (omega arith, refl, refl) (one-ready .up) (later-ready .up) (named _ (names-in between-one)) (never-in between-one))
 
 -- ---- of the pins
 -- the buffer has another page in the smaller pool, and this one, unpinned, in the larger
 unpinned-one : Served (sinceTest (λ k. false)) (box 1) afterUnpin
 unfolding runs
-unpinned-one = record { fits = refl; names = refl; six = refl }
+unpinned-one = record { fits = refl; serves = refl }
 
 unpinned-differ : Differ (refusalAt 3) (receipts (served (box 1) afterUnpin)) (receipts (served (box 2) afterUnpin)) 0 8
 unfolding runs
@@ -189,13 +199,13 @@ unpinned-differ = record { first = refl; second = refl }
 pub given-back-shut : GivenBackToo (calling step) → ⊥
 given-back-shut h =
     apart (refusalAt 3) unpinned-differ (λ e. omega (arith, e))
-    (h size log (box 1) (box 2) afterUnpin (omega arith) (omega arith) (one .fits) (two .fits) (asked unpinned-one) one-two (one .up)
-    (two .up) (named-since _ _ (unpinned-one .names)) (never-six _ (unpinned-one .six)))
+    (h size log (box 1) (box 2) afterUnpin (omega arith) (omega arith) (one-ready .fits) (two-ready .fits) (asked unpinned-one) one-two
+    (one-ready .up) (two-ready .up) (named-since _ _ (names-in unpinned-one)) (never-in unpinned-one))
 
 -- holder 1 names holder 0's pin, which takes its own
 other-one : Served (byTest 1) (box 1) afterOther
 unfolding runs
-other-one = record { fits = refl; names = refl; six = refl }
+other-one = record { fits = refl; serves = refl }
 
 other-differ : Differ (refusalAt 5) (receipts (served (box 1) afterOther)) (receipts (served (box 2) afterOther)) 0 8
 unfolding runs
@@ -204,8 +214,8 @@ other-differ = record { first = refl; second = refl }
 pub any-holders-shut : AnyHolders (calling step) → ⊥
 any-holders-shut h =
     apart (refusalAt 5) other-differ (λ e. omega (arith, e))
-    (h size log (box 1) (box 2) afterOther (omega arith) (omega arith) (one .fits) (two .fits) (asked other-one) one-two (one .up)
-    (two .up) (named-by 1 _ (other-one .names)) (never-six _ (other-one .six)))
+    (h size log (box 1) (box 2) afterOther (omega arith) (omega arith) (one-ready .fits) (two-ready .fits) (asked other-one) one-two
+    (one-ready .up) (two-ready .up) (named-by 1 _ (names-in other-one)) (never-in other-one))
 
 -- ---- of 6
 both-named : namedTest (served (box 1) both) ≡ true
@@ -215,93 +225,11 @@ both-named = refl
 pub even-at-six-shut : EvenAtSix (calling step) → ⊥
 even-at-six-shut h =
     apart (refusalAt 1) both-differ (λ e. omega (arith, e))
-    (h size log (box 1) (box 2) both (omega arith) (omega arith) (one .fits) (two .fits) (asked both-two) one-two (one .up) (two .up)
-    (named _ both-named) tt)
+    (h size log (box 1) (box 2) both (omega arith) (omega arith) (one-ready .fits) (two-ready .fits) (asked both-two) one-two
+    (one-ready .up) (two-ready .up) (named _ both-named) tt)
 
 pub large-never-shut : LargeNever (calling step) → ⊥
 large-never-shut h =
     apart (refusalAt 1) both-differ (λ e. omega (arith, e))
-    (h size log (box 1) (box 2) both (omega arith) (omega arith) (one .fits) (two .fits) (asked both-two) one-two (one .up) (two .up)
-    (named _ both-named) (never-six _ (both-two .six)))
-
--- ---- of the receipts
--- one list for all of them
-served-one : Served namedTest (box 1) oneByOne
-unfolding runs
-served-one = record { fits = refl; names = refl; six = refl }
-
--- what the receipts of the two pools would have more
-abbrev smaller : {A : Type 0} → (Asked → Outcome → A) → List Receipt × List A
-smaller g = (receipts (served (box 1) oneByOne), each g (served (box 1) oneByOne))
-
-abbrev larger : {A : Type 0} → (Asked → Outcome → A) → List Receipt × List A
-larger g = (receipts (served (box 2) oneByOne), each g (served (box 2) oneByOne))
-
-showing : {A : Type 0} (g : Asked → Outcome → A) (f : List Receipt × List A → ℕ) {x y : ℕ} → Differ f (smaller g) (larger g) x y → x ≢ y
-    → Showing g (calling step) → ⊥
-showing g f d ne h =
-    apart f d ne
-    (h size log (box 1) (box 2) oneByOne (omega arith) (omega arith) (one .fits) (two .fits) (asked served-one) one-two (one .up) (two .up)
-    (named _ (served-one .names)) (never-six _ (served-one .six)))
-
--- of call i
-abbrev more : ℕ → List Receipt × List ℕ → ℕ
-more i r = getD (r .1) i 0
-
--- the second page has the one buffer, or another
-numbers : Differ (more 3) (smaller (wordOf pinning 0)) (larger (wordOf pinning 0)) 0 1
-unfolding runs
-numbers = record { first = refl; second = refl }
-
-pub same-numbers-shut : SameNumbers (calling step) → ⊥
-same-numbers-shut = showing _ (more 3) numbers (λ e. omega (arith, e))
-
-
--- a hit in the larger pool only
-hits : Differ (more 7) (smaller (wordOf pinning 1)) (larger (wordOf pinning 1)) 0 1
-unfolding runs
-hits = record { first = refl; second = refl }
-
-pub same-hits-shut : SameHits (calling step) → ⊥
-same-hits-shut = showing _ (more 7) hits (λ e. omega (arith, e))
-
--- the smaller one writes the first page back for the second, and probes
-wrote : Differ (more 3) (smaller (wordOf pinning 2)) (larger (wordOf pinning 2)) 1 0
-unfolding runs
-wrote = record { first = refl; second = refl }
-
-pub same-wrote-shut : SameWrote (calling step) → ⊥
-same-wrote-shut = showing _ (more 3) wrote (λ e. omega (arith, e))
-
-probes : Differ (more 3) (smaller (wordOf pinning 3)) (larger (wordOf pinning 3)) 2 0
-unfolding runs
-probes = record { first = refl; second = refl }
-
-pub same-probes-shut : SameProbes (calling step) → ⊥
-same-probes-shut = showing _ (more 3) probes (λ e. omega (arith, e))
-
--- so its checkpoint finds nothing to write
-counts : Differ (more 5) (smaller (wordOf writing 0)) (larger (wordOf writing 0)) 0 1
-unfolding runs
-counts = record { first = refl; second = refl }
-
-pub same-counts-shut : SameCounts (calling step) → ⊥
-same-counts-shut = showing _ (more 5) counts (λ e. omega (arith, e))
-
--- its peek finds the page in the store, with its checksum; the pool's page has none yet
-places : Differ (more 4) (smaller (wordOf peeking 0)) (larger (wordOf peeking 0)) 0 1
-unfolding runs
-places = record { first = refl; second = refl }
-
-pub same-places-shut : SamePlaces (calling step) → ⊥
-same-places-shut = showing _ (more 4) places (λ e. omega (arith, e))
-
-abbrev byteOf : ℕ → ℕ → List Receipt × List (List ℕ) → ℕ
-byteOf i k r = getD (getD (r .1) i []) k 0
-
-bytes : Differ (byteOf 4 8) (smaller wholeBytes) (larger wholeBytes) 101 0
-unfolding runs
-bytes = record { first = refl; second = refl }
-
-pub same-bytes-shut : SameBytes (calling step) → ⊥
-same-bytes-shut = showing _ (byteOf 4 8) bytes (λ e. omega (arith, e))
+    (h size log (box 1) (box 2) both (omega arith) (omega arith) (one-ready .fits) (two-ready .fits) (asked both-two) one-two
+    (one-ready .up) (two-ready .up) (named _ both-named) (never-in both-two))

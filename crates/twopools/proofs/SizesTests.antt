@@ -53,7 +53,7 @@ use Rattle.twopools.specs.WrongSizes.{
   NamedByAny,
   each,
   kindOf,
-  wordOf,
+  answerWord,
   wholeBytes,
   boxWith,
   box,
@@ -135,12 +135,15 @@ unfoldable pub neverTest : List Turn → Bool
 neverTest [] = true
 neverTest (t ∷ ts) = not (eqb (t .ended .result) 6) && neverTest ts
 
-pub never-six : (ts : List Turn) → neverTest ts ≡ true → NeverSix ts
+never-six : (ts : List Turn) → neverTest ts ≡ true → NeverSix ts
 unfolding neverTest NeverSix
 never-six [] e = tt
 never-six (t ∷ ts) e =
     let six = eqb (t .ended .result) 6 in
     ((λ z. never (eq-eqb _ 6 z) (not-true six (and-left (not six) _ e))), never-six ts (and-right (not six) _ e))
+
+unfoldable pub servedTest : (List Turn → Bool) → List Turn → Bool
+servedTest test ts = test ts && neverTest ts
 
 fits-asked : (calls : List Asked) → FitsMade (map made (map (resolve (λ k. 0)) calls)) → FitsAsked calls
 fits-asked [] h = tt
@@ -160,8 +163,8 @@ byteAt i k rs = getD (getD (map (λ (r : Receipt). r .bytes) rs) i []) k 0
 
 -- all of it
 unfoldable pub runs : Unit {0}
-unfolding computes resolve noPins entered pinsAfter readBytes bytesBy blockBy receipt turns receipts each kindOf wordOf wholeBytes boxWith
-    namesTest namedTest sinceTest byTest neverTest refusalAt byteAt
+unfolding computes resolve noPins entered pinsAfter readBytes bytesBy blockBy receipt turns receipts each kindOf answerWord wholeBytes
+    boxWith namesTest namedTest sinceTest byTest neverTest servedTest refusalAt byteAt
 runs = tt
 
 abbrev pub servedAt : ℕ → Box → List Asked → List Turn
@@ -175,13 +178,13 @@ pub record Ready (at : ℕ) (b : Box) : Type 0 where
   pub fits : FitsBox b
   pub up : setUpIn (calling step) size at b .result ≡ 0
 
-pub one : Ready log (box 1)
+pub one-ready : Ready log (box 1)
 unfolding runs
-one = record { fits = fits-box 2 _ 1 refl; up = refl }
+one-ready = record { fits = fits-box 2 _ 1 refl; up = refl }
 
-pub two : Ready log (box 2)
+pub two-ready : Ready log (box 2)
 unfolding runs
-two = record { fits = fits-box 2 _ 2 refl; up = refl }
+two-ready = record { fits = fits-box 2 _ 2 refl; up = refl }
 
 pub one-two : Boxes (box 1) (box 2)
 unfolding runs
@@ -190,11 +193,19 @@ one-two = (omega arith, refl, refl)
 -- a list that fits, and what a box serves of it: by a test of the pins, with no 6
 pub record Served (test : List Turn → Bool) (b : Box) (calls : List Asked) : Type 0 where
   pub fits : fitsCalls (map (resolve (λ k. 0)) calls) ≡ true
-  pub names : test (served b calls) ≡ true
-  pub six : neverTest (served b calls) ≡ true
+  pub serves : servedTest test (served b calls) ≡ true
 
-pub asked : {test : List Turn → Bool} {b : Box} {calls : List Asked} → Served test b calls → FitsAsked calls
-asked {calls = calls} s = fits-asked calls (fits-calls _ (s .fits))
+module _ {test : List Turn → Bool} {b : Box} {calls : List Asked} (s : Served test b calls) where
+  pub asked : FitsAsked calls
+  asked = fits-asked calls (fits-calls _ (s .fits))
+
+  pub names-in : test (served b calls) ≡ true
+  unfolding servedTest
+  names-in = and-left (test (served b calls)) _ (s .serves)
+
+  pub never-in : NeverSix (served b calls)
+  unfolding servedTest
+  never-in = never-six _ (and-right (test (served b calls)) _ (s .serves))
 
 -- a number that differs
 pub record Differ {A : Type 0} (f : A → ℕ) (a b : A) (x y : ℕ) : Type 0 where

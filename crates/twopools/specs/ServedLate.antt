@@ -24,8 +24,8 @@ use Rattle.twopools.specs.TwoSizes.{FitsBox, setUpIn, servedIn}
 use Rattle.twopools.specs.WrongSizes.{Boxes, box, askPin}
 
 -- ---- the list
--- holders 0 and 1 share a page and one writes it; sales gets a third block; stock comes, goes and is dropped. In 2 buffers the written page
--- gives way to the last block of sales, is peeked at in the store, and comes back
+-- holders 0 and 1 share a page, and one of them writes it; sales gets a third block; stock is pinned, given back and dropped. In 2 buffers
+-- the written page gives way to another one of sales, is found in the store by the peek, and comes back
 unfoldable pub late : List Asked
 late =
     askPin 0 sales 0
@@ -46,7 +46,7 @@ late =
     ∷ askPin 1 sales 0
     ∷ []
 
--- the page that none of the two buffers has
+-- a page that neither of the 2 buffers has; both are pinned
 abbrev pub oneMore : Asked
 oneMore = askPin 0 sales 1
 
@@ -57,7 +57,7 @@ gives refusal bytes block = record { refusal = refusal; bytes = bytes; block = b
 abbrev pub done : Receipt
 done = gives 0 [] 0
 
--- bytes 8 and 9 left out, which are the checksum in the one and zeros in the other
+-- with bytes 8 and 9 as zeros: where the store's block is handed back, its checksum stands there
 unfoldable pub writtenPage : List ℕ
 writtenPage = written 100 10 (77 ∷ []) (replicate size 0)
 

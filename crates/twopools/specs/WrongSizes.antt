@@ -76,7 +76,8 @@ AnyStores = Sizes (λ small large. Fewer small large × OneRows small large) Nam
 abbrev pub AnyRows : Pool → Type 0
 AnyRows = Sizes (λ small large. Fewer small large × OneStore small large) Named SmallNever receipts
 
--- set up with any two positions. Block sizes are not to be had apart: where there is a block at all, rows and store say what its size is
+-- set up with any two positions. Two block sizes are not to be had: where there is a block at all, rows and store say what its size is
+-- (`one-block-size`)
 abbrev pub AnyPositions : Pool → Type 0
 AnyPositions pool =
     (p at to : ℕ) (small large : Box) (calls : List Asked) → p < 2 ^ 64 → at < 2 ^ 64 → to < 2 ^ 64 → FitsBox small → FitsBox large
@@ -89,7 +90,7 @@ AnyPositions pool =
     → receipts (servedIn pool p at small calls) ≡ receipts (servedIn pool p to large calls)
 
 -- ---- of the pins
--- those given back already too: whatever was held before the call or before one of those before it
+-- those given back too: all that were held before this call or before one of those before it
 abbrev pub withHeld : (ℕ → Bool) → Pins → Pins
 withHeld held p = record { made = p .made; number = p .number; holder = p .holder; held = held }
 
@@ -114,7 +115,7 @@ abbrev pub AnyHolders : Pool → Type 0
 AnyHolders = Sizes Boxes NamedByAny SmallNever receipts
 
 -- ---- of 6
--- it may be answered; it may be answered by the smaller
+-- it may be answered; the larger never answers it, but the smaller may
 abbrev pub EvenAtSix : Pool → Type 0
 EvenAtSix = Sizes Boxes Named (λ small large. Unit {0}) receipts
 
@@ -154,31 +155,31 @@ kindOf (AskInserted p) = 0
 kindOf (AskFlushed p) = 0
 
 -- word i of the answers of one kind
-unfoldable pub wordOf : ℕ → ℕ → Asked → Outcome → ℕ
-wordOf kind i c o = cond (eqb (kindOf c) kind) (getD (o .answer) i 0) 0
+unfoldable pub answerWord : ℕ → ℕ → Asked → Outcome → ℕ
+answerWord kind i c o = cond (eqb (kindOf c) kind) (getD (o .answer) i 0) 0
 
 -- of a pin the buffer number, hit, wrote and probes
 abbrev pub SameNumbers : Pool → Type 0
-SameNumbers = Showing (wordOf pinning 0)
+SameNumbers = Showing (answerWord pinning 0)
 
 abbrev pub SameHits : Pool → Type 0
-SameHits = Showing (wordOf pinning 1)
+SameHits = Showing (answerWord pinning 1)
 
 abbrev pub SameWrote : Pool → Type 0
-SameWrote = Showing (wordOf pinning 2)
+SameWrote = Showing (answerWord pinning 2)
 
 abbrev pub SameProbes : Pool → Type 0
-SameProbes = Showing (wordOf pinning 3)
+SameProbes = Showing (answerWord pinning 3)
 
 -- the count of pages that a flush or checkpoint has written
 abbrev pub SameCounts : Pool → Type 0
-SameCounts = Showing (wordOf writing 0)
+SameCounts = Showing (answerWord writing 0)
 
 -- whether a peek has found its page in the pool
 abbrev pub SamePlaces : Pool → Type 0
-SamePlaces = Showing (wordOf peeking 0)
+SamePlaces = Showing (answerWord peeking 0)
 
--- a page's bytes 8 and 9
+-- the bytes with a page's 8 and 9
 unfoldable pub wholeBytes : Asked → Outcome → List ℕ
 wholeBytes c o = let page = part o in cond (eqb (kindOf c) peeking) page (o .bytes)
 
@@ -232,7 +233,7 @@ oneByOne =
 abbrev pub afterUnpin : List Asked
 afterUnpin = askPin 0 sales 0 ∷ AskUnpin 0 0 ∷ askPin 0 sales 1 ∷ AskRead 0 0 10 (0 ∷ []) ∷ []
 
--- so is holder 1's own: its pin went when it named holder 0's
+-- so is holder 1's own pin, which went with the unpin that named holder 0's
 abbrev pub afterOther : List Asked
 afterOther =
     askPin 0 sales 0
