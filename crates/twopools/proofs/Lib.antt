@@ -4,3 +4,7 @@ pub mod Twins
 pub mod After
 pub mod OneCall
 pub mod TwoSizes
+pub mod SizesTests
+pub mod ServedLate
+pub mod ShutSizes
+pub mod ShutReceipts
