@@ -36,9 +36,9 @@ abbrev pub servedIn : Pool → ℕ → ℕ → Box → List Asked → List Turn
 servedIn pool p at b calls = turns pool (b .slices) (setUpIn pool p at b .lent) noPins calls
 
 -- TWO SIZES, of a pool: N and M buffers, N ≤ M, set up with one block size and position over equal stores and rows, get one list of calls
--- in which a call on a buffer names one of its holder's pins not yet given back. If the smaller never answers 6, both give the same refusals,
--- bytes (a page's 8 and 9 left out) and block numbers at every call. Whatever else is lent, the number of buckets and the cap are each
--- box's own; which pins were accepted, and whether 6 is answered, is asked of the smaller alone
+-- in which a call on a buffer names one of its holder's pins not yet given back. If the smaller never answers 6, both give the same
+-- refusals, bytes (a page's 8 and 9 left out) and block numbers at every call. Whatever else is lent, the number of buckets and the cap are
+-- each box's own; which pins were accepted, and whether 6 is answered, is asked of the smaller alone
 abbrev pub TwoSizesFor : Pool → Type 0
 TwoSizesFor pool =
     (p at : ℕ) (small large : Box) (calls : List Asked) → p < 2 ^ 64 → at < 2 ^ 64 → FitsBox small → FitsBox large → FitsAsked calls
