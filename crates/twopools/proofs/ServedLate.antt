@@ -9,35 +9,35 @@ use Rattle.shelf.specs.Statement.{outcomeOf, Pool}
 use Rattle.shelf.specs.Trial.{log}
 use Rattle.twopools.specs.Asked.{Asked}
 use Rattle.twopools.specs.Pins.{Pins}
-use Rattle.twopools.specs.Receipts.{Receipt, receipt, calledBy, pinsThen, turns, receipts}
-use Rattle.twopools.specs.WrongSizes.{Boxes, box}
+use Rattle.twopools.specs.Receipts.{Receipt, receipt, calledBy, pinsThen, turns, receiptsOf}
+use Rattle.twopools.specs.WrongSizes.{Setups, setup}
 use Rattle.twopools.specs.ServedLate.{late, oneMore, gives, done, writtenPage, lateReceipts, ServedLate}
-use Rattle.twopools.proofs.SizesTests.{namedTest, named, runs, served, fits-box, Ready, two-ready, Served, asked, names-in, never-in}
+use Rattle.twopools.proofs.SizesTests.{namedTest, named, runs, served, fits-setup, Ready, two-ready, Served, asked, names-in, never-in}
 
-three-ready : Ready log (box 3)
+three-ready : Ready log (setup 3)
 unfolding runs
-three-ready = record { fits = fits-box 2 _ 3 refl; up = refl }
+three-ready = record { fits = fits-setup 2 _ 3 refl; up = refl }
 
-two-three : Boxes (box 2) (box 3)
+two-three : Setups (setup 2) (setup 3)
 unfolding runs
 two-three = (omega arith, refl, refl)
 
-late-two : Served namedTest (box 2) late
+late-two : Served namedTest (setup 2) late
 unfolding runs late
 late-two = record { fits = refl; serves = refl }
 
-six : receipts (served (box 2) (late ++ (oneMore ∷ []))) ≡ lateReceipts ++ (gives 6 [] 0 ∷ [])
+six : receiptsOf (served (setup 2) (late ++ (oneMore ∷ []))) ≡ lateReceipts ++ (gives 6 [] 0 ∷ [])
 unfolding runs late lateReceipts writtenPage
 six = refl
 
-accepted : receipts (served (box 3) (late ++ (oneMore ∷ []))) ≡ lateReceipts ++ (done ∷ [])
+accepted : receiptsOf (served (setup 3) (late ++ (oneMore ∷ []))) ≡ lateReceipts ++ (done ∷ [])
 unfolding runs late lateReceipts writtenPage
 accepted = refl
 
 -- the receipts of a list's beginning are the beginning of its receipts
 begun : (pool : Pool) (slices : ℕ → List ℕ) (m : Lent) (p : Pins) (cs ds : List Asked)
-    → take (length cs) (receipts (turns pool slices m p (cs ++ ds))) ≡ receipts (turns pool slices m p cs)
-unfolding turns receipts
+    → take (length cs) (receiptsOf (turns pool slices m p (cs ++ ds))) ≡ receiptsOf (turns pool slices m p cs)
+unfolding turns receiptsOf
 begun pool slices m p [] ds = refl
 begun pool slices m p (c ∷ cs) ds =
     let r = calledBy pool slices m p c in
@@ -52,7 +52,7 @@ pub served-late : ServedLate
 served-late =
     record {
       fits = (two-ready .fits, three-ready .fits, asked late-two);
-      boxes = two-three;
+      setups = two-three;
       smallUp = two-ready .up;
       largeUp = three-ready .up;
       named = named _ (names-in late-two);

@@ -12,7 +12,7 @@ use Rattle.bufmodel.specs.Step.{step}
 use Rattle.shelf.specs.Statement.{outcomeOf, calling}
 use Rattle.shelf.specs.Trial.{size, log}
 use Rattle.twopools.specs.Asked.{Asked}
-use Rattle.twopools.specs.Receipts.{Receipt, Turn, receipts}
+use Rattle.twopools.specs.Receipts.{Receipt, Turn, receiptsOf}
 use Rattle.twopools.specs.WrongSizes.{
   each,
   Showing,
@@ -29,7 +29,7 @@ use Rattle.twopools.specs.WrongSizes.{
   SamePlaces,
   wholeBytes,
   SameBytes,
-  box,
+  setup,
   oneByOne,
 }
 use Rattle.twopools.proofs.SizesTests.{
@@ -49,21 +49,21 @@ use Rattle.twopools.proofs.SizesTests.{
 }
 
 -- ---- the list, and what the receipts of the two pools would have more
-served-one : Served namedTest (box 1) oneByOne
+served-one : Served namedTest (setup 1) oneByOne
 unfolding runs
 served-one = record { fits = refl; serves = refl }
 
 abbrev smaller : {A : Type 0} → (Asked → Outcome → A) → List Receipt × List A
-smaller g = (receipts (served (box 1) oneByOne), each g (served (box 1) oneByOne))
+smaller g = (receiptsOf (served (setup 1) oneByOne), each g (served (setup 1) oneByOne))
 
 abbrev larger : {A : Type 0} → (Asked → Outcome → A) → List Receipt × List A
-larger g = (receipts (served (box 2) oneByOne), each g (served (box 2) oneByOne))
+larger g = (receiptsOf (served (setup 2) oneByOne), each g (served (setup 2) oneByOne))
 
 showing : {A : Type 0} (g : Asked → Outcome → A) (f : List Receipt × List A → ℕ) {x y : ℕ} → Differ f (smaller g) (larger g) x y → x ≢ y
     → Showing g (calling step) → ⊥
 showing g f d ne h =
     apart f d ne
-    (h size log (box 1) (box 2) oneByOne (omega arith) (omega arith) (one-ready .fits) (two-ready .fits) (asked served-one) one-two
+    (h size log (setup 1) (setup 2) oneByOne (omega arith) (omega arith) (one-ready .fits) (two-ready .fits) (asked served-one) one-two
     (one-ready .up) (two-ready .up) (named _ (names-in served-one)) (never-in served-one))
 
 -- what each call answers: its kind, and the four words of the answer
@@ -100,11 +100,11 @@ moreWords =
     ∷ (pinning ∷ 0 ∷ 1 ∷ 0 ∷ 0 ∷ [])
     ∷ []
 
-few-words : each words (served (box 1) oneByOne) ≡ fewWords
+few-words : each words (served (setup 1) oneByOne) ≡ fewWords
 unfolding runs
 few-words = refl
 
-more-words : each words (served (box 2) oneByOne) ≡ moreWords
+more-words : each words (served (setup 2) oneByOne) ≡ moreWords
 unfolding runs
 more-words = refl
 

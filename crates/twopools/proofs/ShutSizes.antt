@@ -14,8 +14,8 @@ use Rattle.shelf.specs.Statement.{Pool, calling}
 use Rattle.shelf.specs.Trial.{size, log, sales, stock, blockOf}
 use Rattle.shelf.proofs.Demand.{demand-3}
 use Rattle.twopools.specs.Asked.{Asked, AskPeek, AskInserted}
-use Rattle.twopools.specs.Receipts.{receipts}
-use Rattle.twopools.specs.TwoSizes.{Box, FitsBox, setUpIn, TwoSizesFor}
+use Rattle.twopools.specs.Receipts.{receiptsOf}
+use Rattle.twopools.specs.TwoSizes.{Setup, FitsSetup, setUpIn, TwoSizesFor}
 use Rattle.twopools.specs.WrongSizes.{
   Fewer,
   OneRows,
@@ -26,10 +26,11 @@ use Rattle.twopools.specs.WrongSizes.{
   AnyRows,
   AnyPositions,
   GivenBackToo,
+  AnyPins,
   AnyHolders,
   EvenAtSix,
   LargeNever,
-  box,
+  setup,
   stocked,
   shorter,
   askPin,
@@ -49,7 +50,7 @@ use Rattle.twopools.proofs.SizesTests.{
   runs,
   servedAt,
   served,
-  fits-box,
+  fits-setup,
   Ready,
   one-ready,
   two-ready,
@@ -69,17 +70,17 @@ right-parts pool h p at small large calls fp fat fs fl fc b = h p at small large
 pub parts-right : (pool : Pool) → RightParts pool → TwoSizesFor pool
 parts-right pool h p at small large calls fp fat fs fl fc few rows store = h p at small large calls fp fat fs fl fc (few, rows, store)
 
--- ---- of the boxes
+-- ---- of the two set-ups
 -- two pages at once, in two buffers and in one
-both-two : Served namedTest (box 2) both
+both-two : Served namedTest (setup 2) both
 unfolding runs
 both-two = record { fits = refl; serves = refl }
 
-both-differ : Differ (refusalAt 1) (receipts (served (box 1) both)) (receipts (served (box 2) both)) 6 0
+both-differ : Differ (refusalAt 1) (receiptsOf (served (setup 1) both)) (receiptsOf (served (setup 2) both)) 6 0
 unfolding runs
 both-differ = record { first = refl; second = refl }
 
-two-one : OneRows (box 2) (box 1) × OneStore (box 2) (box 1)
+two-one : OneRows (setup 2) (setup 1) × OneStore (setup 2) (setup 1)
 unfolding runs
 two-one = (refl, refl)
 
@@ -87,69 +88,69 @@ pub any-sizes-shut : AnySizes (calling step) → ⊥
 any-sizes-shut h =
     apart (refusalAt 1) both-differ (λ e. omega (arith, e))
     (sym
-    (h size log (box 2) (box 1) both (omega arith) (omega arith) (two-ready .fits) (one-ready .fits) (asked both-two) two-one
+    (h size log (setup 2) (setup 1) both (omega arith) (omega arith) (two-ready .fits) (one-ready .fits) (asked both-two) two-one
     (two-ready .up) (one-ready .up) (named _ (names-in both-two)) (never-in both-two)))
 
 -- two blocks of stock
 stocked-ready : Ready log (stocked 1)
 unfolding runs
-stocked-ready = record { fits = fits-box 2 _ 1 refl; up = refl }
+stocked-ready = record { fits = fits-setup 2 _ 1 refl; up = refl }
 
 abbrev peeked : List Asked
 peeked = AskPeek (blockOf stock 0) ∷ []
 
-peeked-one : Served namedTest (box 1) peeked
+peeked-one : Served namedTest (setup 1) peeked
 unfolding runs
 peeked-one = record { fits = refl; serves = refl }
 
-peeked-differ : Differ (byteAt 0 10) (receipts (served (box 1) peeked)) (receipts (served (stocked 1) peeked)) 0 77
+peeked-differ : Differ (byteAt 0 10) (receiptsOf (served (setup 1) peeked)) (receiptsOf (served (stocked 1) peeked)) 0 77
 unfolding runs
 peeked-differ = record { first = refl; second = refl }
 
-one-stocked : Fewer (box 1) (stocked 1) × OneRows (box 1) (stocked 1)
+one-stocked : Fewer (setup 1) (stocked 1) × OneRows (setup 1) (stocked 1)
 unfolding runs
 one-stocked = (omega arith, refl)
 
 pub any-stores-shut : AnyStores (calling step) → ⊥
 any-stores-shut h =
     apart (byteAt 0 10) peeked-differ (λ e. omega (arith, e))
-    (h size log (box 1) (stocked 1) peeked (omega arith) (omega arith) (one-ready .fits) (stocked-ready .fits) (asked peeked-one)
+    (h size log (setup 1) (stocked 1) peeked (omega arith) (omega arith) (one-ready .fits) (stocked-ready .fits) (asked peeked-one)
     one-stocked (one-ready .up) (stocked-ready .up) (named _ (names-in peeked-one)) (never-in peeked-one))
 
 -- a block of sales that one of them has
 shorter-ready : Ready log (shorter 1)
 unfolding runs
-shorter-ready = record { fits = fits-box 1 _ 1 refl; up = refl }
+shorter-ready = record { fits = fits-setup 1 _ 1 refl; up = refl }
 
 abbrev second : List Asked
 second = askPin 0 sales 1 ∷ []
 
-second-one : Served namedTest (box 1) second
+second-one : Served namedTest (setup 1) second
 unfolding runs
 second-one = record { fits = refl; serves = refl }
 
-second-differ : Differ (refusalAt 0) (receipts (served (box 1) second)) (receipts (served (shorter 1) second)) 0 4
+second-differ : Differ (refusalAt 0) (receiptsOf (served (setup 1) second)) (receiptsOf (served (shorter 1) second)) 0 4
 unfolding runs
 second-differ = record { first = refl; second = refl }
 
-one-shorter : Fewer (box 1) (shorter 1) × OneStore (box 1) (shorter 1)
+one-shorter : Fewer (setup 1) (shorter 1) × OneStore (setup 1) (shorter 1)
 unfolding runs
 one-shorter = (omega arith, refl)
 
 pub any-rows-shut : AnyRows (calling step) → ⊥
 any-rows-shut h =
     apart (refusalAt 0) second-differ (λ e. omega (arith, e))
-    (h size log (box 1) (shorter 1) second (omega arith) (omega arith) (one-ready .fits) (shorter-ready .fits) (asked second-one)
+    (h size log (setup 1) (shorter 1) second (omega arith) (omega arith) (one-ready .fits) (shorter-ready .fits) (asked second-one)
     one-shorter (one-ready .up) (shorter-ready .up) (named _ (names-in second-one)) (never-in second-one))
 
 -- of block sizes there is nothing to refute: where there is a block at all, rows and store say what its size is
-sized-up : (p at : ℕ) (b : Box) → p < 2 ^ 64 → at < 2 ^ 64 → FitsBox b → setUpIn (calling step) p at b .result ≡ 0
+sized-up : (p at : ℕ) (b : Setup) → p < 2 ^ 64 → at < 2 ^ 64 → FitsSetup b → setUpIn (calling step) p at b .result ≡ 0
     → SizedFor p (opened (b .lent))
 sized-up p at b fp fat f up =
     demand-3 (b .lent) p at (b .cap) (b .answer) [] (f .lent) fp fat (f .cap) (f .answer) tt .0 .accepted .0 up .0 .0
 
-pub one-block-size : (p q at to : ℕ) (small large : Box) → p < 2 ^ 64 → q < 2 ^ 64 → at < 2 ^ 64 → to < 2 ^ 64 → FitsBox small
-    → FitsBox large
+pub one-block-size : (p q at to : ℕ) (small large : Setup) → p < 2 ^ 64 → q < 2 ^ 64 → at < 2 ^ 64 → to < 2 ^ 64 → FitsSetup small
+    → FitsSetup large
     → OneRows small large
     → OneStore small large
     → setUpIn (calling step) p at small .result ≡ 0
@@ -165,71 +166,76 @@ one-block-size p q at to small large fp fq fat fto fs fl rows store s l some =
     sym (mul-div-cancel-left p some) ∙ ap (λ (x : ℕ). x / n) one ∙ mul-div-cancel-left q some
 
 -- a position between those of the two
-later-ready : Ready 102 (box 1)
+later-ready : Ready 102 (setup 1)
 unfolding runs
 later-ready = record { fits = one-ready .fits; up = refl }
 
 abbrev between : List Asked
 between = AskInserted 101 ∷ []
 
-between-one : Served namedTest (box 1) between
+between-one : Served namedTest (setup 1) between
 unfolding runs
 between-one = record { fits = refl; serves = refl }
 
-between-differ : Differ (refusalAt 0) (receipts (served (box 1) between)) (receipts (servedAt 102 (box 1) between)) 0 15
+between-differ : Differ (refusalAt 0) (receiptsOf (served (setup 1) between)) (receiptsOf (servedAt 102 (setup 1) between)) 0 15
 unfolding runs
 between-differ = record { first = refl; second = refl }
 
 pub any-positions-shut : AnyPositions (calling step) → ⊥
 any-positions-shut h =
     apart (refusalAt 0) between-differ (λ e. omega (arith, e))
-    (h size log 102 (box 1) (box 1) between (omega arith) (omega arith) (omega arith) (one-ready .fits) (one-ready .fits)
+    (h size log 102 (setup 1) (setup 1) between (omega arith) (omega arith) (omega arith) (one-ready .fits) (one-ready .fits)
     (asked between-one) (omega arith, refl, refl) (one-ready .up) (later-ready .up) (named _ (names-in between-one)) (never-in between-one))
 
 -- ---- of the pins
 -- the buffer has another page in the smaller pool, and this one, unpinned, in the larger
-unpinned-one : Served (sinceTest (λ k. false)) (box 1) afterUnpin
+unpinned-one : Served (sinceTest (λ k. false)) (setup 1) afterUnpin
 unfolding runs
 unpinned-one = record { fits = refl; serves = refl }
 
-unpinned-differ : Differ (refusalAt 3) (receipts (served (box 1) afterUnpin)) (receipts (served (box 2) afterUnpin)) 0 8
+unpinned-differ : Differ (refusalAt 3) (receiptsOf (served (setup 1) afterUnpin)) (receiptsOf (served (setup 2) afterUnpin)) 0 8
 unfolding runs
 unpinned-differ = record { first = refl; second = refl }
 
 pub given-back-shut : GivenBackToo (calling step) → ⊥
 given-back-shut h =
     apart (refusalAt 3) unpinned-differ (λ e. omega (arith, e))
-    (h size log (box 1) (box 2) afterUnpin (omega arith) (omega arith) (one-ready .fits) (two-ready .fits) (asked unpinned-one) one-two
+    (h size log (setup 1) (setup 2) afterUnpin (omega arith) (omega arith) (one-ready .fits) (two-ready .fits) (asked unpinned-one) one-two
     (one-ready .up) (two-ready .up) (named-since _ _ (names-in unpinned-one)) (never-in unpinned-one))
 
+-- with more pins it says more
+pub any-pins-shut : AnyPins (calling step) → ⊥
+any-pins-shut h =
+    given-back-shut (λ p at s l calls fp fat fs fl fc b su lu named. h p at s l calls fp fat fs fl fc b su lu tt)
+
 -- holder 1 names holder 0's pin, which takes its own
-other-one : Served (byTest 1) (box 1) afterOther
+other-one : Served (byTest 1) (setup 1) afterOther
 unfolding runs
 other-one = record { fits = refl; serves = refl }
 
-other-differ : Differ (refusalAt 5) (receipts (served (box 1) afterOther)) (receipts (served (box 2) afterOther)) 0 8
+other-differ : Differ (refusalAt 5) (receiptsOf (served (setup 1) afterOther)) (receiptsOf (served (setup 2) afterOther)) 0 8
 unfolding runs
 other-differ = record { first = refl; second = refl }
 
 pub any-holders-shut : AnyHolders (calling step) → ⊥
 any-holders-shut h =
     apart (refusalAt 5) other-differ (λ e. omega (arith, e))
-    (h size log (box 1) (box 2) afterOther (omega arith) (omega arith) (one-ready .fits) (two-ready .fits) (asked other-one) one-two
+    (h size log (setup 1) (setup 2) afterOther (omega arith) (omega arith) (one-ready .fits) (two-ready .fits) (asked other-one) one-two
     (one-ready .up) (two-ready .up) (named-by 1 _ (names-in other-one)) (never-in other-one))
 
 -- ---- of 6
-both-named : namedTest (served (box 1) both) ≡ true
+both-named : namedTest (served (setup 1) both) ≡ true
 unfolding runs
 both-named = refl
 
 pub even-at-six-shut : EvenAtSix (calling step) → ⊥
 even-at-six-shut h =
     apart (refusalAt 1) both-differ (λ e. omega (arith, e))
-    (h size log (box 1) (box 2) both (omega arith) (omega arith) (one-ready .fits) (two-ready .fits) (asked both-two) one-two
+    (h size log (setup 1) (setup 2) both (omega arith) (omega arith) (one-ready .fits) (two-ready .fits) (asked both-two) one-two
     (one-ready .up) (two-ready .up) (named _ both-named) tt)
 
 pub large-never-shut : LargeNever (calling step) → ⊥
 large-never-shut h =
     apart (refusalAt 1) both-differ (λ e. omega (arith, e))
-    (h size log (box 1) (box 2) both (omega arith) (omega arith) (one-ready .fits) (two-ready .fits) (asked both-two) one-two
+    (h size log (setup 1) (setup 2) both (omega arith) (omega arith) (one-ready .fits) (two-ready .fits) (asked both-two) one-two
     (one-ready .up) (two-ready .up) (named _ both-named) (never-in both-two))

@@ -1,4 +1,4 @@
--- What the statements of two sizes assume of a list of calls, as tests; boxes and lists that pass them.
+-- What the statements of two sizes assume of a list of calls, as tests; set-ups and lists that pass them.
 use Prim.Native.Nat.{ℕ}
 use native.Mathlib.Omega.{arith}
 use mathlib.Core.Path.{_≡_, refl, sym, ap, _∙_}
@@ -40,13 +40,13 @@ use Rattle.twopools.specs.Receipts.{
   blockBy,
   receipt,
   turns,
-  receipts,
+  receiptsOf,
   Named,
   NeverSix,
 }
-use Rattle.twopools.specs.TwoSizes.{Box, FitsBox, setUpIn, servedIn}
+use Rattle.twopools.specs.TwoSizes.{Setup, FitsSetup, setUpIn, servedIn}
 use Rattle.twopools.specs.WrongSizes.{
-  Boxes,
+  Setups,
   withHeld,
   NamedSince,
   withHolder,
@@ -55,8 +55,8 @@ use Rattle.twopools.specs.WrongSizes.{
   kindOf,
   answerWord,
   wholeBytes,
-  boxWith,
-  box,
+  setupWith,
+  setup,
 }
 
 -- ---- what is assumed, by tests
@@ -149,9 +149,9 @@ fits-asked : (calls : List Asked) → FitsMade (map made (map (resolve (λ k. 0)
 fits-asked [] h = tt
 fits-asked (c ∷ cs) h = (h .0, fits-asked cs (h .2))
 
-pub fits-box : (blocks : ℕ) (page : List ℕ) (n : ℕ) → fitsLent (boxWith blocks page n .lent) ≡ true → FitsBox (boxWith blocks page n)
-unfolding boxWith
-fits-box blocks page n h = record { lent = fits-lent (boxWith blocks page n .lent) h; cap = omega arith; answer = refl; slices = λ i. refl }
+pub fits-setup : (blocks : ℕ) (page : List ℕ) (n : ℕ) → fitsLent (setupWith blocks page n .lent) ≡ true → FitsSetup (setupWith blocks page n)
+unfolding setupWith
+fits-setup blocks page n h = record { lent = fits-lent (setupWith blocks page n .lent) h; cap = omega arith; answer = refl; slices = λ i. refl }
 
 -- ---- what is computed
 -- the refusal of call i, and byte k of its bytes
@@ -163,39 +163,39 @@ byteAt i k rs = getD (getD (map (λ (r : Receipt). r .bytes) rs) i []) k 0
 
 -- all of it
 unfoldable pub runs : Unit {0}
-unfolding computes resolve noPins entered pinsAfter readBytes bytesBy blockBy receipt turns receipts each kindOf answerWord wholeBytes
-    boxWith namesTest namedTest sinceTest byTest neverTest servedTest refusalAt byteAt
+unfolding computes resolve noPins entered pinsAfter readBytes bytesBy blockBy receipt turns receiptsOf each kindOf answerWord wholeBytes
+    setupWith namesTest namedTest sinceTest byTest neverTest servedTest refusalAt byteAt
 runs = tt
 
-abbrev pub servedAt : ℕ → Box → List Asked → List Turn
+abbrev pub servedAt : ℕ → Setup → List Asked → List Turn
 servedAt at b calls = servedIn (calling step) size at b calls
 
-abbrev pub served : Box → List Asked → List Turn
+abbrev pub served : Setup → List Asked → List Turn
 served = servedAt log
 
--- a box that fits, and whose set up is accepted
-pub record Ready (at : ℕ) (b : Box) : Type 0 where
-  pub fits : FitsBox b
+-- what fits, and is accepted
+pub record Ready (at : ℕ) (b : Setup) : Type 0 where
+  pub fits : FitsSetup b
   pub up : setUpIn (calling step) size at b .result ≡ 0
 
-pub one-ready : Ready log (box 1)
+pub one-ready : Ready log (setup 1)
 unfolding runs
-one-ready = record { fits = fits-box 2 _ 1 refl; up = refl }
+one-ready = record { fits = fits-setup 2 _ 1 refl; up = refl }
 
-pub two-ready : Ready log (box 2)
+pub two-ready : Ready log (setup 2)
 unfolding runs
-two-ready = record { fits = fits-box 2 _ 2 refl; up = refl }
+two-ready = record { fits = fits-setup 2 _ 2 refl; up = refl }
 
-pub one-two : Boxes (box 1) (box 2)
+pub one-two : Setups (setup 1) (setup 2)
 unfolding runs
 one-two = (omega arith, refl, refl)
 
--- a list that fits, and what a box serves of it: by a test of the pins, with no 6
-pub record Served (test : List Turn → Bool) (b : Box) (calls : List Asked) : Type 0 where
+-- a list that fits, and what a pool serves of it: by a test of the pins, with no 6
+pub record Served (test : List Turn → Bool) (b : Setup) (calls : List Asked) : Type 0 where
   pub fits : fitsCalls (map (resolve (λ k. 0)) calls) ≡ true
   pub serves : servedTest test (served b calls) ≡ true
 
-module _ {test : List Turn → Bool} {b : Box} {calls : List Asked} (s : Served test b calls) where
+module _ {test : List Turn → Bool} {b : Setup} {calls : List Asked} (s : Served test b calls) where
   pub asked : FitsAsked calls
   asked = fits-asked calls (fits-calls _ (s .fits))
 

@@ -40,7 +40,7 @@ use Rattle.twopools.specs.Asked.{
   FitsAsked,
 }
 use Rattle.twopools.specs.Pins.{Pins, noPins, Names}
-use Rattle.twopools.specs.Receipts.{Receipt, calledBy, pinsThen, turns, receipts, Named, NeverSix}
+use Rattle.twopools.specs.Receipts.{Receipt, calledBy, pinsThen, turns, receiptsOf, Named, NeverSix}
 use Rattle.twopools.specs.TwoSizes.{setUpIn, TwoSizesFor, TwoSizes}
 use Rattle.twopools.proofs.Booked.{Booked}
 use Rattle.twopools.proofs.Twins.{twin, Twins, held-too}
@@ -139,8 +139,8 @@ module _ (pool : Pool) (slices slices′ : ℕ → List ℕ) where
       → ClaimFor pool k l′ (gets pool slices′ k q cs)
       → Named (turns pool slices m p cs)
       → NeverSix (turns pool slices m p cs)
-      → receipts (turns pool slices m p cs) ≡ receipts (turns pool slices′ k q cs)
-  unfolding turns receipts Named NeverSix
+      → receiptsOf (turns pool slices m p cs) ≡ receiptsOf (turns pool slices′ k q cs)
+  unfolding turns receiptsOf Named NeverSix
   same-receipts [] m k l l′ p q page w few x y names six = refl
   same-receipts (c ∷ cs) m k l l′ p q page w few x y names six =
       let d = resolve (p .number) c in

@@ -92,9 +92,9 @@ turns pool slices m p (c ∷ cs) =
     let r = calledBy pool slices m p c in
     record { pins = p; asked = c; ended = r } ∷ turns pool slices (r .lent) (pinsThen p c r) cs
 
-unfoldable pub receipts : List Turn → List Receipt
-receipts [] = []
-receipts (t ∷ ts) = receipt (t .asked) (outcomeOf (t .ended)) ∷ receipts ts
+unfoldable pub receiptsOf : List Turn → List Receipt
+receiptsOf [] = []
+receiptsOf (t ∷ ts) = receipt (t .asked) (outcomeOf (t .ended)) ∷ receiptsOf ts
 
 -- in which a call on a buffer names one of its holder's pins not yet given back
 unfoldable pub Named : List Turn → Type 0

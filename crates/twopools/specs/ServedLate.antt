@@ -19,9 +19,9 @@ use Rattle.twopools.specs.Asked.{
   AskDrop,
   FitsAsked,
 }
-use Rattle.twopools.specs.Receipts.{Receipt, receipts, Named, NeverSix}
-use Rattle.twopools.specs.TwoSizes.{FitsBox, setUpIn, servedIn}
-use Rattle.twopools.specs.WrongSizes.{Boxes, box, askPin}
+use Rattle.twopools.specs.Receipts.{Receipt, receiptsOf, Named, NeverSix}
+use Rattle.twopools.specs.TwoSizes.{FitsSetup, setUpIn, servedIn}
+use Rattle.twopools.specs.WrongSizes.{Setups, setup, askPin}
 
 -- ---- the list
 -- holders 0 and 1 share a page, and one of them writes it; sales gets a third block; stock is pinned, given back and dropped. In 2 buffers
@@ -83,15 +83,15 @@ lateReceipts =
 
 -- ---- all that the statement assumes, and what both answer
 abbrev servedOf : ℕ → List Asked → List Receipt
-servedOf n calls = receipts (servedIn (calling step) size log (box n) calls)
+servedOf n calls = receiptsOf (servedIn (calling step) size log (setup n) calls)
 
 pub record ServedLate : Type 0 where
-  pub fits : FitsBox (box 2) × FitsBox (box 3) × FitsAsked late
-  pub boxes : Boxes (box 2) (box 3)
-  pub smallUp : setUpIn (calling step) size log (box 2) .result ≡ 0
-  pub largeUp : setUpIn (calling step) size log (box 3) .result ≡ 0
-  pub named : Named (servedIn (calling step) size log (box 2) late)
-  pub never : NeverSix (servedIn (calling step) size log (box 2) late)
+  pub fits : FitsSetup (setup 2) × FitsSetup (setup 3) × FitsAsked late
+  pub setups : Setups (setup 2) (setup 3)
+  pub smallUp : setUpIn (calling step) size log (setup 2) .result ≡ 0
+  pub largeUp : setUpIn (calling step) size log (setup 3) .result ≡ 0
+  pub named : Named (servedIn (calling step) size log (setup 2) late)
+  pub never : NeverSix (servedIn (calling step) size log (setup 2) late)
   -- the same receipts
   pub small : servedOf 2 late ≡ lateReceipts
   pub large : servedOf 3 late ≡ lateReceipts

@@ -1,6 +1,6 @@
 -- Wrong statements of two sizes: each says one thing otherwise than `TwoSizesFor`, and one list of calls shows that it is false of the
 -- right pool.
-use Prim.Native.Nat.{ℕ, _*_, _^_, _≤_, _<_}
+use Prim.Native.Nat.{ℕ, _+_, _-_, _*_, _^_, _≤_, _<_}
 use mathlib.Core.Path.{_≡_}
 use mathlib.Core.Bool.{Bool, false, _||_, cond}
 use mathlib.Core.List.{List, [], _∷_, _++_}
@@ -12,7 +12,7 @@ use Rattle.bufmodel.specs.Outcome.{Outcome}
 use Rattle.bufmodel.specs.Calls.{part}
 use Rattle.bufmodel.specs.Lent.{opened, closed}
 use Rattle.shelf.specs.Statement.{Pool, outcomeOf}
-use Rattle.shelf.specs.Trial.{size, cap, bench, blockWith, sales, blockOf, slice}
+use Rattle.shelf.specs.Trial.{size, bench, blockWith, sales, blockOf}
 use Rattle.twopools.specs.Asked.{
   Asked,
   AskPin,
@@ -30,16 +30,16 @@ use Rattle.twopools.specs.Asked.{
   FitsAsked,
 }
 use Rattle.twopools.specs.Pins.{Pins, Names}
-use Rattle.twopools.specs.Receipts.{Receipt, Turn, receipts, Named, NeverSix}
-use Rattle.twopools.specs.TwoSizes.{Box, FitsBox, buffersIn, setUpIn, servedIn}
+use Rattle.twopools.specs.Receipts.{Receipt, Turn, receiptsOf, Named, NeverSix}
+use Rattle.twopools.specs.TwoSizes.{Setup, FitsSetup, buffersOf, setUpIn, servedIn}
 
--- ---- the statement with its parts left open: what is assumed of the two boxes, which pins a call names, what is never answered, and what
+-- ---- the statement with its parts left open: what is assumed of the two set-ups, which pins a call names, what is never answered, and what
 -- is the same in both
-abbrev pub Sizes : {A : Type 0} → (Box → Box → Type 0) → (List Turn → Type 0) → (List Turn → List Turn → Type 0) → (List Turn → A) → Pool
+abbrev pub Sizes : {A : Type 0} → (Setup → Setup → Type 0) → (List Turn → Type 0) → (List Turn → List Turn → Type 0) → (List Turn → A) → Pool
     → Type 0
-Sizes boxes named never shown pool =
-    (p at : ℕ) (small large : Box) (calls : List Asked) → p < 2 ^ 64 → at < 2 ^ 64 → FitsBox small → FitsBox large → FitsAsked calls
-    → boxes small large
+Sizes setups named never shown pool =
+    (p at : ℕ) (small large : Setup) (calls : List Asked) → p < 2 ^ 64 → at < 2 ^ 64 → FitsSetup small → FitsSetup large → FitsAsked calls
+    → setups small large
     → setUpIn pool p at small .result ≡ 0
     → setUpIn pool p at large .result ≡ 0
     → named (servedIn pool p at small calls)
@@ -47,47 +47,47 @@ Sizes boxes named never shown pool =
     → shown (servedIn pool p at small calls) ≡ shown (servedIn pool p at large calls)
 
 -- the right parts: with them it is `TwoSizesFor` (`right-parts`)
-abbrev pub Fewer : Box → Box → Type 0
-Fewer small large = buffersIn small ≤ buffersIn large
+abbrev pub Fewer : Setup → Setup → Type 0
+Fewer small large = buffersOf small ≤ buffersOf large
 
-abbrev pub OneRows : Box → Box → Type 0
+abbrev pub OneRows : Setup → Setup → Type 0
 OneRows small large = small .lent .rows ≡ large .lent .rows
 
-abbrev pub OneStore : Box → Box → Type 0
+abbrev pub OneStore : Setup → Setup → Type 0
 OneStore small large = small .lent .store ≡ large .lent .store
 
-abbrev pub Boxes : Box → Box → Type 0
-Boxes small large = Fewer small large × OneRows small large × OneStore small large
+abbrev pub Setups : Setup → Setup → Type 0
+Setups small large = Fewer small large × OneRows small large × OneStore small large
 
 abbrev pub SmallNever : List Turn → List Turn → Type 0
 SmallNever small large = NeverSix small
 
 abbrev pub RightParts : Pool → Type 0
-RightParts = Sizes Boxes Named SmallNever receipts
+RightParts = Sizes Setups Named SmallNever receiptsOf
 
--- ---- of the boxes
+-- ---- of the two set-ups
 -- any numbers of buffers; any stores; any rows
 abbrev pub AnySizes : Pool → Type 0
-AnySizes = Sizes (λ small large. OneRows small large × OneStore small large) Named SmallNever receipts
+AnySizes = Sizes (λ small large. OneRows small large × OneStore small large) Named SmallNever receiptsOf
 
 abbrev pub AnyStores : Pool → Type 0
-AnyStores = Sizes (λ small large. Fewer small large × OneRows small large) Named SmallNever receipts
+AnyStores = Sizes (λ small large. Fewer small large × OneRows small large) Named SmallNever receiptsOf
 
 abbrev pub AnyRows : Pool → Type 0
-AnyRows = Sizes (λ small large. Fewer small large × OneStore small large) Named SmallNever receipts
+AnyRows = Sizes (λ small large. Fewer small large × OneStore small large) Named SmallNever receiptsOf
 
 -- set up with any two positions. Two block sizes are not to be had: where there is a block at all, rows and store say what its size is
 -- (`one-block-size`)
 abbrev pub AnyPositions : Pool → Type 0
 AnyPositions pool =
-    (p at to : ℕ) (small large : Box) (calls : List Asked) → p < 2 ^ 64 → at < 2 ^ 64 → to < 2 ^ 64 → FitsBox small → FitsBox large
+    (p at to : ℕ) (small large : Setup) (calls : List Asked) → p < 2 ^ 64 → at < 2 ^ 64 → to < 2 ^ 64 → FitsSetup small → FitsSetup large
     → FitsAsked calls
-    → Boxes small large
+    → Setups small large
     → setUpIn pool p at small .result ≡ 0
     → setUpIn pool p to large .result ≡ 0
     → Named (servedIn pool p at small calls)
     → NeverSix (servedIn pool p at small calls)
-    → receipts (servedIn pool p at small calls) ≡ receipts (servedIn pool p to large calls)
+    → receiptsOf (servedIn pool p at small calls) ≡ receiptsOf (servedIn pool p to large calls)
 
 -- ---- of the pins
 -- those given back too: all that were held before this call or before one of those before it
@@ -101,7 +101,11 @@ NamedSince ever (t ∷ ts) =
     Names (withHeld now (t .pins)) (t .asked) × NamedSince now ts
 
 abbrev pub GivenBackToo : Pool → Type 0
-GivenBackToo = Sizes Boxes (NamedSince (λ k. false)) SmallNever receipts
+GivenBackToo = Sizes Setups (NamedSince (λ k. false)) SmallNever receiptsOf
+
+-- any call's, be it a pin or not, refused or not
+abbrev pub AnyPins : Pool → Type 0
+AnyPins = Sizes Setups (λ ts. Unit {0}) SmallNever receiptsOf
 
 -- any holder's: as if all pins were of one holder, whoever it is
 abbrev pub withHolder : ℕ → Pins → Pins
@@ -112,15 +116,15 @@ NamedByAny [] = Unit {0}
 NamedByAny (t ∷ ts) = ((h : ℕ) × Names (withHolder h (t .pins)) (t .asked)) × NamedByAny ts
 
 abbrev pub AnyHolders : Pool → Type 0
-AnyHolders = Sizes Boxes NamedByAny SmallNever receipts
+AnyHolders = Sizes Setups NamedByAny SmallNever receiptsOf
 
 -- ---- of 6
 -- it may be answered; the larger never answers it, but the smaller may
 abbrev pub EvenAtSix : Pool → Type 0
-EvenAtSix = Sizes Boxes Named (λ small large. Unit {0}) receipts
+EvenAtSix = Sizes Setups Named (λ small large. Unit {0}) receiptsOf
 
 abbrev pub LargeNever : Pool → Type 0
-LargeNever = Sizes Boxes Named (λ small large. NeverSix large) receipts
+LargeNever = Sizes Setups Named (λ small large. NeverSix large) receiptsOf
 
 -- ---- of the receipts: with something more in each
 unfoldable pub each : {A : Type 0} → (Asked → Outcome → A) → List Turn → List A
@@ -128,7 +132,7 @@ each f [] = []
 each f (t ∷ ts) = f (t .asked) (outcomeOf (t .ended)) ∷ each f ts
 
 abbrev pub Showing : {A : Type 0} → (Asked → Outcome → A) → Pool → Type 0
-Showing {A} f = Sizes {A = List Receipt × List A} Boxes Named SmallNever (λ ts. (receipts ts, each f ts))
+Showing {A} f = Sizes {A = List Receipt × List A} Setups Named SmallNever (λ ts. (receiptsOf ts, each f ts))
 
 -- the calls whose answers have words that are left out: pin, flush and checkpoint, peek
 abbrev pub pinning : ℕ
@@ -186,28 +190,29 @@ wholeBytes c o = let page = part o in cond (eqb (kindOf c) peeking) page (o .byt
 abbrev pub SameBytes : Pool → Type 0
 SameBytes = Showing wholeBytes
 
--- ---- boxes: a file of sales, with so many blocks of its 3, and a file of stock, with this block; n buffers
+-- ---- set-ups: a file of sales, with so many blocks of its 3, and a file of stock, with this block; n buffers, and a cap and slices that
+-- go by n too
 abbrev pub rowsWith : ℕ → List ℕ
 rowsWith blocks = 1663 ∷ 5 ∷ 16384 ∷ 0 ∷ blocks ∷ 3 ∷ 1663 ∷ 5 ∷ 16385 ∷ 0 ∷ 1 ∷ 1 ∷ []
 
-unfoldable pub boxWith : ℕ → List ℕ → ℕ → Box
-boxWith blocks page n =
+unfoldable pub setupWith : ℕ → List ℕ → ℕ → Setup
+setupWith blocks page n =
     record {
       lent = closed (withRows (rowsWith blocks) (withStore (replicate (3 * size) 0 ++ page) (opened (bench n))));
-      cap = cap;
-      answer = slice;
-      slices = λ i. slice;
+      cap = 7 - n;
+      answer = replicate 4 n;
+      slices = λ i. replicate 4 (n + i);
     }
 
-abbrev pub box : ℕ → Box
-box = boxWith 2 (replicate size 0)
+abbrev pub setup : ℕ → Setup
+setup = setupWith 2 (replicate size 0)
 
 -- with another block of stock; with one block of sales
-abbrev pub stocked : ℕ → Box
-stocked = boxWith 2 (blockWith 15 223 77)
+abbrev pub stocked : ℕ → Setup
+stocked = setupWith 2 (blockWith 15 223 77)
 
-abbrev pub shorter : ℕ → Box
-shorter = boxWith 1 (replicate size 0)
+abbrev pub shorter : ℕ → Setup
+shorter = setupWith 1 (replicate size 0)
 
 -- ---- lists
 abbrev pub askPin : ℕ → FileName → ℕ → Asked
