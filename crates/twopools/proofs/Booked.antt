@@ -8,8 +8,9 @@ use lib.Dec.{eqb}
 use borrow.Author.Tests.{eqb-true, eq-eqb, ne-eqb, not-true}
 use Rattle.laws.specs.Sum.{sum, ind, count}
 use Rattle.laws.specs.First.{Found, found, missing}
+use Rattle.laws.specs.Says.{Says}
 use Rattle.laws.proofs.Tests.{true-or-false, eq-or-ne, and-left, and-right, and-true, never}
-use Rattle.laws.proofs.Every.{any-found}
+use Rattle.laws.proofs.Says.{says-eq, says-not, says-any}
 use Rattle.laws.proofs.Sum.{ind-one, ind-none, ind-le, sum-same, sum-below, sum-zero, count-some, count-change}
 use Rattle.laws.proofs.First.{found-same, found-missing}
 use Rattle.shelf.specs.Shelf.{Shelf, with, pinsIn, hasPins, stillHeld, countWith, withPins, pinnedAt, unpinnedAt, givenBack}
@@ -29,10 +30,11 @@ pub record Booked (s : Shelf) (p : Pins) (page : ℕ → ℕ) : Type 0 where
   pub who : (k : ℕ) → p .held k ≡ true → p .holder k < 64
   pub made : (k : ℕ) → p .held k ≡ true → k < p .made
 
--- ---- a holder with a count of a page has pins of it
-pub pins-some : (counts : ℕ → ℕ → ℕ) (h x : ℕ) → h < 64 → counts h x ≢ 0 → pinsIn counts x ≡ true
+-- ---- a page has pins exactly where some holder has a count of it
+pub pins-say : (counts : ℕ → ℕ → ℕ) (x : ℕ) → Says (pinsIn counts x) ((h : ℕ) × (h < 64) × (counts h x ≢ 0))
 unfolding pinsIn
-pins-some counts h x l ne = sym (any-found (λ k. not (eqb (counts k x) 0)) 64 h l (ap not (ne-eqb (counts h x) 0 ne)))
+pins-say counts x =
+    says-any 64 (λ h. not (eqb (counts h x) 0)) (λ h. counts h x ≢ 0) (λ h l. says-not (says-eq (counts h x) 0))
 
 -- a pin that is not given back is counted
 mine-self : (p : Pins) (page : ℕ → ℕ) (k : ℕ) → p .held k ≡ true → mine p page (p .holder k) (page k) k ≡ true
@@ -54,7 +56,7 @@ pub owed-held : (counts : ℕ → ℕ → ℕ) (p : Pins) (page : ℕ → ℕ) �
 unfolding stillHeld
 owed-held counts p page owed k e l who =
     ap (λ (t : Bool). cond t (found (page k)) missing)
-    (pins-some counts (p .holder k) (page k) who (owed-some counts p page owed k e l))
+    (pins-say counts (page k) .shown (p .holder k, who, owed-some counts p page owed k e l))
 
 -- ---- a call that changes no pin
 abbrev pub onward : Pins → Pins

@@ -1,34 +1,25 @@
 -- No more pages have pins than there are buffers.
-use Prim.Native.Nat.{ℕ, _+_, _-_, _≤_, _<_}
+use Prim.Native.Nat.{ℕ, _+_, _-_, _≤_}
 use native.Mathlib.Omega.{arith}
 use mathlib.Core.Path.{_≡_, sym, ap, _∙_, subst}
 use mathlib.Core.Bool.{Bool, true, false, not, _&&_}
 use mathlib.Core.Logic.{_≢_, ⊎-elim}
 use lib.Dec.{eqb}
-use borrow.Author.Tests.{eqb-false, not-true, not-false}
-use Rattle.laws.specs.Every.{any}
+use borrow.Author.Tests.{eqb-false}
 use Rattle.laws.specs.Sum.{ind, count}
 use Rattle.laws.specs.First.{found}
 use Rattle.laws.proofs.Tests.{true-or-false, lt-or-le, eq-or-ne, same-tests}
-use Rattle.laws.proofs.Every.{all-false-at}
 use Rattle.laws.proofs.Sum.{ind-one, ind-none, ind-le, sum-same, sum-below, count-change}
 use Rattle.bufmodel.specs.Rows.{storeBlocks}
 use Rattle.shelf.specs.Shelf.{Shelf, with, pinsIn, hasPins, pinnedPages, noBuffer, countWith, pinnedAt, unpinnedAt, givenBack}
 use Rattle.shelf.proofs.WithLaws.{with-same, with-other, count-same, count-holder, count-page}
-use Rattle.twopools.proofs.Booked.{pins-some}
+use Rattle.twopools.proofs.Booked.{pins-say}
 
 -- ---- what has pins under some counts has them under counts that are 0 nowhere else
-any-some : (p : ℕ → Bool) (n : ℕ) → any n p ≡ true → (i : ℕ) × (i < n) × (p i ≡ true)
-unfolding any
-any-some p n e =
-    let w = all-false-at (λ i. not (p i)) n (not-true _ e) in
-    (w .0, w .1, not-false (p (w .0)) (w .2))
-
 pins-less : (c d : ℕ → ℕ → ℕ) (y : ℕ) → ((h : ℕ) → d h y ≡ 0 → c h y ≡ 0) → pinsIn c y ≡ true → pinsIn d y ≡ true
-unfolding pinsIn
 pins-less c d y f e =
-    let w = any-some (λ h. not (eqb (c h y) 0)) 64 e in
-    pins-some d (w .0) y (w .1) (λ z. eqb-false (c (w .0) y) 0 (not-true _ (w .2)) (f (w .0) z))
+    let w = pins-say c y .holds e in
+    pins-say d y .shown (w .0, w .1, λ z. w .2 (f (w .0) z))
 
 fewer-pages : (s : Shelf) (c : ℕ → ℕ → ℕ) → ((h y : ℕ) → s .counts h y ≡ 0 → c h y ≡ 0)
     → count (storeBlocks (s .rows)) (pinsIn c) ≤ pinnedPages s
