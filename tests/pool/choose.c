@@ -71,7 +71,7 @@ static bool none_pinned(void)
 }
 
 /* a call by its weight; where nothing is pinned mostly a pin for a call that would be refused */
-static enum call some_call(void)
+enum call some_call(void)
 {
     unsigned sum = 0;
     int c = 0;
@@ -204,21 +204,25 @@ void some_request(struct request *q)
 
 void request_of(struct request *q, enum call call)
 {
-    *q = (struct request){.call = call, .own = twin_own};
+    request_on(q, call, call >= UNPIN && call <= GIVE_BACK ? some_buffer() : 0);
+}
+
+void request_on(struct request *q, enum call call, uint64_t buffer)
+{
+    *q = (struct request){.call = call, .buffer = buffer, .own = twin_own};
     switch (call) {
     case PIN:
     case PEEK:
     case EXTEND:
     case DROP: some_name(q->name); break;
-    case UNPIN:
-    case FLUSH: q->buffer = some_buffer(); break;
     case GIVE_BACK:
     case READ:
     case WRITE:
-        q->buffer = some_buffer();
         some_range(q);
-        if (call == WRITE) q->position = write_position(q->buffer);
+        if (call == WRITE) q->position = write_position(buffer);
         break;
+    case UNPIN:
+    case FLUSH:
     case CHECKPOINT: break;
     case CHECKSUM:
         q->own_len = some_page_length();
@@ -232,7 +236,7 @@ void request_of(struct request *q, enum call call)
     }
     if (call == PIN) q->holder = holder_for(q->name);
     else if (call == GIVE_BACK) q->holder = some_holder();
-    else if (NAMES_HOLDER(call)) q->holder = holder_on(q->buffer, true);
+    else if (NAMES_HOLDER(call)) q->holder = holder_on(buffer, true);
     random_fill(twin_own, q->own_len);
     if (random_below(8) == 0) memset(twin_own, random_below(4) == 0 ? 255 : 0, q->own_len);
 }

@@ -33,6 +33,9 @@ struct sizes great_sizes(unsigned kind);
    counts is bad, and nearly all above. */
 void fill_unset(const struct sizes *s, uint64_t log);
 
+/* The same but for rows and store, which stay as they are. */
+void fill_others(const struct sizes *s);
+
 /* Sound memory: any pins, usage counts, dirty pages, orders of lists, hand and positions that the rules allow. */
 void fill_sound(const struct sizes *s);
 
@@ -46,6 +49,10 @@ void some_damage(void);
 void new_mood(void);
 void even_mood(void);
 void some_request(struct request *q);
+
+/* Of them: the next call, by weight; a request of a call; and of a call on this buffer. */
+enum call some_call(void);
 void request_of(struct request *q, enum call call);
+void request_on(struct request *q, enum call call, uint64_t buffer);
 
 #endif

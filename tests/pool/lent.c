@@ -16,10 +16,13 @@ static const size_t most[PARTS] = {8 * MOST_CONTROL, 1032 * 4,       1032 * NAME
 struct memory twin;
 uint8_t *twin_own;
 
-/* of each part: the twin's room, the library's room as it is mapped twice, and where in it the slice begins now */
+/* of each part: the twin's room; of each of the library's pools its room as it is mapped twice, and where in it the slice begins now */
 static void *twins[PARTS];
-static uint8_t *writable[PARTS], *constant[PARTS];
-static size_t rooms[PARTS], starts[PARTS];
+static size_t rooms[PARTS];
+static struct room {
+    uint8_t *writable, *constant;
+    size_t start;
+} pools[LENT_POOLS][PARTS], *lent = pools[0];
 
 static void *must(void *at, const char *what)
 {
@@ -54,20 +57,33 @@ static void twin_pointers(void)
     twin_own = twins[OWN];
 }
 
-void lent_new(void)
+static void map_pool(struct room *pool)
 {
-    size_t page = (size_t)sysconf(_SC_PAGESIZE);
     int file = memfd_create("lent", 0);
     off_t from = 0;
     for (int k = 0; k < PARTS; k++) {
-        rooms[k] = (most[k] + page - 1) / page * page;
         if (file < 0 || ftruncate(file, from + (off_t)rooms[k]) != 0) must(NULL, "memfd");
-        writable[k] = map_between(file, from, rooms[k], PROT_READ | PROT_WRITE);
-        constant[k] = map_between(file, from, rooms[k], PROT_READ);
-        twins[k] = must(calloc(1, rooms[k]), "calloc");
+        pool[k].writable = map_between(file, from, rooms[k], PROT_READ | PROT_WRITE);
+        pool[k].constant = map_between(file, from, rooms[k], PROT_READ);
         from += (off_t)rooms[k];
     }
+}
+
+void lent_new(void)
+{
+    size_t page = (size_t)sysconf(_SC_PAGESIZE);
+    for (int k = 0; k < PARTS; k++) {
+        rooms[k] = (most[k] + page - 1) / page * page;
+        twins[k] = must(calloc(1, rooms[k]), "calloc");
+    }
+    map_pool(pools[0]);
+    map_pool(pools[1]);
     twin_pointers();
+}
+
+void lent_pool(unsigned k)
+{
+    lent = pools[k];
 }
 
 size_t part_length(enum part k, const struct request *q)
@@ -80,8 +96,8 @@ size_t part_length(enum part k, const struct request *q)
 void lent_copy_part(enum part k, size_t elements, int at_end)
 {
     size_t bytes = elements * part_sizes[k];
-    starts[k] = at_end ? rooms[k] - bytes : 0;
-    memcpy(writable[k] + starts[k], twins[k], bytes);
+    lent[k].start = at_end ? rooms[k] - bytes : 0;
+    memcpy(lent[k].writable + lent[k].start, twins[k], bytes);
 }
 
 void lent_copy(void)
@@ -92,7 +108,7 @@ void lent_copy(void)
 
 static void *part_at(enum part k)
 {
-    return writable[k] + starts[k];
+    return lent[k].writable + lent[k].start;
 }
 
 void twin_copy(void)
@@ -149,6 +165,6 @@ static const unsigned changed[CALLS] = {
 
 void *lent_part(enum call call, enum part k)
 {
-    uint8_t *room = k == ANSWER || (changed[call] & SET(k)) != 0 ? writable[k] : constant[k];
-    return room + starts[k];
+    uint8_t *room = k == ANSWER || (changed[call] & SET(k)) != 0 ? lent[k].writable : lent[k].constant;
+    return room + lent[k].start;
 }

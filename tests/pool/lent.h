@@ -22,6 +22,10 @@ extern uint8_t *twin_own;
 
 void lent_new(void);
 
+/* The library has memory for two pools, of which tests/pool has one, the first. What follows is about the one that was chosen last. */
+enum { LENT_POOLS = 2 };
+void lent_pool(unsigned k);
+
 /* How many elements a part has; of a call's own slice, what the request says. */
 size_t part_length(enum part k, const struct request *q);
 

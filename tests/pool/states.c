@@ -129,7 +129,7 @@ static void fill_store(const struct sizes *s, uint64_t log)
     seal_blocks(s);
 }
 
-void fill_unset(const struct sizes *s, uint64_t log)
+void fill_others(const struct sizes *s)
 {
     twin.control_len = CONTROL_WORDS;
     twin.answer_len = ANSWER_WORDS;
@@ -137,12 +137,17 @@ void fill_unset(const struct sizes *s, uint64_t log)
     twin.names_len = NAME_WORDS * s->n;
     twin.pool_len = s->n * s->page_size;
     twin.heads_len = s->buckets;
-    twin.rows_len = ROW_WORDS * s->files;
     twin.counts_len = HOLDERS * s->n;
-    fill_rows(s);
-    fill_store(s, log);
     for (int k = 0; k < OWN; k++)
         if (k != ROWS && k != STORE) random_fill((void *)twin_part((enum part)k), part_length((enum part)k, NULL) * part_sizes[k]);
+}
+
+void fill_unset(const struct sizes *s, uint64_t log)
+{
+    twin.rows_len = ROW_WORDS * s->files;
+    fill_rows(s);
+    fill_store(s, log);
+    fill_others(s);
 }
 
 /* the numbers below n in any order */
