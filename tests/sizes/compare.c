@@ -63,7 +63,10 @@ static void see_permitted(void)
 static void compare_receipts(void)
 {
     const char *what = receipts_differ(&got[SMALLER], &got[LARGER]);
-    if (what == NULL) return;
+    if (what == NULL) {
+        tally_compared(sizes);
+        return;
+    }
     say(what);
     printf("refusal %" PRIu32 " in the smaller pool, %" PRIu32 " in the larger; calls that the list may not have: %zu\n",
            got[SMALLER].refusal, got[LARGER].refusal, barred);
@@ -93,7 +96,7 @@ static void begin_list(void)
         printf("seed %lu, list %lu: a set up of permitted sizes was refused\n", seed, list);
         stop(3);
     }
-    tally_list(sizes);
+    tally_list(sizes, position);
     choice_begin();
 }
 

@@ -132,6 +132,21 @@ static void bytes_8_9(void)
     end();
 }
 
+/* Each byte of a page that is shown is compared, but for 8 and 9, which are not shown. */
+static void whole_pages(void)
+{
+    uint8_t page[P];
+    list_for("every byte of a page peeked and read but 8 and 9", 1, 2, 8);
+    fill_page(page, 2, 'c');
+    memset(page + SUM_AT, 0, SUM_BYTES);
+    size_t p = pin(3, 2);
+    ask(by_name(PEEK, 0, 0, 2), 0);
+    expect_page(page);
+    ask(reading(3, p, 0, P), 0);
+    expect_page(page);
+    end();
+}
+
 /* Pages and files that are refused, and holders. */
 static void refused_names(void)
 {
@@ -234,9 +249,9 @@ static void goes_on_after_six(void)
 /* The last list takes long with the model. */
 int main(int argc, char **argv)
 {
-    static void (*const cases[])(void) = {late_six, equal_pools, both_orders, count_full, gives_back, bytes_8_9, refused_names,
-                                          refused_bytes, unpins_given_back, reads_given_back, names_others_pin, goes_on_after_six,
-                                          great_pools};
+    static void (*const cases[])(void) = {late_six, equal_pools, both_orders, count_full, gives_back, bytes_8_9, whole_pages,
+                                          refused_names, refused_bytes, unpins_given_back, reads_given_back, names_others_pin,
+                                          goes_on_after_six, great_pools};
     if (argc > 2 || (argc == 2 && !slip_set(argv[1]))) return fprintf(stderr, "usage: directed [SLIP]\n"), 2;
     pools_new();
     return run_cases(cases, sizeof cases / sizeof *cases - (planted != 0));

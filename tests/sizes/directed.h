@@ -89,6 +89,20 @@ static void expect_bytes(size_t at, const char *text, size_t many)
     expect("the larger pool's bytes being others", memcmp(got[LARGER].bytes + at, text, many) != 0, false);
 }
 
+/* Both have shown this page, and a byte that was another in one of them would be a difference. */
+static void expect_page(const uint8_t *page)
+{
+    size_t noticed = 0;
+    expect("bytes of a page", got[SMALLER].many, P);
+    expect_bytes(0, (const char *)page, P);
+    for (size_t k = 0; k < P; k++) {
+        got[LARGER].bytes[k] ^= 1;
+        noticed += receipts_differ(&got[SMALLER], &got[LARGER]) != NULL;
+        got[LARGER].bytes[k] ^= 1;
+    }
+    expect("bytes that are compared", noticed, P);
+}
+
 static struct asked reading(uint64_t holder, size_t pin, uint64_t from, size_t many)
 {
     memset(twin_own, '?', many);

@@ -1,5 +1,6 @@
 #include "receipt.h"
 #include "slip.h"
+#include <stdlib.h>
 #include <string.h>
 
 /* A page's bytes 8 and 9 are left out of the bytes that begin with the page's byte `from`. */
@@ -18,7 +19,7 @@ static void take_part(struct receipt *r)
     struct memory m = library_memory();
     const uint8_t *slice = r->answer[0] == 1 ? m.pool : m.store;
     size_t length = r->answer[0] == 1 ? m.pool_len : m.store_len, page = m.control[CONTROL_SIZE];
-    if (page > MOST_OWN || length < page || r->answer[1] > length - page) return;
+    if (page > MOST_OWN || length < page || r->answer[1] > length - page) abort(); /* no part of what was lent */
     r->many = page;
     memcpy(r->bytes, slice + r->answer[1], page);
 }

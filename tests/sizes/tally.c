@@ -3,13 +3,14 @@
 #include <string.h>
 
 enum event {
-    LISTS, EQUAL, ONE, MOST, GREAT, OTHER_BUCKETS, CAP_SMALLER, CAP_LARGER, BY_SIX, LATE_SIX, SIX_SERVED, SIX_BOTH, TO_THE_END, DROPPED,
-    EXTENDED, GAVE_PINS, EARLIER_FIRST, LATER_FIRST, READ_BYTES, READ_SUM, PEEK_SUM, ZEROS, OTHER_NUMBER, HIT_SMALLER, HIT_LARGER,
-    OTHER_WROTE, OTHER_PROBES, OTHER_PLACE, OTHER_FLUSHED, OTHER_WRITTEN, EVENTS
+    LISTS, LARGE_BLOCKS, ABOVE_ZERO, HIGH_POSITION, EQUAL, ONE, MOST, GREAT, GREAT_COMPARED, OTHER_BUCKETS, CAP_SMALLER, CAP_LARGER,
+    BY_SIX, LATE_SIX, SIX_SERVED, SIX_BOTH, TO_THE_END, DROPPED, EXTENDED, GAVE_PINS, EARLIER_FIRST, LATER_FIRST, READ_BYTES, READ_SUM,
+    PEEK_SUM, ZEROS, OTHER_NUMBER, HIT_SMALLER, HIT_LARGER, OTHER_WROTE, OTHER_PROBES, OTHER_PLACE, OTHER_FLUSHED, OTHER_WRITTEN, EVENTS
 };
 static const char *const event_names[EVENTS] = {
-    "lists", "lists with N = M", "lists with N = 1", "lists with M = 1024", "lists with N = 1000 or more",
-    "lists with other numbers of buckets", "lists with the greater cap in the smaller pool",
+    "lists", "lists with blocks above 1024 bytes", "lists set up above position 0", "lists set up at a position of 2^32 or above",
+    "lists with N = M", "lists with N = 1", "lists with M = 1024", "lists with N = 1000 or more",
+    "receipts compared with N = 1000 or more", "lists with other numbers of buckets", "lists with the greater cap in the smaller pool",
     "lists with the greater cap in the larger pool", "lists that end with the smaller pool's 6",
     "lists that end with the smaller pool's 6 after 50 calls or more",
     "lists that end with the smaller pool's 6, which the larger serves", "lists that end with 6 in both",
@@ -22,10 +23,13 @@ static const char *const event_names[EVENTS] = {
 enum { MOST_REFUSAL = 19, LATE = 50 };
 static unsigned long refusals[MOST_REFUSAL + 1], events[EVENTS], calls;
 
-void tally_list(const struct sizes *sizes)
+void tally_list(const struct sizes *sizes, uint64_t position)
 {
     const struct sizes *a = &sizes[SMALLER], *b = &sizes[LARGER];
     events[LISTS]++;
+    events[LARGE_BLOCKS] += a->page_size > 1024;
+    events[ABOVE_ZERO] += position > 0;
+    events[HIGH_POSITION] += position >> 32 > 0;
     events[EQUAL] += a->n == b->n;
     events[ONE] += a->n == 1;
     events[MOST] += b->n == 1024;
@@ -96,6 +100,11 @@ void tally_call(const struct asked *a, const struct receipt *got)
     case DROP: events[DROPPED]++; break;
     default: break;
     }
+}
+
+void tally_compared(const struct sizes *sizes)
+{
+    events[GREAT_COMPARED] += sizes[SMALLER].n >= 1000;
 }
 
 void tally_end(const struct receipt *got)

@@ -4,11 +4,14 @@
 
 #include "pools.h"
 
-void tally_list(const struct sizes *sizes);
+void tally_list(const struct sizes *sizes, uint64_t position);
 
 /* A call that both pools are to be asked; and its receipts, up to the smaller pool's 6. */
 void tally_before(const struct asked *a);
 void tally_call(const struct asked *a, const struct receipt *got);
+
+/* The receipts were compared, and are the same. */
+void tally_compared(const struct sizes *sizes);
 
 /* The list is at its end. */
 void tally_end(const struct receipt *got);
