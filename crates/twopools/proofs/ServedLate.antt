@@ -12,7 +12,19 @@ use Rattle.twopools.specs.Pins.{Pins}
 use Rattle.twopools.specs.Receipts.{Receipt, receipt, calledBy, pinsThen, turns, receiptsOf}
 use Rattle.twopools.specs.WrongSizes.{Setups, setup}
 use Rattle.twopools.specs.ServedLate.{late, oneMore, gives, done, writtenPage, lateReceipts, ServedLate}
-use Rattle.twopools.proofs.SizesTests.{namedTest, named, runs, served, fits-setup, Ready, two-ready, Served, asked, names-in, never-in}
+use Rattle.twopools.proofs.SizesTests.{
+  namedTest,
+  named,
+  runs,
+  served,
+  fits-setup,
+  Ready,
+  two-ready,
+  Served,
+  asked,
+  names-in,
+  never-in,
+}
 
 three-ready : Ready log (setup 3)
 unfolding runs

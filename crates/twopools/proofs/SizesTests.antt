@@ -149,9 +149,11 @@ fits-asked : (calls : List Asked) → FitsMade (map made (map (resolve (λ k. 0)
 fits-asked [] h = tt
 fits-asked (c ∷ cs) h = (h .0, fits-asked cs (h .2))
 
-pub fits-setup : (blocks : ℕ) (page : List ℕ) (n : ℕ) → fitsLent (setupWith blocks page n .lent) ≡ true → FitsSetup (setupWith blocks page n)
+pub fits-setup : (blocks : ℕ) (page : List ℕ) (n : ℕ) → fitsLent (setupWith blocks page n .lent) ≡ true
+    → FitsSetup (setupWith blocks page n)
 unfolding setupWith
-fits-setup blocks page n h = record { lent = fits-lent (setupWith blocks page n .lent) h; cap = omega arith; answer = refl; slices = λ i. refl }
+fits-setup blocks page n h =
+    record { lent = fits-lent (setupWith blocks page n .lent) h; cap = omega arith; answer = refl; slices = λ i. refl }
 
 -- ---- what is computed
 -- the refusal of call i, and byte k of its bytes

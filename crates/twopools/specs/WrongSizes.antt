@@ -33,9 +33,10 @@ use Rattle.twopools.specs.Pins.{Pins, Names}
 use Rattle.twopools.specs.Receipts.{Receipt, Turn, receiptsOf, Named, NeverSix}
 use Rattle.twopools.specs.TwoSizes.{Setup, FitsSetup, buffersOf, setUpIn, servedIn}
 
--- ---- the statement with its parts left open: what is assumed of the two set-ups, which pins a call names, what is never answered, and what
--- is the same in both
-abbrev pub Sizes : {A : Type 0} → (Setup → Setup → Type 0) → (List Turn → Type 0) → (List Turn → List Turn → Type 0) → (List Turn → A) → Pool
+-- ---- the statement with its parts left open: what is assumed of the two set-ups, which pins a call names, what is never answered, and
+-- what is the same in both
+abbrev pub Sizes : {A : Type 0} → (Setup → Setup → Type 0) → (List Turn → Type 0) → (List Turn → List Turn → Type 0) → (List Turn → A)
+    → Pool
     → Type 0
 Sizes setups named never shown pool =
     (p at : ℕ) (small large : Setup) (calls : List Asked) → p < 2 ^ 64 → at < 2 ^ 64 → FitsSetup small → FitsSetup large → FitsAsked calls
