@@ -59,7 +59,7 @@ use Rattle.twopools.proofs.FewPages.{pin-few, unpin-few, give-few}
 use Rattle.twopools.proofs.Twins.{twin, renumbered, Twins}
 
 -- a pin that no place refuses: its holder is one of the 64, and a buffer is left for its page
-pub pin-passed : (s : Shelf) (h : ℕ) (n : PageName) → refuses s (Pin h n) ≡ 0 → (h < 64) × (noBuffer s (placeOf (s .rows) n) ≡ false)
+pin-passed : (s : Shelf) (h : ℕ) (n : PageName) → refuses s (Pin h n) ≡ 0 → (h < 64) × (noBuffer s (placeOf (s .rows) n) ≡ false)
 unfolding places above pageFirst
 pin-passed s h n z =
     let a = refusal-passed 19 _ _ (omega arith) (sym (refuses-is s (Pin h n)) ∙ z) in
@@ -72,7 +72,7 @@ pin-passed s h n z =
 module _ (s : Shelf) (m : ℕ) (holds : ℕ → Found) (p : Pins) (number page : ℕ → ℕ) (fewer : s .buffers ≤ m)
     (few : pinnedPages s ≤ s .buffers) (left : Booked s p page) (right : Booked (twin s m holds) (renumbered p number) page) where
   -- ---- a call that changes no pin
-  pub still-twins : (s′ t′ : Shelf) → s .buffers ≡ s′ .buffers → s .counts ≡ s′ .counts → s .holds ≡ s′ .holds
+  still-twins : (s′ t′ : Shelf) → s .buffers ≡ s′ .buffers → s .counts ≡ s′ .counts → s .holds ≡ s′ .holds
       → m ≡ t′ .buffers → s .counts ≡ t′ .counts → holds ≡ t′ .holds → storeBlocks (s .rows) ≡ storeBlocks (s′ .rows)
       → t′ ≡ twin s′ (t′ .buffers) (t′ .holds) → Twins s′ t′ (onward p) (onward (renumbered p number)) page
   unfolding pinnedPages hasPins

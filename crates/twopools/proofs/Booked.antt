@@ -51,7 +51,7 @@ owed-some counts p page owed k e l z =
     )
 
 -- so its page stays where it is
-pub owed-held : (counts : ℕ → ℕ → ℕ) (p : Pins) (page : ℕ → ℕ) → ((h x : ℕ) → count (p .made) (mine p page h x) ≤ counts h x)
+owed-held : (counts : ℕ → ℕ → ℕ) (p : Pins) (page : ℕ → ℕ) → ((h x : ℕ) → count (p .made) (mine p page h x) ≤ counts h x)
     → (k : ℕ) → p .held k ≡ true → k < p .made → p .holder k < 64 → stillHeld counts (found (page k)) ≡ found (page k)
 unfolding stillHeld
 owed-held counts p page owed k e l who =
@@ -63,7 +63,7 @@ abbrev pub onward : Pins → Pins
 onward p = record { made = suc (p .made); number = p .number; holder = p .holder; held = p .held }
 
 -- that call k was no pin
-pub not-made : {s : Shelf} {p : Pins} {page : ℕ → ℕ} → Booked s p page → (k : ℕ) → p .made ≤ k → p .held k ≡ false
+not-made : {s : Shelf} {p : Pins} {page : ℕ → ℕ} → Booked s p page → (k : ℕ) → p .made ≤ k → p .held k ≡ false
 not-made {p} u k l = ⊎-elim (λ t. absurd (omega (arith, l, u .made k t))) (λ f. f) (true-or-false (p .held k))
 
 pub booked-on : {s t : Shelf} {p : Pins} {page : ℕ → ℕ} → s .buffers ≡ t .buffers → s .counts ≡ t .counts → s .holds ≡ t .holds
