@@ -1,10 +1,9 @@
 -- What the statement of two sizes assumes comes about: a list of calls that a pool of 2 buffers serves, and one of 3 as well. Then one more
 -- pin, at which they part.
-use Prim.Native.Nat.{ℕ}
+use Prim.Native.Nat.{ℕ, _-_}
 use mathlib.Core.Path.{_≡_}
 use mathlib.Core.List.{List, [], _∷_, _++_}
 use lib.ListN.{replicate}
-use Rattle.bufmodel.specs.Position.{written}
 use Rattle.bufmodel.specs.Step.{step}
 use Rattle.shelf.specs.Statement.{calling}
 use Rattle.shelf.specs.Trial.{size, log, sales, stock, blockOf}
@@ -57,9 +56,10 @@ gives refusal bytes block = record { refusal = refusal; bytes = bytes; block = b
 abbrev pub done : Receipt
 done = gives 0 [] 0
 
--- with bytes 8 and 9 as zeros: where the store's block is handed back, its checksum stands there
+-- position 100, its low word second, and byte 10. Bytes 8 and 9 are zeros: where the store's block is handed back, its checksum stands
+-- there
 unfoldable pub writtenPage : List ℕ
-writtenPage = written 100 10 (77 ∷ []) (replicate size 0)
+writtenPage = 0 ∷ 0 ∷ 0 ∷ 0 ∷ 100 ∷ 0 ∷ 0 ∷ 0 ∷ 0 ∷ 0 ∷ 77 ∷ replicate (size - 11) 0
 
 unfoldable pub lateReceipts : List Receipt
 lateReceipts =
