@@ -1,0 +1,2 @@
+pub mod UsageLaws
+pub mod ScanLaws

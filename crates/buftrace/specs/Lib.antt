@@ -1,0 +1,5 @@
+pub mod Input
+pub mod Usage
+pub mod Trace
+pub mod Scan
+pub mod Report
