@@ -7,7 +7,8 @@ use lib.ListN.{length, getD, replicate}
 use Rattle.buftag.specs.declared.link.Link.{Link}
 use Rattle.buftag.specs.declared.link.Link.the-variants.{To, End}
 use Rattle.buftag.specs.Link.{linkOf, linkAt}
-use Rattle.bufmodel.specs.Memory.{Memory, size, capOf, nameOf}
+use Rattle.bufmodel.specs.Word.{dirty}
+use Rattle.bufmodel.specs.Memory.{Memory, size, capOf, wordOf, nameOf}
 use Rattle.bufmodel.specs.Counts.{maxHolders}
 use Rattle.bufmodel.specs.Books.{emptyAt}
 use Rattle.bufmodel.proofs.GoodLaws.{Good}
@@ -33,6 +34,8 @@ pub record Agrees (p n blocks : ℕ) (m : Memory) (t : Trace) : Type 0 where
   pub top-end : length (t .held) ≡ n → linkOf (m .control .top) ≡ End
   pub on : (i : ℕ) → length (t .held) ≤ i → suc i < n → linkAt (m .free) i ≡ To (suc i)
   pub last : (i : ℕ) → length (t .held) ≤ i → suc i ≡ n → linkAt (m .free) i ≡ End
+  -- nothing is written, so no page is dirty and none is written back
+  pub clean : (i : ℕ) → i < length (t .held) → dirty (wordOf m i) ≡ false
 
 -- one use of block b makes u of t
 pub record UsedOnce (p n blocks : ℕ) (m : Memory) (t u : Trace) (b : ℕ) : Type 0 where
