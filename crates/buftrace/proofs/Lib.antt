@@ -1,6 +1,12 @@
 pub mod Agrees
 pub mod AgreesLaws
+pub mod UnpinLaws
 pub mod UseLaws
+pub mod SweptLaws
 pub mod VictimLaws
+pub mod StartLaws
 pub mod UsageLaws
+pub mod LineLaws
+pub mod ByteLaws
 pub mod ScanLaws
+pub mod ReportLaws

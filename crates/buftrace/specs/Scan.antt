@@ -6,8 +6,10 @@ use mathlib.Core.List.{List, [], _∷_}
 use lib.Dec.{eqb, leb, ltb}
 use Rattle.laws.specs.First.{Found, found, missing}
 use Rattle.bufmodel.specs.Sizes.{maxBuffers, maxBlocks}
+use Rattle.buftrace.specs.declared.trace.Tally.{Tally}
 use Rattle.buftrace.specs.declared.scan.Reader.{Reader}
 use Rattle.buftrace.specs.Input.{newline, isDigit, between, maxUses}
+use Rattle.buftrace.specs.Usage.{none-yet}
 use Rattle.buftrace.specs.Trace.{Trace, Fit, unused, many, use1, traceOf}
 
 -- lines that have ended; of the line begun whether it has a digit, and its value; N and the number of blocks, once they are read; the first
@@ -120,7 +122,7 @@ unfoldable pub broken : Scan → Scan
 broken s = cond (eqb (s .bad) 0) (spoilt s) s
 
 -- ---- as the code has it
-unfoldable pub scanOf : Reader → List ℕ → List ℕ → Scan
+abbrev pub scanOf : Reader → List ℕ → List ℕ → Scan
 scanOf r states held =
     record {
       line = r .line;
@@ -132,13 +134,37 @@ scanOf r states held =
       trace = traceOf (r .tally) states held;
     }
 
+-- before the first byte
+abbrev pub newReader : Reader
+newReader =
+    record {
+      line = 0;
+      digits = false;
+      value = 0;
+      buffers = 0;
+      blocks = 0;
+      bad = 0;
+      tally = record { used = 0; hand = 0; totals = none-yet };
+    }
+
 -- what a piece of the input asks of the reader and lent slices, and leaves
 pub record Ready (r : Reader) (states held place : List ℕ) : Type 0 where
   pub fit : Fit (r .buffers) (r .tally) states held place
   pub line : r .line ≤ maxLines
+  pub begun : r .digits ≡ true → r .line < maxLines
   pub value : r .value ≤ maxBlocks
   pub blocks : r .blocks ≤ maxBlocks
   pub bad : r .bad ≤ suc maxLines
   pub none : r .line ≡ 0 → r .buffers ≡ 0
   pub some : 0 < r .line → 0 < r .buffers
   pub uses : many (r .tally .totals) ≤ r .line - 2
+
+-- the reader becomes r, whatever is lent beside it and stays as it is
+pub record Becomes (f : Scan → Scan) (s r : Reader) : Type 0 where
+  pub each : (states held place : List ℕ) → Ready s states held place
+      → (scanOf r states held ≡ f (scanOf s states held)) × Ready r states held place
+
+-- a line ends, and this is known after it
+abbrev pub onwardReader : Reader → ℕ → ℕ → Tally → Reader
+onwardReader s buffers blocks tally =
+    record { line = s .line + 1; digits = false; value = 0; buffers = buffers; blocks = blocks; bad = s .bad; tally = tally }

@@ -1,8 +1,26 @@
 // The input in pieces: lines of digits, each used at its end.
 
 ghost use mathlib.Core.Path.{_≡_};
-ghost use Prim.Native.Nat.{_<_};
-ghost use Rattle.buftrace.specs.Scan.{Ready, scanOf, feds, finished, broken, start};
+ghost use mathlib.Core.Bool.{true};
+ghost use Prim.Native.Nat.{_≤_, _<_};
+ghost use Rattle.bufmodel.specs.Sizes.{maxBlocks};
+ghost use Rattle.buftrace.specs.Input.{isDigit};
+ghost use Rattle.buftrace.specs.Scan.{
+  Ready,
+  maxLines,
+  Becomes,
+  newReader,
+  onwardReader,
+  spoilt,
+  scanOf,
+  ended,
+  digit,
+  stepped,
+  feds,
+  closed,
+  finished,
+  broken,
+};
 use crate::trace::Tally;
 use crate::trace::use_block;
 use crate::usage::Totals;
@@ -32,7 +50,9 @@ pub struct Reader {
 }
 
 // Before the first byte.
-pub fn new_reader() -> Reader {
+pub fn new_reader() -> Reader
+    ensures { λ r. ⌜ r ≡ newReader ⌝ }
+{
     Reader {
         line: 0,
         digits: false,
@@ -53,7 +73,10 @@ pub fn new_reader() -> Reader {
 }
 
 // The line begun is bad.
-fn spoil(s: Reader) -> Reader {
+fn spoil(s: Reader) -> Reader
+    requires { ⌜ s .line ≤ maxLines ⌝ }
+    ensures { λ r. ⌜ Becomes spoilt s r ⌝ }
+{
     let tally = s.tally;
     Reader {
         line: s.line,
@@ -67,7 +90,10 @@ fn spoil(s: Reader) -> Reader {
 }
 
 // The line ends, and this is known after it.
-fn go_on(s: Reader, buffers: usize, blocks: usize, tally: Tally) -> Reader {
+fn go_on(s: Reader, buffers: usize, blocks: usize, tally: Tally) -> Reader
+    requires { ⌜ s .line < maxLines ⌝ }
+    ensures { λ r. ⌜ r ≡ onwardReader s buffers blocks tally ⌝ }
+{
     Reader {
         line: s.line + 1,
         digits: false,
@@ -80,7 +106,10 @@ fn go_on(s: Reader, buffers: usize, blocks: usize, tally: Tally) -> Reader {
 }
 
 // One of the first two lines ends.
-fn end_head(s: Reader) -> Reader {
+fn end_head(s: Reader) -> Reader
+    requires { ⌜ (s .line < 2) × (s .digits ≡ true) ⌝ }
+    ensures { λ r. ⌜ Becomes ended s r ⌝ }
+{
     let tally = s.tally;
     if s.line == 1 {
         return go_on(s, s.buffers, s.value, tally);
@@ -92,7 +121,12 @@ fn end_head(s: Reader) -> Reader {
 }
 
 // A line ends.
-fn end_line(s: Reader, states: &mut [u32], held: &mut [u16], place: &mut [u16]) -> Reader {
+fn end_line(s: Reader, states: &mut [u32], held: &mut [u16], place: &mut [u16]) -> Reader
+    requires { ⌜ Ready s (now states) (now held) (now place) ⌝ }
+    requires { ⌜ s .line < maxLines ⌝ }
+    ensures { λ r. ⌜ scanOf r (now (states .exit)) (now (held .exit)) ≡ ended (scanOf s (now (states .entry)) (now (held .entry))) ⌝ }
+    ensures { λ r. ⌜ Ready r (now (states .exit)) (now (held .exit)) (now (place .exit)) ⌝ }
+{
     if !s.digits {
         return spoil(s);
     }
@@ -106,13 +140,18 @@ fn end_line(s: Reader, states: &mut [u32], held: &mut [u16], place: &mut [u16]) 
     go_on(s, s.buffers, s.blocks, tally)
 }
 
-fn wide(b: u8) -> usize {
+fn wide(b: u8) -> usize
+    ensures { λ r. ⌜ r ≡ b ⌝ }
+{
     b as usize
 }
 
 // The line begun has a digit more.
-fn add_digit(s: Reader, b: u8) -> Reader {
-    let v = s.value * 10 + wide(b) - 48;
+fn add_digit(s: Reader, b: u8) -> Reader
+    requires { ⌜ (s .line < maxLines) × (s .value ≤ maxBlocks) × (isDigit b ≡ true) ⌝ }
+    ensures { λ r. ⌜ Becomes (λ s. digit s b) s r ⌝ }
+{
+    let v = s.value * 10 + (wide(b) - 48);
     if v > MAX_BLOCKS {
         return spoil(s);
     }
@@ -129,7 +168,11 @@ fn add_digit(s: Reader, b: u8) -> Reader {
 }
 
 // One byte more.
-fn step(s: Reader, states: &mut [u32], held: &mut [u16], place: &mut [u16], b: u8) -> Reader {
+fn step(s: Reader, states: &mut [u32], held: &mut [u16], place: &mut [u16], b: u8) -> Reader
+    requires { ⌜ Ready s (now states) (now held) (now place) ⌝ }
+    ensures { λ r. ⌜ scanOf r (now (states .exit)) (now (held .exit)) ≡ stepped (scanOf s (now (states .entry)) (now (held .entry))) b ⌝ }
+    ensures { λ r. ⌜ Ready r (now (states .exit)) (now (held .exit)) (now (place .exit)) ⌝ }
+{
     if s.line == MAX_LINES {
         return spoil(s);
     }
@@ -149,7 +192,11 @@ pub fn feed(
     held: &mut [u16],
     place: &mut [u16],
     bytes: &[u8],
-) -> Reader {
+) -> Reader
+    requires { ⌜ Ready s (now states) (now held) (now place) ⌝ }
+    ensures { λ r. ⌜ scanOf r (now (states .exit)) (now (held .exit)) ≡ feds (scanOf s (now (states .entry)) (now (held .entry))) (now (bytes .entry)) ⌝ }
+    ensures { λ r. ⌜ Ready r (now (states .exit)) (now (held .exit)) (now (place .exit)) ⌝ }
+{
     let mut t = s;
     let mut i = 0;
     while i < bytes.len() && t.bad == 0 {
@@ -159,23 +206,38 @@ pub fn feed(
     t
 }
 
+// No line is begun: there are two at least, or the next is bad.
+fn close(s: Reader) -> Reader
+    requires { ⌜ s .line ≤ maxLines ⌝ }
+    ensures { λ r. ⌜ Becomes closed s r ⌝ }
+{
+    if (s.bad == 0) & (s.line < 2) {
+        return spoil(s);
+    }
+    s
+}
+
 // The end of the input: the last line may lack its newline, the first two lines may not be missing.
-pub fn finish(s: Reader, states: &mut [u32], held: &mut [u16], place: &mut [u16]) -> Reader {
+pub fn finish(s: Reader, states: &mut [u32], held: &mut [u16], place: &mut [u16]) -> Reader
+    requires { ⌜ Ready s (now states) (now held) (now place) ⌝ }
+    ensures { λ r. ⌜ scanOf r (now (states .exit)) (now (held .exit)) ≡ finished (scanOf s (now (states .entry)) (now (held .entry))) ⌝ }
+    ensures { λ r. ⌜ Ready r (now (states .exit)) (now (held .exit)) (now (place .exit)) ⌝ }
+{
     if s.bad != 0 {
         return s;
     }
-    let mut t = s;
-    if s.digits {
-        t = end_line(s, states, held, place);
+    if !s.digits {
+        return close(s);
     }
-    if (t.bad == 0) & (t.line < 2) {
-        return spoil(t);
-    }
-    t
+    let t = end_line(s, states, held, place);
+    close(t)
 }
 
 // A read failed: the line begun could not be read.
-pub fn break_off(s: Reader) -> Reader {
+pub fn break_off(s: Reader) -> Reader
+    requires { ⌜ s .line ≤ maxLines ⌝ }
+    ensures { λ r. ⌜ Becomes broken s r ⌝ }
+{
     if s.bad != 0 {
         return s;
     }

@@ -1,0 +1,44 @@
+-- THE CLAIM: the line made of the input byte by byte, without page bytes, is the line that the pool's own calls give.
+use Prim.Native.Nat.{ℕ, _≤_, _<_}
+use native.Mathlib.Omega.{arith}
+use mathlib.Core.Path.{_≡_, refl, sym, ap, _∙_}
+use mathlib.Core.List.{List}
+use borrow.Author.Tests.{eq-eqb, ne-eqb}
+use Rattle.laws.specs.Times.{times}
+use Rattle.bufmodel.specs.Sizes.{blockSizes, maxBuffers, maxBlocks}
+use Rattle.buftrace.specs.Input.{Given, given, bad, linesOf, parse}
+use Rattle.buftrace.specs.Usage.{Below, usedOn}
+use Rattle.buftrace.specs.Trace.{unused, uses}
+use Rattle.buftrace.specs.Scan.{Scan, start, feds, finished}
+use Rattle.buftrace.specs.Report.{totalsLine, badLine, reported, report, printed}
+use Rattle.buftrace.proofs.UsageLaws.{trace-is}
+use Rattle.buftrace.proofs.ScanLaws.{Tells, tells-bad, tells-given, input-is}
+
+size-permitted : 0 < times 1024 blockSizes
+unfolding times
+size-permitted = omega arith
+
+used-is : (n blocks : ℕ) (bs : List ℕ) → 1 ≤ n → n ≤ maxBuffers → blocks ≤ maxBlocks → Below blocks bs
+    → usedOn n blocks bs ≡ uses n unused bs .totals
+unfolding usedOn
+used-is n blocks bs l m b below =
+    trace-is 1024 n n blocks
+    (record { size = size-permitted; least = l; most = m; wide = omega arith; heads = omega (arith, m); room = b }) bs below
+
+printed-bad : (s : Scan) (k : ℕ) → 0 < k → s .bad ≡ k → printed s ≡ badLine k
+unfolding printed
+printed-bad s k l e = rw (e, ne-eqb k 0 (λ z. absurd (omega (arith, z, l)))) refl
+
+printed-given : (s : Scan) → s .bad ≡ 0 → printed s ≡ totalsLine (s .trace .totals)
+unfolding printed
+printed-given s e = rw (e) refl
+
+reported-is : (g : Given) (s : Scan) → Tells g s → printed s ≡ reported g
+unfolding reported
+reported-is g s (tells-bad {k} l e) = printed-bad s k l e
+reported-is g s (tells-given {n} {blocks} {bs} e t l m b below) =
+    printed-given s e ∙ ap (λ u. totalsLine (u .totals)) t ∙ ap totalsLine (sym (used-is n blocks bs l m b below))
+
+pub costs : (input : List ℕ) → printed (finished (feds start input)) ≡ report input
+unfolding report
+costs input = reported-is (parse (linesOf input)) (finished (feds start input)) (input-is input)
