@@ -10,3 +10,9 @@ pub mod LineLaws
 pub mod ByteLaws
 pub mod ScanLaws
 pub mod ReportLaws
+pub mod IdleLaws
+pub mod PlaceLaws
+pub mod TraceLaws
+pub mod EndLaws
+pub mod FeedLaws
+pub mod ReaderLaws
