@@ -9,10 +9,11 @@ pub mod UsageLaws
 pub mod LineLaws
 pub mod ByteLaws
 pub mod ScanLaws
-pub mod ReportLaws
 pub mod IdleLaws
 pub mod PlaceLaws
 pub mod TraceLaws
 pub mod EndLaws
 pub mod FeedLaws
 pub mod ReaderLaws
+pub mod DigitsLaws
+pub mod ReportLaws

@@ -5,8 +5,10 @@ use mathlib.Core.Path.{_≡_, refl, sym, ap, _∙_}
 use mathlib.Core.Logic.{_≢_, _⊎_, inl, inr}
 use mathlib.Core.Bool.{Bool, true, false, _&&_, _||_}
 use mathlib.Core.List.{List}
+use lib.ListN.{getD, replicate, length-replicate}
 use lib.Dec.{eqb, ltb}
 use borrow.Author.Tests.{eq-eqb, ne-eqb, le-leb, lt-leb, ltb-true, ltb-false}
+use Rattle.laws.proofs.Lists.{getD-replicate-all}
 use Rattle.laws.proofs.Tests.{or-neither, true-or-false, never}
 use Rattle.bufmodel.specs.Sizes.{maxBuffers, maxBlocks}
 use Rattle.buftrace.specs.declared.trace.Tally.{Tally}
@@ -17,6 +19,8 @@ use Rattle.buftrace.specs.Scan.{
   Ready,
   Becomes,
   maxLines,
+  start,
+  newReader,
   onwardReader,
   scanOf,
   spoilt,
@@ -307,3 +311,35 @@ module _ (s : Reader) where
         (onward-ready (s .buffers) (s .blocks) c states₁ held₁ place₁ m (k .bad) f (k .blocks) (k .some (omega (arith, l)))
         (omega (arith, n, k .uses, l))),
   )
+
+-- ---- before the first byte, over slices of zeros
+pub new-start : (states held : List ℕ) → scanOf newReader states held ≡ start
+unfolding traceOf
+new-start states held = refl
+
+pub new-ready : Ready newReader (replicate maxBuffers 0) (replicate maxBuffers 0) (replicate maxBlocks 0)
+new-ready =
+    record {
+      fit =
+          record {
+            few = omega arith;
+            words = length-replicate {A = ℕ} maxBuffers 0;
+            blocks = length-replicate {A = ℕ} maxBuffers 0;
+            table = length-replicate {A = ℕ} maxBlocks 0;
+            used = omega arith;
+            hand = omega arith;
+            probes = omega arith;
+            idle = λ i l. absurd (omega (arith, l));
+            below = λ i l. absurd (omega (arith, l));
+            there = λ i l. absurd (omega (arith, l));
+            only = λ b l z. absurd (omega (arith, rw (getD-replicate-all {A = ℕ} maxBlocks b 0) at z));
+          };
+      line = omega arith;
+      begun = λ e. never e refl;
+      value = omega arith;
+      blocks = omega arith;
+      bad = omega arith;
+      none = λ e. refl;
+      some = λ l. absurd (omega (arith, l));
+      uses = omega arith;
+    }

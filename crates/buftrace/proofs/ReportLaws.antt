@@ -2,15 +2,17 @@
 use Prim.Native.Nat.{ℕ, _≤_, _<_}
 use native.Mathlib.Omega.{arith}
 use mathlib.Core.Path.{_≡_, refl, sym, ap, _∙_}
+use mathlib.Core.Bool.{false}
 use mathlib.Core.List.{List}
 use borrow.Author.Tests.{eq-eqb, ne-eqb}
 use Rattle.laws.specs.Times.{times}
 use Rattle.bufmodel.specs.Sizes.{blockSizes, maxBuffers, maxBlocks}
+use Rattle.buftrace.specs.declared.scan.Reader.{Reader}
 use Rattle.buftrace.specs.Input.{Given, given, bad, linesOf, parse}
 use Rattle.buftrace.specs.Usage.{Below, usedOn}
-use Rattle.buftrace.specs.Trace.{unused, uses}
-use Rattle.buftrace.specs.Scan.{Scan, start, feds, finished}
-use Rattle.buftrace.specs.Report.{totalsLine, badLine, reported, report, printed}
+use Rattle.buftrace.specs.Trace.{unused, uses, traceOf}
+use Rattle.buftrace.specs.Scan.{Scan, start, feds, finished, scanOf, Fed, fed-all, fed-some}
+use Rattle.buftrace.specs.Report.{totalsLine, badLine, reported, report, printed, printedOf, Wrote, wrote-all, wrote-some}
 use Rattle.buftrace.proofs.UsageLaws.{trace-is}
 use Rattle.buftrace.proofs.ScanLaws.{Tells, tells-bad, tells-given, input-is}
 
@@ -39,6 +41,15 @@ reported-is g s (tells-bad {k} l e) = printed-bad s k l e
 reported-is g s (tells-given {n} {blocks} {bs} e t l m b below) =
     printed-given s e ∙ ap (λ u. totalsLine (u .totals)) t ∙ ap totalsLine (sym (used-is n blocks bs l m b below))
 
+pub printed-of : (r : Reader) (states held : List ℕ) → printed (scanOf r states held) ≡ printedOf r
+unfolding printed printedOf traceOf
+printed-of r states held = refl
+
 pub costs : (input : List ℕ) → printed (finished (feds start input)) ≡ report input
 unfolding report
 costs input = reported-is (parse (linesOf input)) (finished (feds start input)) (input-is input)
+
+-- whatever was read, the line is its own
+pub wrote : {s t : Scan} {line : List ℕ} → Fed start false s → t ≡ finished s → line ≡ printed t → Wrote line
+wrote (fed-all input e) f l = wrote-all input (l ∙ ap printed (f ∙ ap finished e) ∙ costs input)
+wrote (fed-some input e) f l = wrote-some input (l ∙ ap printed (f ∙ ap finished e))

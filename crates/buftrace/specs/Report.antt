@@ -1,13 +1,15 @@
 -- The printed line.
 use Prim.Native.Nat.{ℕ, zero, suc, _+_, _/_, _%_}
+use mathlib.Core.Path.{_≡_}
 use mathlib.Core.Bool.{cond}
 use mathlib.Core.List.{List, [], _∷_, _++_}
 use lib.Dec.{eqb, ltb}
 use Rattle.buftrace.specs.declared.usage.Totals.{Totals}
+use Rattle.buftrace.specs.declared.scan.Reader.{Reader}
 use Rattle.buftrace.specs.Input.{Given, given, bad, newline, linesOf, parse}
 use Rattle.buftrace.specs.Usage.{usedOn}
 use Rattle.buftrace.specs.Trace.{Trace}
-use Rattle.buftrace.specs.Scan.{Scan}
+use Rattle.buftrace.specs.Scan.{Scan, start, feds, finished, broken}
 
 -- ---- a number in decimal digits, without zeros in front; a number has fewer digits than its value and one
 unfoldable pub spelled : ℕ → ℕ → List ℕ
@@ -43,3 +45,14 @@ unfoldable pub printed : Scan → List ℕ
 printed s =
     let totals = totalsLine (s .trace .totals) in
     cond (eqb (s .bad) 0) totals (badLine (s .bad))
+
+-- the same of what the code keeps, which lent slices do not change
+unfoldable pub printedOf : Reader → List ℕ
+printedOf r =
+    let totals = totalsLine (r .tally .totals) in
+    cond (eqb (r .bad) 0) totals (badLine (r .bad))
+
+-- ---- what the program writes: the line for what was read; where a read failed, that the line begun is bad
+pub data Wrote : List ℕ → Type 0 where
+  wrote-all : {line : List ℕ} (input : List ℕ) → line ≡ report input → Wrote line
+  wrote-some : {line : List ℕ} (input : List ℕ) → line ≡ printed (finished (broken (feds start input))) → Wrote line

@@ -169,7 +169,7 @@ abbrev pub onwardReader : Reader → ℕ → ℕ → Tally → Reader
 onwardReader s buffers blocks tally =
     record { line = s .line + 1; digits = false; value = 0; buffers = buffers; blocks = blocks; bad = s .bad; tally = tally }
 
--- what reads make of a scan: some bytes were fed, and then perhaps a read failed. No contract can say which bytes are read
-pub data Fed (s : Scan) : Scan → Type 0 where
-  fed-all : {t : Scan} (bytes : List ℕ) → t ≡ feds s bytes → Fed s t
-  fed-some : {t : Scan} (bytes : List ℕ) → t ≡ broken (feds s bytes) → Fed s t
+-- what reads make of a scan, and whether there may be more: some bytes were fed, and then perhaps a read failed. No contract can say which
+pub data Fed (s : Scan) : Bool → Scan → Type 0 where
+  fed-all : {more : Bool} {t : Scan} (bytes : List ℕ) → t ≡ feds s bytes → Fed s more t
+  fed-some : {t : Scan} (bytes : List ℕ) → t ≡ broken (feds s bytes) → Fed s false t
