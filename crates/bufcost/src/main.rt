@@ -1,11 +1,19 @@
-// What a list of used pages costs: reads the list from standard input and writes hits, loads and probes, or the first bad line.
+// What a list of used pages costs: reads the list from standard input, and writes hits, loads and probes, or the first bad line.
 
+ghost use mathlib.Core.Path.{_≡_};
+ghost use mathlib.Core.Bool.{false};
+ghost use lib.ListN.{take};
+ghost use Rattle.io.specs.Counts.{Counts};
+ghost use Rattle.buftrace.specs.Scan.{Ready, Fed, scanOf};
+ghost use Rattle.buftrace.specs.Report.{Wrote};
 use buftrace::report::put_line;
 use buftrace::scan::Reader;
 use buftrace::scan::break_off;
 use buftrace::scan::feed;
 use buftrace::scan::finish;
 use buftrace::scan::new_reader;
+use libc::STDIN_FILENO;
+use libc::STDOUT_FILENO;
 
 // What a read left: the reader, and whether there may be more.
 struct Piece {
@@ -13,13 +21,18 @@ struct Piece {
     more: bool,
 }
 
-// Reads a piece of the input.
-fn read_piece(s: Reader, states: &mut [u32], held: &mut [u16], place: &mut [u16]) -> Piece {
+// Reads a piece of the input, and no more behind a bad line.
+fn read_piece(s: Reader, states: &mut [u32], held: &mut [u16], place: &mut [u16]) -> Piece
+    requires { ⌜ Ready s (now states) (now held) (now place) ⌝ }
+    ensures { λ r. ⌜ Ready (r .reader) (now (states .exit)) (now (held .exit)) (now (place .exit)) ⌝ }
+    ensures { λ r. ⌜ Fed (scanOf s (now (states .entry)) (now (held .entry))) (r .more) (scanOf (r .reader) (now (states .exit)) (now (held .exit))) ⌝ }
+{
     let mut buf = io::large_buffer();
-    let got = libc::read(0, &mut buf);
+    let got = libc::read(STDIN_FILENO, &mut buf);
     if got < 0 {
+        let end = break_off(s);
         return Piece {
-            reader: break_off(s),
+            reader: end,
             more: false,
         };
     }
@@ -31,8 +44,12 @@ fn read_piece(s: Reader, states: &mut [u32], held: &mut [u16], place: &mut [u16]
     }
 }
 
-// All pieces. A proved loop has to end: it counts its turns down, from a number that no run uses up.
-fn read_all(s: Reader, states: &mut [u32], held: &mut [u16], place: &mut [u16]) -> Reader {
+// All pieces. A proved loop has to end, and nothing says that the input does: it counts its turns down, from a number that no run uses up.
+fn read_all(s: Reader, states: &mut [u32], held: &mut [u16], place: &mut [u16]) -> Reader
+    requires { ⌜ Ready s (now states) (now held) (now place) ⌝ }
+    ensures { λ r. ⌜ Ready r (now (states .exit)) (now (held .exit)) (now (place .exit)) ⌝ }
+    ensures { λ r. ⌜ Fed (scanOf s (now (states .entry)) (now (held .entry))) false (scanOf r (now (states .exit)) (now (held .exit))) ⌝ }
+{
     let mut turns = u64::MAX;
     let mut t = s;
     let mut more = true;
@@ -45,13 +62,21 @@ fn read_all(s: Reader, states: &mut [u32], held: &mut [u16], place: &mut [u16]) 
     t
 }
 
-fn main() {
+// Puts the line for the input at the start of out, and answers its length.
+fn cost_line(out: &mut [u8; 64]) -> usize
+    ensures { λ r. ⌜ Counts r (now (out .exit)) ⌝ }
+    ensures { λ r. ⌜ Wrote (take r (now (out .exit))) ⌝ }
+{
     let mut states = [0u32; 1024];
     let mut held = [0u16; 1024];
     let mut place = [0u16; 65536];
     let t = read_all(new_reader(), &mut states, &mut held, &mut place);
     let end = finish(t, &mut states, &mut held, &mut place);
+    put_line(end, out)
+}
+
+fn main() {
     let mut out = [0u8; 64];
-    let k = put_line(end, &mut out);
-    io::write_all(1, &out[..k]);
+    let k = cost_line(&mut out);
+    io::write_all(STDOUT_FILENO, &out[..k]);
 }

@@ -114,6 +114,10 @@ module _ (s : Scan) where
   finished-open e d = rw (eq-eqb (s .bad) 0 e, d) refl
 
 -- ---- reads, one after the other
+pub feds-none : (s : Scan) → feds s [] ≡ s
+unfolding feds
+feds-none s = refl
+
 pub fed-then : {s t u : Scan} {more : Bool} → Fed s true t → Fed t more u → Fed s more u
 fed-then {s} (fed-all bs e) (fed-all cs f) = fed-all (bs ++ cs) (f ∙ ap (λ t. feds t cs) e ∙ sym (feds-then s bs cs))
 fed-then {s} (fed-all bs e) (fed-some cs f) =

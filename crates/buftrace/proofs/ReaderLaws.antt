@@ -20,6 +20,7 @@ use Rattle.buftrace.specs.Scan.{
   Becomes,
   maxLines,
   start,
+  Fed,
   newReader,
   onwardReader,
   scanOf,
@@ -313,7 +314,10 @@ module _ (s : Reader) where
   )
 
 -- ---- before the first byte, over slices of zeros
-pub new-start : (states held : List ℕ) → scanOf newReader states held ≡ start
+pub ready-as : {r t : Reader} {states held place : List ℕ} → r ≡ t → Ready t states held place → Ready r states held place
+ready-as e k = rw (e) k
+
+new-start : (states held : List ℕ) → scanOf newReader states held ≡ start
 unfolding traceOf
 new-start states held = refl
 
@@ -343,3 +347,7 @@ new-ready =
       some = λ l. absurd (omega (arith, l));
       uses = omega arith;
     }
+
+pub fed-from : (r : Reader) (states held : List ℕ) {more : Bool} {t : Scan} → r ≡ newReader → Fed (scanOf r states held) more t
+    → Fed start more t
+fed-from r states held e f = rw (ap (λ r. scanOf r states held) e ∙ new-start states held) at f
