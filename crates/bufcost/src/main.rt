@@ -25,7 +25,9 @@ struct Piece {
 fn read_piece(s: Reader, states: &mut [u32], held: &mut [u16], place: &mut [u16]) -> Piece
     requires { ⌜ Ready s (now states) (now held) (now place) ⌝ }
     ensures { λ r. ⌜ Ready (r .reader) (now (states .exit)) (now (held .exit)) (now (place .exit)) ⌝ }
-    ensures { λ r. ⌜ Fed (scanOf s (now (states .entry)) (now (held .entry))) (r .more) (scanOf (r .reader) (now (states .exit)) (now (held .exit))) ⌝ }
+    ensures { λ r.
+        ⌜ Fed (scanOf s (now (states .entry)) (now (held .entry))) (r .more)
+        (scanOf (r .reader) (now (states .exit)) (now (held .exit))) ⌝ }
 {
     let mut buf = io::large_buffer();
     let got = libc::read(STDIN_FILENO, &mut buf);

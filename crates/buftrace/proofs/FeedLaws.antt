@@ -11,7 +11,23 @@ use borrow.Author.Tests.{leb-true, ltb-true, ltb-false, eq-eqb, ne-eqb, le-leb, 
 use Rattle.laws.proofs.Tests.{and-left, or-neither, true-or-false}
 use Rattle.buftrace.specs.Input.{newline, isDigit}
 use Rattle.buftrace.proofs.ScanLaws.{feds-then}
-use Rattle.buftrace.specs.Scan.{Scan, maxLines, spoilt, ended, digit, stepped, fed, feds, lastLine, closed, finished, broken, Fed, fed-all, fed-some}
+use Rattle.buftrace.specs.Scan.{
+  Scan,
+  Fed,
+  fed-all,
+  fed-some,
+  maxLines,
+  spoilt,
+  ended,
+  digit,
+  stepped,
+  fed,
+  feds,
+  lastLine,
+  closed,
+  finished,
+  broken,
+}
 
 pub one-more : (n : ℕ) → n + 1 ≡ suc n
 one-more n = omega arith

@@ -1,5 +1,5 @@
--- The same with no page bytes, names, links or counts: of each buffer that has a page, in order, the state word and the block; the hand; the
--- totals so far. The words are the pool's, and so is the sweep. A buffer that has a page keeps one, so the free list gives the next buffer
+-- The same with no page bytes, names, links or counts: of each buffer that has a page, in order, the state word and the block; the hand;
+-- the totals so far. The words are the pool's, and so is the sweep. A buffer that has a page keeps one, so the free list gives the next
 use Prim.Native.Nat.{ℕ, suc, _+_, _-_, _*_, _≤_, _<_}
 use mathlib.Core.Path.{_≡_}
 use mathlib.Core.Bool.{true, false, cond}

@@ -1,5 +1,5 @@
--- What a list of used pages costs (document 02, 2026-06): hits, loads and probes of pinning and unpinning each on a fresh pool, by the pool's
--- own set up, pin and unpin.
+-- What a list of used pages costs (document 02, 2026-06): hits, loads and probes of pinning and unpinning each on a fresh pool, by the
+-- pool's own set up, pin and unpin.
 use Prim.Native.Nat.{ℕ, _+_, _-_, _*_, _<_}
 use mathlib.Core.Bool.{Bool, true, _&&_}
 use mathlib.Core.List.{List, [], _∷_}
@@ -75,7 +75,7 @@ start p buckets n blocks = setUp (blank p buckets n blocks) p 0 cap
 abbrev pub none-yet : Totals
 none-yet = record { hits = 0; loads = 0; probes = 0 }
 
--- with blocks of p bytes and so many buckets, of which document 02 says nothing: the numbers are the same for all (`UsageLaws.same-numbers`)
+-- with blocks of p bytes and so many buckets, of which document 02 says nothing: the numbers are the same for all of them (`same-numbers`)
 unfoldable pub usedWith : ℕ → ℕ → ℕ → ℕ → List ℕ → Totals
 usedWith p buckets n blocks bs = usedFrom (start p buckets n blocks .after) none-yet bs
 

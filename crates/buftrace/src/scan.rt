@@ -194,7 +194,9 @@ pub fn feed(
     bytes: &[u8],
 ) -> Reader
     requires { ⌜ Ready s (now states) (now held) (now place) ⌝ }
-    ensures { λ r. ⌜ scanOf r (now (states .exit)) (now (held .exit)) ≡ feds (scanOf s (now (states .entry)) (now (held .entry))) (now (bytes .entry)) ⌝ }
+    ensures { λ r.
+        ⌜ scanOf r (now (states .exit)) (now (held .exit))
+        ≡ feds (scanOf s (now (states .entry)) (now (held .entry))) (now (bytes .entry)) ⌝ }
     ensures { λ r. ⌜ Ready r (now (states .exit)) (now (held .exit)) (now (place .exit)) ⌝ }
 {
     let mut t = s;

@@ -48,9 +48,13 @@ put-line-requires c κs = search needs
 -- src/main.rt:66:1
 returns : tie.Need-returns
 returns c =
+    let c5 = c .before .before .before .before .before in
+    let c12 = c5 .before .before .before .before .before .before .before in
+    let c16 = c12 .before .before .before .before in
     let p = c .put-line in (
       p .ensures .0,
-      wrote (fed-from _ _ _ (c .before .before .before .before .before .before .before .before .before .before .before .before .before .before .before .before .new-reader .ensures) (c .before .before .before .before .before .before .before .before .before .before .before .before .read-all .ensures .1)) (c .before .before .before .before .before .finish .ensures .0) (p .ensures .1 ∙ sym (printed-of _ _ _)),
+      wrote (fed-from _ _ _ (c16 .new-reader .ensures) (c12 .read-all .ensures .1)) (c5 .finish .ensures .0)
+          (p .ensures .1 ∙ sym (printed-of _ _ _)),
     )
 
 pub cost-line-spec : {M : Type 1} → statement M

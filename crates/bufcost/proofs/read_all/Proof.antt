@@ -31,17 +31,26 @@ read-piece-requires c κs = c .before .before .before .before .before .loop .inv
 
 -- src/main.rt:60:9
 sub-turns : tie.Need-sub-turns Inv-loop μ-loop
-sub-turns c = omega (arith, c .before .before .before .before .before .before .before .before .before .before .before .before .loop-test .taken)
+sub-turns c =
+    let c9 = c .before .before .before .before .before .before .before .before .before in
+    let c12 = c9 .before .before .before in
+    omega (arith, c12 .loop-test .taken)
 
 -- src/main.rt:56:5
 loop-less : tie.Need-loop-less Inv-loop μ-loop
-loop-less c = omega (arith, c .before .before .before .before .before .before .before .before .before .before .before .before .loop-test .taken)
+loop-less c =
+    let c9 = c .before .before .before .before .before .before .before .before .before in
+    let c12 = c9 .before .before .before in
+    omega (arith, c12 .loop-test .taken)
 
 -- src/main.rt:56:5
 loop-again : tie.Need-loop-again Inv-loop μ-loop
 loop-again c =
-    let p = c .before .before .before .before .before .before .before .read-piece in
-    (p .ensures .0, fed-then (more-is (c .before .before .before .before .before .before .before .before .before .before .before .if1 .taken) (c .before .before .before .before .before .before .before .before .before .before .before .before .before .loop .inv .1)) (p .ensures .1), search needs, search needs, search needs)
+    let c7 = c .before .before .before .before .before .before .before in
+    let c11 = c7 .before .before .before .before in
+    let c13 = c11 .before .before in
+    let p = c7 .read-piece in
+    (p .ensures .0, fed-then (more-is (c11 .if1 .taken) (c13 .loop .inv .1)) (p .ensures .1), search needs, search needs, search needs)
 
 -- src/main.rt:48:1
 same-length : tie.Need-same-length Inv-loop μ-loop

@@ -62,7 +62,9 @@ same-length-3 c = search needs
 
 -- src/main.rt:25:1
 returns-2 : tie.Need-returns-2
-returns-2 c = (c .before .before .before .before .before .before .before .feed .ensures .1, fed-all _ (c .before .before .before .before .before .before .before .feed .ensures .0))
+returns-2 c =
+    let c7 = c .before .before .before .before .before .before .before in
+    (c7 .feed .ensures .1, fed-all _ (c7 .feed .ensures .0))
 
 pub read-piece-spec : {M : Type 1} → statement M
 read-piece-spec =

@@ -10,7 +10,9 @@ spoil-requires : tie.Need-spoil-requires
 spoil-requires c κs = search needs
 
 returns : tie.Need-returns
-returns c = none-becomes _ (not-true _ (c .before .if1 .taken)) (c .spoil .ensures) .each _ _ _ (c .before .before .before .before .before .before .pre .0)
+returns c =
+    let c6 = c .before .before .before .before .before .before in
+    none-becomes _ (not-true _ (c .before .if1 .taken)) (c .spoil .ensures) .each _ _ _ (c6 .pre .0)
 
 end-head-requires : tie.Need-end-head-requires
 end-head-requires c κs = (search needs, not-false _ (c .before .before .if1 .left))
@@ -23,10 +25,19 @@ spoil-requires-2 c κs = search needs
 
 returns-3 : tie.Need-returns-3
 returns-3 c =
-    outside-becomes _ (search needs) (not-false _ (c .before .before .before .before .before .if1 .left)) (search needs) (c .spoil2 .ensures) .each _ _ _ (c .before .before .before .before .before .before .before .before .before .before .pre .0)
+    let c5 = c .before .before .before .before .before in
+    let c10 = c5 .before .before .before .before .before in
+    outside-becomes _ (search needs) (not-false _ (c5 .if1 .left)) (search needs) (c .spoil2 .ensures) .each _ _ _ (c10 .pre .0)
 
 use-block-requires : tie.Need-use-block-requires
-use-block-requires c κs = (c .before .before .before .before .before .before .before .before .before .before .before .before .pre .0 .fit, (c .before .before .before .before .before .before .before .before .before .before .before .before .pre .0 .some (search needs), omega (arith, c .before .before .before .before .before .before .before .before .before .before .before .before .pre .0 .blocks, c .before .before .before .if3 .left), omega (arith, c .before .before .before .before .before .before .before .before .before .before .before .before .pre .0 .uses, c .before .before .before .before .before .before .before .before .before .before .before .before .pre .1, c .before .before .before .before .before .if2 .left)))
+use-block-requires c κs =
+    let c3 = c .before .before .before in
+    let c5 = c3 .before .before in
+    let c12 = c5 .before .before .before .before .before .before .before in
+    let k = c12 .pre .0 in (
+      k .fit,
+      (k .some (search needs), omega (arith, k .blocks, c3 .if3 .left), omega (arith, k .uses, c12 .pre .1, c5 .if2 .left)),
+    )
 
 go-on-requires : tie.Need-go-on-requires
 go-on-requires c κs = search needs
@@ -42,9 +53,15 @@ same-length-3 c = search needs
 
 returns-4 : tie.Need-returns-4
 returns-4 c =
-    let u = c .before .before .before .before .before .before .before .use-block in
-    used-ready _ (u .result) _ _ _ (u .last .1 .1 .0) (u .last .1 .1 .1 .0) (u .last .1 .1 .1 .1 .0) _ (c .before .before .before .before .before .before .before .before .before .before .before .before .before .before .before .before .before .before .before .before .pre .0) (c .before .before .before .before .before .before .before .before .before .before .before .before .before .before .before .before .before .before .before .before .pre .1)
-    (omega (arith, c .before .before .before .before .before .before .before .before .before .before .before .before .before .if2 .left)) (not-false _ (c .before .before .before .before .before .before .before .before .before .before .before .before .before .before .before .if1 .left)) (omega (arith, c .before .before .before .before .before .before .before .before .before .before .before .if3 .left)) (u .ensures .0) (u .ensures .1 .0) (u .ensures .1 .1) (c .go-on .ensures)
+    let c7 = c .before .before .before .before .before .before .before in
+    let c11 = c7 .before .before .before .before in
+    let c13 = c11 .before .before in
+    let c15 = c13 .before .before in
+    let c20 = c15 .before .before .before .before .before in
+    let u = c7 .use-block in
+    used-ready _ (u .result) _ _ _ (u .last .1 .1 .0) (u .last .1 .1 .1 .0) (u .last .1 .1 .1 .1 .0) _ (c20 .pre .0) (c20 .pre .1)
+    (omega (arith, c13 .if2 .left)) (not-false _ (c15 .if1 .left)) (omega (arith, c11 .if3 .left)) (u .ensures .0)
+    (u .ensures .1 .0) (u .ensures .1 .1) (c .go-on .ensures)
 
 pub end-line-spec : {M : Type 1} → statement M
 end-line-spec =

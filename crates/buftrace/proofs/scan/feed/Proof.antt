@@ -30,20 +30,29 @@ step-requires : tie.Need-step-requires Inv-loop μ-loop
 step-requires c κs = c .before .before .before .before .before .before .before .loop .inv .2
 
 add-i : tie.Need-add-i Inv-loop μ-loop
-add-i c = record { fits = omega (arith, c .before .before .before .before .before .before .before .before .before .before .before .before .before .loop-test .taken, c .before .before .before .before .before .before .before .before .before .before .before .before .before .before .before .before .before .before .before .good) }
+add-i c =
+    let c9 = c .before .before .before .before .before .before .before .before .before in
+    let c13 = c9 .before .before .before .before in
+    let c19 = c13 .before .before .before .before .before .before in
+    record { fits = omega (arith, c13 .loop-test .taken, c19 .good) }
 
 loop-less : tie.Need-loop-less Inv-loop μ-loop
 loop-less c = search needs
 
 loop-again : tie.Need-loop-again Inv-loop μ-loop
-loop-again c = (
-  search needs,
-  feds-next _ _ (now (c .before .before .before .before .before .before .before .before .before .before .before .before .before .before .before .before .before .before .before .args .bytes)) (c .before .before .before .before .before .before .before .before .before .before .before .before .before .before .loop .i) (search needs) (eqb-true _ 0 (c .before .before .before .before .before .before .before .before .before .before .before .if1 .taken)) (c .before .before .before .before .before .before .step .ensures .0) ∙ c .before .before .before .before .before .before .before .before .before .before .before .before .before .before .loop .inv .1,
-  c .before .before .before .before .before .before .step .ensures .1,
-  search needs,
-  search needs,
-  search needs,
-)
+loop-again c =
+    let c6 = c .before .before .before .before .before .before in
+    let c11 = c6 .before .before .before .before .before in
+    let c14 = c11 .before .before .before in
+    let c19 = c14 .before .before .before .before .before in (
+      search needs,
+      feds-next _ _ (now (c19 .args .bytes)) (c14 .loop .i) (search needs) (eqb-true _ 0 (c11 .if1 .taken)) (c6 .step .ensures .0)
+          ∙ c14 .loop .inv .1,
+      c6 .step .ensures .1,
+      search needs,
+      search needs,
+      search needs,
+    )
 
 same-length : tie.Need-same-length Inv-loop μ-loop
 same-length c = search needs
@@ -55,7 +64,9 @@ same-length-3 : tie.Need-same-length-3 Inv-loop μ-loop
 same-length-3 c = search needs
 
 returns : tie.Need-returns Inv-loop μ-loop
-returns c = (sym (feds-late _ _ (eqb-false _ 0 (c .if1 .left))) ∙ c .before .before .before .loop .inv .1, c .before .before .before .loop .inv .2)
+returns c =
+    let c3 = c .before .before .before in
+    (sym (feds-late _ _ (eqb-false _ 0 (c .if1 .left))) ∙ c3 .loop .inv .1, c3 .loop .inv .2)
 
 same-length-4 : tie.Need-same-length-4 Inv-loop μ-loop
 same-length-4 c = search needs
@@ -67,7 +78,9 @@ same-length-6 : tie.Need-same-length-6 Inv-loop μ-loop
 same-length-6 c = search needs
 
 returns-2 : tie.Need-returns-2 Inv-loop μ-loop
-returns-2 c = (sym (feds-all _ (now (c .before .before .before .before .before .before .args .bytes)) (c .before .loop .i) (search needs)) ∙ c .before .loop .inv .1, c .before .loop .inv .2)
+returns-2 c =
+    let c6 = c .before .before .before .before .before .before in
+    (sym (feds-all _ (now (c6 .args .bytes)) (c .before .loop .i) (search needs)) ∙ c .before .loop .inv .1, c .before .loop .inv .2)
 
 pub feed-spec : {M : Type 1} → statement M
 feed-spec =

@@ -18,7 +18,10 @@ returns-2 c =
     (b .0 ∙ sym (finished-whole _ (c .before .before .before .if1 .left) (not-true _ (c .before .if2 .taken))), b .1)
 
 end-line-requires : tie.Need-end-line-requires
-end-line-requires c κs = (c .before .before .before .before .before .before .before .before .before .before .pre, c .before .before .before .before .before .before .before .before .before .before .pre .begun (not-false _ (c .before .before .before .if2 .left)))
+end-line-requires c κs =
+    let c3 = c .before .before .before in
+    let c10 = c3 .before .before .before .before .before .before .before in
+    (c10 .pre, c10 .pre .begun (not-false _ (c3 .if2 .left)))
 
 close-requires-2 : tie.Need-close-requires-2
 close-requires-2 c κs = c .before .before .before .before .before .before .end-line .ensures .1 .line
@@ -34,8 +37,11 @@ same-length-3 c = search needs
 
 returns-3 : tie.Need-returns-3
 returns-3 c =
-    let b = c .close2 .ensures .each _ _ _ (c .before .before .before .before .before .before .before .end-line .ensures .1) in
-    (b .0 ∙ ap closed (c .before .before .before .before .before .before .before .end-line .ensures .0) ∙ sym (finished-open _ (c .before .before .before .before .before .before .before .before .before .before .before .before .before .if1 .left) (not-false _ (c .before .before .before .before .before .before .before .before .before .before .before .if2 .left))), b .1)
+    let c7 = c .before .before .before .before .before .before .before in
+    let c11 = c7 .before .before .before .before in
+    let c13 = c11 .before .before in
+    let b = c .close2 .ensures .each _ _ _ (c7 .end-line .ensures .1) in
+    (b .0 ∙ ap closed (c7 .end-line .ensures .0) ∙ sym (finished-open _ (c13 .if1 .left) (not-false _ (c11 .if2 .left))), b .1)
 
 pub finish-spec : {M : Type 1} → statement M
 finish-spec =
