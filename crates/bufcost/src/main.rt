@@ -1,6 +1,5 @@
 // What a list of used pages costs: reads the list from standard input, and writes hits, loads and probes, or the first bad line.
 
-ghost use mathlib.Core.Path.{_≡_};
 ghost use mathlib.Core.Bool.{false};
 ghost use lib.ListN.{take};
 ghost use Rattle.io.specs.Counts.{Counts};

@@ -91,7 +91,7 @@ module _ (p n blocks : ℕ) (m : Memory) (t : Trace) (a : Agrees p n blocks m t)
       ∙ omega (arith, a .same, a .most, length-replicate {A = ℕ} (n - length (t .held)) 0)
 
   -- those behind the ones that have a page are empty
-  pub unused-empty : (i : ℕ) → length (t .held) ≤ i → emptyAt m i ≡ true
+  unused-empty : (i : ℕ) → length (t .held) ≤ i → emptyAt m i ≡ true
   unfolding emptyAt
   unused-empty i l =
       ap (λ (ws : List ℕ). empty (getD ws i 0)) (a .words)
@@ -146,7 +146,7 @@ module _ (p n blocks : ℕ) (m : Memory) (t : Trace) (a : Agrees p n blocks m t)
 
   -- ---- the places of a pin
   -- the block in the store
-  pub block-is : (b : ℕ) → b < blocks → block (size m) b (m .store) ≡ replicate p 0
+  block-is : (b : ℕ) → b < blocks → block (size m) b (m .store) ≡ replicate p 0
   block-is b l =
       ap (λ (k : ℕ). block k b (m .store)) (a .size-is) ∙ ap (block p b) (a .store) ∙ block-zeros p blocks b l
 

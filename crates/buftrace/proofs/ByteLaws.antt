@@ -6,15 +6,25 @@ use mathlib.Core.Bool.{Bool, true, false, cond}
 use mathlib.Core.Logic.{_⊎_, inl, inr, ⊎-elim, _≢_}
 use mathlib.Core.List.{List, [], _∷_}
 use lib.Dec.{eqb}
-use borrow.Author.Tests.{eq-eqb, ne-eqb, le-leb, lt-leb}
+use borrow.Author.Tests.{ne-eqb, le-leb, lt-leb}
 use Rattle.laws.specs.First.{Found, found, missing}
 use Rattle.laws.proofs.First.{found-same, found-missing}
 use Rattle.laws.proofs.Tests.{eq-or-ne, lt-or-le}
 use Rattle.bufmodel.specs.Sizes.{maxBuffers, maxBlocks}
 use Rattle.buftrace.specs.Input.{newline, onto, linesOf, isDigit, valueFrom, valueOf, between}
-use Rattle.buftrace.specs.Scan.{Scan, maxLines, spoilt, takenAt, taken, numberOf, leastAt, endAt, ended, digit, stepped, fed, feds}
+use Rattle.buftrace.specs.Scan.{Scan, maxLines, spoilt, takenAt, taken, numberOf, leastAt, endAt, ended, digit, fed, feds}
 use Rattle.buftrace.specs.Scan.{lastLine, closed, finished}
-use Rattle.buftrace.proofs.LineLaws.{begun, allowed, linesFed, lines-none, lines-many, lines-on, closed-bad, lines-end}
+use Rattle.buftrace.proofs.FeedLaws.{
+  stepped-past,
+  stepped-end,
+  stepped-digit,
+  stepped-other,
+  fed-on,
+  feds-late,
+  closed-late,
+  finished-late,
+}
+use Rattle.buftrace.proofs.LineLaws.{begun, allowed, linesFed, lines-none, lines-many, lines-on, lines-end}
 use Rattle.buftrace.proofs.LineLaws.{spoilt-bad, spoilt-not, taken-missing, between-found}
 
 -- what counts of a scan at its end
@@ -26,23 +36,8 @@ alike-same : {s t : Scan} → s ≡ t → Alike s t
 alike-same e = record { bad = ap (λ x. x .bad) e; trace = λ z. ap (λ x. x .trace) e }
 
 -- ---- behind a bad line nothing changes
-module _ (s : Scan) (h : s .bad ≢ 0) where
-  fed-bad : (b : ℕ) → fed s b ≡ s
-  unfolding fed
-  fed-bad b = rw (ne-eqb (s .bad) 0 h)
-
-  feds-bad : (bs : List ℕ) → feds s bs ≡ s
-  unfolding feds
-  feds-bad [] = refl
-  feds-bad (b ∷ bs) = ap (λ x. feds x bs) (fed-bad b) ∙ feds-bad bs
-
-  last-bad : lastLine s ≡ s
-  unfolding lastLine
-  last-bad = rw (ne-eqb (s .bad) 0 h)
-
-  bytes-end : (bs : List ℕ) → finished (feds s bs) ≡ s
-  unfolding finished
-  bytes-end bs = ap finished (feds-bad bs) ∙ ap closed last-bad ∙ closed-bad s h
+bytes-end : (s : Scan) → s .bad ≢ 0 → (bs : List ℕ) → finished (feds s bs) ≡ s
+bytes-end s h bs = ap finished (feds-late s bs h) ∙ finished-late s h
 
 -- the line begun is bad, by bytes and by lines
 module _ (s : Scan) (d : Bool) (v : ℕ) where
@@ -146,22 +141,18 @@ feds-one s t b bs e = ap (λ x. feds x bs) e
 
 module _ (s : Scan) (d : Bool) (v : ℕ) where
   fed-many : (b : ℕ) → s .line ≡ maxLines → fed (begun s d v) b ≡ spoilt (begun s d v)
-  unfolding fed stepped
-  fed-many b e = rw (eq-eqb (s .line) maxLines e)
+  fed-many b e = fed-on (begun s d v) b refl ∙ stepped-past (begun s d v) b e
 
   module _ (f : s .line ≢ maxLines) where
     fed-newline : fed (begun s d v) newline ≡ ended (begun s d v)
-    unfolding fed stepped
-    fed-newline = rw (ne-eqb (s .line) maxLines f)
+    fed-newline = fed-on (begun s d v) newline refl ∙ stepped-end (begun s d v) newline f refl
 
     module _ (b : ℕ) (g : b ≢ newline) where
       fed-other : isDigit b ≡ false → fed (begun s d v) b ≡ spoilt (begun s d v)
-      unfolding fed stepped
-      fed-other e = rw (ne-eqb (s .line) maxLines f, ne-eqb b newline g, e)
+      fed-other e = fed-on (begun s d v) b refl ∙ stepped-other (begun s d v) b f g e
 
       fed-digit : isDigit b ≡ true → fed (begun s d v) b ≡ digit (begun s d v) b
-      unfolding fed stepped
-      fed-digit e = rw (ne-eqb (s .line) maxLines f, ne-eqb b newline g, e)
+      fed-digit e = fed-on (begun s d v) b refl ∙ stepped-digit (begun s d v) b f g e
 
   digit-grown : (b : ℕ) → v * 10 + (b - 48) ≤ maxBlocks → digit (begun s d v) b ≡ begun s true (v * 10 + (b - 48))
   unfolding digit
@@ -231,7 +222,7 @@ within-none s v = rw (ended-number s v, lines-none) (go (allowed s (found v)))
     go missing =
         let t = begun s true v in
         let u = begun s false 0 in
-        rw (taken-missing t, taken-missing u, closed-bad (spoilt t) (spoilt-not t), closed-bad (spoilt u) (spoilt-not u))
+        rw (taken-missing t, taken-missing u, closed-late (spoilt t) (spoilt-not t), closed-late (spoilt u) (spoilt-not u))
         (alike-spoilt s true v)
 
 -- ---- a byte of a line that may be there

@@ -1,38 +1,24 @@
 -- What the end of a line, and of the input, makes of a scan, case by case.
 use Prim.Native.Nat.{ℕ, zero, suc, _≤_, _<_}
 use native.Mathlib.Omega.{arith}
-use mathlib.Core.Path.{_≡_, refl, _∙_, ap}
+use mathlib.Core.Path.{_≡_, refl, _∙_}
 use mathlib.Core.Bool.{true, false}
 use borrow.Author.Tests.{eq-eqb, ne-eqb, le-leb, lt-leb, lt-ltb, le-ltb}
 use Rattle.laws.specs.First.{found, missing}
 use Rattle.bufmodel.specs.Sizes.{maxBuffers, maxBlocks}
 use Rattle.buftrace.specs.Input.{between}
 use Rattle.buftrace.specs.Trace.{use1}
-use Rattle.buftrace.specs.Scan.{
-  Scan,
-  spoilt,
-  onward,
-  takenAt,
-  taken,
-  numberOf,
-  leastAt,
-  endAt,
-  ended,
-  lastLine,
-  closed,
-  finished,
-  broken,
-}
+use Rattle.buftrace.specs.Scan.{Scan, spoilt, onward, takenAt, taken, numberOf, leastAt, endAt, ended}
 
-pub between-in : (least end v : ℕ) → least ≤ v → v < end → between least end (found v) ≡ found v
+between-in : (least end v : ℕ) → least ≤ v → v < end → between least end (found v) ≡ found v
 unfolding between
 between-in least end v l u = rw (le-leb least v l, lt-ltb v end u) refl
 
-pub between-under : (least end v : ℕ) → v < least → between least end (found v) ≡ missing
+between-under : (least end v : ℕ) → v < least → between least end (found v) ≡ missing
 unfolding between
 between-under least end v l = rw (lt-leb least v l) refl
 
-pub between-over : (least end v : ℕ) → least ≤ v → end ≤ v → between least end (found v) ≡ missing
+between-over : (least end v : ℕ) → least ≤ v → end ≤ v → between least end (found v) ≡ missing
 unfolding between
 between-over least end v l u = rw (le-leb least v l, le-ltb v end u) refl
 

@@ -3,19 +3,15 @@ use Prim.Native.Nat.{ℕ, zero, suc, _+_, _≤_, _<_}
 use native.Mathlib.Omega.{arith}
 use mathlib.Core.Path.{_≡_, refl, sym, ap, _∙_}
 use mathlib.Core.Logic.{_≢_, _⊎_, inl, inr}
-use mathlib.Core.Bool.{Bool, true, false, _&&_, _||_}
-use mathlib.Core.List.{List, [], _∷_, _++_}
+use mathlib.Core.Bool.{true, false, _&&_, _||_}
+use mathlib.Core.List.{List, [], _∷_}
 use lib.ListN.{length, getD, drop}
 use lib.Dec.{leb, ltb}
 use borrow.Author.Tests.{leb-true, ltb-true, ltb-false, eq-eqb, ne-eqb, le-leb, lt-leb}
 use Rattle.laws.proofs.Tests.{and-left, or-neither, true-or-false}
 use Rattle.buftrace.specs.Input.{newline, isDigit}
-use Rattle.buftrace.proofs.ScanLaws.{feds-then}
 use Rattle.buftrace.specs.Scan.{
   Scan,
-  Fed,
-  fed-all,
-  fed-some,
   maxLines,
   spoilt,
   ended,
@@ -26,7 +22,6 @@ use Rattle.buftrace.specs.Scan.{
   lastLine,
   closed,
   finished,
-  broken,
 }
 
 pub one-more : (n : ℕ) → n + 1 ≡ suc n
@@ -68,7 +63,7 @@ module _ (s : Scan) (b : ℕ) where
   unfolding stepped
   stepped-other n e d = rw (ne-eqb (s .line) maxLines n, ne-eqb b newline e, d) refl
 
-  fed-on : s .bad ≡ 0 → fed s b ≡ stepped s b
+  pub fed-on : s .bad ≡ 0 → fed s b ≡ stepped s b
   unfolding fed
   fed-on e = rw (eq-eqb (s .bad) 0 e) refl
 
@@ -113,7 +108,7 @@ module _ (s : Scan) where
   unfolding lastLine
   last-late n = rw (ne-eqb (s .bad) 0 n) refl
 
-  closed-late : s .bad ≢ 0 → closed s ≡ s
+  pub closed-late : s .bad ≢ 0 → closed s ≡ s
   unfolding closed
   closed-late n = rw (ne-eqb (s .bad) 0 n) refl
 
@@ -128,18 +123,3 @@ module _ (s : Scan) where
   pub finished-open : s .bad ≡ 0 → s .digits ≡ true → finished s ≡ closed (ended s)
   unfolding finished lastLine
   finished-open e d = rw (eq-eqb (s .bad) 0 e, d) refl
-
--- ---- reads, one after the other
-pub feds-none : (s : Scan) → feds s [] ≡ s
-unfolding feds
-feds-none s = refl
-
-pub fed-then : {s t u : Scan} {more : Bool} → Fed s true t → Fed t more u → Fed s more u
-fed-then {s} (fed-all bs e) (fed-all cs f) = fed-all (bs ++ cs) (f ∙ ap (λ t. feds t cs) e ∙ sym (feds-then s bs cs))
-fed-then {s} (fed-all bs e) (fed-some cs f) =
-    fed-some (bs ++ cs) (f ∙ ap (λ t. broken (feds t cs)) e ∙ ap broken (sym (feds-then s bs cs)))
-
--- no more turns
-pub fed-end : {s t : Scan} {more : Bool} → Fed s more t → Fed s false t
-fed-end (fed-all bs e) = fed-all bs e
-fed-end (fed-some bs e) = fed-some bs e

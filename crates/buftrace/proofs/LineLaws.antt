@@ -12,6 +12,7 @@ use Rattle.laws.proofs.First.{found-missing, cond-found}
 use Rattle.laws.proofs.Tests.{and-left, and-right}
 use Rattle.buftrace.specs.Input.{valueOf, between}
 use Rattle.buftrace.specs.Scan.{Scan, maxLines, spoilt, taken, leastAt, endAt, closed}
+use Rattle.buftrace.proofs.FeedLaws.{closed-late}
 
 -- a scan with no bad line, of whose line begun this is known
 abbrev pub begun : Scan → Bool → ℕ → Scan
@@ -29,7 +30,7 @@ begun s digits value =
 abbrev pub allowed : Scan → Found → Found
 allowed s f = between (leastAt (s .line)) (endAt (s .line) (s .blocks)) f
 
-pub lineFed : Scan → List ℕ → Scan
+lineFed : Scan → List ℕ → Scan
 lineFed s line =
     let on = taken s (allowed s (valueOf line)) in
     cond (eqb (s .bad) 0) (cond (eqb (s .line) maxLines) (spoilt s) on) s
@@ -64,12 +65,8 @@ module _ (s : Scan) (h : s .bad ≢ 0) where
   lines-bad [] = refl
   lines-bad (line ∷ lines) = ap (λ x. linesFed x lines) (line-bad line) ∙ lines-bad lines
 
-  pub closed-bad : closed s ≡ s
-  unfolding closed
-  closed-bad = rw (ne-eqb (s .bad) 0 h)
-
   pub lines-end : (lines : List (List ℕ)) → closed (linesFed s lines) ≡ s
-  lines-end lines = ap closed (lines-bad lines) ∙ closed-bad
+  lines-end lines = ap closed (lines-bad lines) ∙ closed-late s h
 
 pub spoilt-bad : (s : Scan) → spoilt s .bad ≡ suc (s .line)
 unfolding spoilt

@@ -5,31 +5,14 @@ use mathlib.Core.Path.{_≡_, refl, sym, ap, _∙_}
 use mathlib.Core.Logic.{_≢_, _⊎_, inl, inr}
 use mathlib.Core.Bool.{Bool, true, false, _&&_, _||_}
 use mathlib.Core.List.{List}
-use lib.ListN.{getD, replicate, length-replicate}
 use lib.Dec.{eqb, ltb}
 use borrow.Author.Tests.{eq-eqb, ne-eqb, le-leb, lt-leb, ltb-true, ltb-false}
-use Rattle.laws.proofs.Lists.{getD-replicate-all}
 use Rattle.laws.proofs.Tests.{or-neither, true-or-false, never}
 use Rattle.bufmodel.specs.Sizes.{maxBuffers, maxBlocks}
 use Rattle.buftrace.specs.declared.trace.Tally.{Tally}
 use Rattle.buftrace.specs.declared.scan.Reader.{Reader}
 use Rattle.buftrace.specs.Trace.{Fit, many, use1, traceOf}
-use Rattle.buftrace.specs.Scan.{
-  Scan,
-  Ready,
-  Becomes,
-  maxLines,
-  start,
-  Fed,
-  newReader,
-  onwardReader,
-  scanOf,
-  spoilt,
-  ended,
-  digit,
-  closed,
-  broken,
-}
+use Rattle.buftrace.specs.Scan.{Scan, Ready, Becomes, maxLines, onwardReader, scanOf, spoilt, ended, digit, closed, broken}
 use Rattle.buftrace.proofs.FeedLaws.{one-more}
 use Rattle.buftrace.proofs.EndLaws.{
   ended-none,
@@ -63,7 +46,7 @@ fit-more n c states held place l f =
 
 module _ (s : Reader) where
   -- the next line begins; slices may have changed
-  pub onward-ready : (buffers blocks : ℕ) (c : Tally) (states held place : List ℕ) → s .line < maxLines → s .bad ≤ suc maxLines
+  onward-ready : (buffers blocks : ℕ) (c : Tally) (states held place : List ℕ) → s .line < maxLines → s .bad ≤ suc maxLines
       → Fit buffers c states held place
       → blocks ≤ maxBlocks
       → 0 < buffers
@@ -140,7 +123,7 @@ module _ (s : Reader) where
       }
 
   -- the same by another name
-  pub becomes-as : {f g : Scan → Scan} {r : Reader}
+  becomes-as : {f g : Scan → Scan} {r : Reader}
       → ((states held place : List ℕ) → Ready s states held place → g (scanOf s states held) ≡ f (scanOf s states held))
       → Becomes f s r
       → Becomes g s r
@@ -277,7 +260,7 @@ module _ (s : Reader) where
   broken-was n = stays (λ states held. broken-late states held n)
 
   -- ---- a block is used, and the slices have changed
-  pub used-next : (c : Tally) (states held states₁ held₁ : List ℕ) → 1 < s .line → s .digits ≡ true → s .value < s .blocks
+  used-next : (c : Tally) (states held states₁ held₁ : List ℕ) → 1 < s .line → s .digits ≡ true → s .value < s .blocks
       → traceOf c states₁ held₁ ≡ use1 (s .buffers) (traceOf (s .tally) states held) (s .value)
       → scanOf (onwardReader s (s .buffers) (s .blocks) c) states₁ held₁ ≡ ended (scanOf s states held)
   used-next c states held states₁ held₁ l d u e =
@@ -312,42 +295,3 @@ module _ (s : Reader) where
         (onward-ready (s .buffers) (s .blocks) c states₁ held₁ place₁ m (k .bad) f (k .blocks) (k .some (omega (arith, l)))
         (omega (arith, n, k .uses, l))),
   )
-
--- ---- before the first byte, over slices of zeros
-pub ready-as : {r t : Reader} {states held place : List ℕ} → r ≡ t → Ready t states held place → Ready r states held place
-ready-as e k = rw (e) k
-
-new-start : (states held : List ℕ) → scanOf newReader states held ≡ start
-unfolding traceOf
-new-start states held = refl
-
-pub new-ready : Ready newReader (replicate maxBuffers 0) (replicate maxBuffers 0) (replicate maxBlocks 0)
-new-ready =
-    record {
-      fit =
-          record {
-            few = omega arith;
-            words = length-replicate {A = ℕ} maxBuffers 0;
-            blocks = length-replicate {A = ℕ} maxBuffers 0;
-            table = length-replicate {A = ℕ} maxBlocks 0;
-            used = omega arith;
-            hand = omega arith;
-            probes = omega arith;
-            idle = λ i l. absurd (omega (arith, l));
-            below = λ i l. absurd (omega (arith, l));
-            there = λ i l. absurd (omega (arith, l));
-            only = λ b l z. absurd (omega (arith, rw (getD-replicate-all {A = ℕ} maxBlocks b 0) at z));
-          };
-      line = omega arith;
-      begun = λ e. never e refl;
-      value = omega arith;
-      blocks = omega arith;
-      bad = omega arith;
-      none = λ e. refl;
-      some = λ l. absurd (omega (arith, l));
-      uses = omega arith;
-    }
-
-pub fed-from : (r : Reader) (states held : List ℕ) {more : Bool} {t : Scan} → r ≡ newReader → Fed (scanOf r states held) more t
-    → Fed start more t
-fed-from r states held e f = rw (ap (λ r. scanOf r states held) e ∙ new-start states held) at f

@@ -4,11 +4,11 @@ use native.Mathlib.Omega.{arith}
 use mathlib.Core.Path.{_≡_, refl, sym, ap, _∙_}
 use mathlib.Core.Bool.{false}
 use mathlib.Core.List.{List}
-use borrow.Author.Tests.{eq-eqb, ne-eqb}
+use borrow.Author.Tests.{ne-eqb}
 use Rattle.laws.specs.Times.{times}
 use Rattle.bufmodel.specs.Sizes.{blockSizes, maxBuffers, maxBlocks}
 use Rattle.buftrace.specs.declared.scan.Reader.{Reader}
-use Rattle.buftrace.specs.Input.{Given, given, bad, linesOf, parse}
+use Rattle.buftrace.specs.Input.{Given, bad, linesOf, parse}
 use Rattle.buftrace.specs.Usage.{Below, usedOn}
 use Rattle.buftrace.specs.Trace.{unused, uses, traceOf}
 use Rattle.buftrace.specs.Scan.{Scan, start, feds, finished, scanOf, Fed, fed-all, fed-some}

@@ -8,7 +8,6 @@ use Rattle.buftrace.specs.declared.usage.Totals.{Totals}
 use Rattle.buftrace.specs.declared.scan.Reader.{Reader}
 use Rattle.buftrace.specs.Input.{Given, given, bad, newline, linesOf, parse}
 use Rattle.buftrace.specs.Usage.{usedOn}
-use Rattle.buftrace.specs.Trace.{Trace}
 use Rattle.buftrace.specs.Scan.{Scan, start, feds, finished, broken}
 
 -- ---- a number in decimal digits, without zeros in front; a number has fewer digits than its value and one

@@ -1,6 +1,6 @@
 use borrow.Author.Needs.{needs}
 use mathlib.Core.Path.{sym, _∙_}
-use Rattle.buftrace.proofs.ReaderLaws.{new-ready, ready-as, fed-from}
+use Rattle.buftrace.proofs.ReadLaws.{new-ready, ready-as, fed-from}
 use Rattle.buftrace.proofs.ReportLaws.{printed-of, wrote}
 use Rattle.bufcost.proofs.cost_line.Statement.{statement}
 use Rattle.bufcost.proofs.cost_line.Tie as tie

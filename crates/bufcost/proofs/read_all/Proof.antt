@@ -5,7 +5,7 @@ use mathlib.Core.Bool.{Bool, true}
 use mathlib.Core.List.{[]}
 use lib.ListN.{length}
 use Rattle.buftrace.specs.Scan.{Scan, Ready, Fed, fed-all, scanOf}
-use Rattle.buftrace.proofs.FeedLaws.{feds-none, fed-then, fed-end}
+use Rattle.buftrace.proofs.ReadLaws.{feds-none, fed-then, fed-end}
 use Rattle.bufcost.proofs.read_all.Statement.{statement}
 use Rattle.bufcost.proofs.read_all.Tie as tie
 

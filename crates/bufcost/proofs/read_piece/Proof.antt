@@ -2,7 +2,7 @@ use borrow.Author.Needs.{needs}
 use mathlib.Core.List.{[]}
 use mathlib.Core.Path.{sym, ap, _∙_}
 use Rattle.buftrace.specs.Scan.{broken, fed-all, fed-some}
-use Rattle.buftrace.proofs.FeedLaws.{feds-none}
+use Rattle.buftrace.proofs.ReadLaws.{feds-none}
 use Rattle.bufcost.proofs.read_piece.Statement.{statement}
 use Rattle.bufcost.proofs.read_piece.Tie as tie
 

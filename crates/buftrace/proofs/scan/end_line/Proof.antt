@@ -1,10 +1,9 @@
 use borrow.Author.Needs.{needs}
 use borrow.Author.Tests.{not-true, not-false}
 use native.Mathlib.Omega.{arith}
-use mathlib.Core.Path.{_≡_, refl, sym, ap, _∙_}
 use Rattle.buftrace.proofs.scan.end_line.Statement.{statement}
 use Rattle.buftrace.proofs.scan.end_line.Tie as tie
-use Rattle.buftrace.proofs.ReaderLaws.{none-becomes, outside-becomes, used-next, used-ready}
+use Rattle.buftrace.proofs.ReaderLaws.{none-becomes, outside-becomes, used-ready}
 
 spoil-requires : tie.Need-spoil-requires
 spoil-requires c κs = search needs
