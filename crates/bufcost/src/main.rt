@@ -1,10 +1,10 @@
 // What a list of used pages costs: reads the list from standard input, and writes hits, loads and probes, or the first bad line.
 
-ghost use mathlib.Core.Bool.{false};
+ghost use mathlib.Core.Path.{_≡_};
 ghost use lib.ListN.{take};
 ghost use Rattle.io.specs.Counts.{Counts};
-ghost use Rattle.buftrace.specs.Scan.{Ready, Fed, scanOf};
-ghost use Rattle.buftrace.specs.Report.{Wrote};
+ghost use Rattle.buftrace.specs.Scan.{Ready, Fed, scanOf, finished};
+ghost use Rattle.buftrace.specs.Report.{Wrote, printed};
 use buftrace::report::put_line;
 use buftrace::scan::Reader;
 use buftrace::scan::break_off;
@@ -25,8 +25,7 @@ fn read_piece(s: Reader, states: &mut [u32], held: &mut [u16], place: &mut [u16]
     requires { ⌜ Ready s (now states) (now held) (now place) ⌝ }
     ensures { λ r. ⌜ Ready (r .reader) (now (states .exit)) (now (held .exit)) (now (place .exit)) ⌝ }
     ensures { λ r.
-        ⌜ Fed (scanOf s (now (states .entry)) (now (held .entry))) (r .more)
-        (scanOf (r .reader) (now (states .exit)) (now (held .exit))) ⌝ }
+        ⌜ Fed (scanOf s (now (states .entry)) (now (held .entry))) (scanOf (r .reader) (now (states .exit)) (now (held .exit))) ⌝ }
 {
     let mut buf = io::large_buffer();
     let got = libc::read(STDIN_FILENO, &mut buf);
@@ -49,7 +48,7 @@ fn read_piece(s: Reader, states: &mut [u32], held: &mut [u16], place: &mut [u16]
 fn read_all(s: Reader, states: &mut [u32], held: &mut [u16], place: &mut [u16]) -> Reader
     requires { ⌜ Ready s (now states) (now held) (now place) ⌝ }
     ensures { λ r. ⌜ Ready r (now (states .exit)) (now (held .exit)) (now (place .exit)) ⌝ }
-    ensures { λ r. ⌜ Fed (scanOf s (now (states .entry)) (now (held .entry))) false (scanOf r (now (states .exit)) (now (held .exit))) ⌝ }
+    ensures { λ r. ⌜ Fed (scanOf s (now (states .entry)) (now (held .entry))) (scanOf r (now (states .exit)) (now (held .exit))) ⌝ }
 {
     let mut turns = u64::MAX;
     let mut t = s;
@@ -63,7 +62,23 @@ fn read_all(s: Reader, states: &mut [u32], held: &mut [u16], place: &mut [u16]) 
     t
 }
 
-// Puts the line for the input at the start of out, and answers its length.
+// The input is at its end: puts its line at the start of out, and answers the line's length.
+fn sum_up(
+    t: Reader,
+    states: &mut [u32],
+    held: &mut [u16],
+    place: &mut [u16],
+    out: &mut [u8; 64],
+) -> usize
+    requires { ⌜ Ready t (now states) (now held) (now place) ⌝ }
+    ensures { λ r. ⌜ Counts r (now (out .exit)) ⌝ }
+    ensures { λ r. ⌜ take r (now (out .exit)) ≡ printed (finished (scanOf t (now (states .entry)) (now (held .entry)))) ⌝ }
+{
+    let end = finish(t, states, held, place);
+    put_line(end, out)
+}
+
+// Reads the input, puts its line at the start of out, and answers the line's length.
 fn cost_line(out: &mut [u8; 64]) -> usize
     ensures { λ r. ⌜ Counts r (now (out .exit)) ⌝ }
     ensures { λ r. ⌜ Wrote (take r (now (out .exit))) ⌝ }
@@ -72,8 +87,7 @@ fn cost_line(out: &mut [u8; 64]) -> usize
     let mut held = [0u16; 1024];
     let mut place = [0u16; 65536];
     let t = read_all(new_reader(), &mut states, &mut held, &mut place);
-    let end = finish(t, &mut states, &mut held, &mut place);
-    put_line(end, out)
+    sum_up(t, &mut states, &mut held, &mut place, out)
 }
 
 fn main() {

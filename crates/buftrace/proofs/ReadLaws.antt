@@ -2,30 +2,44 @@
 use Prim.Native.Nat.{ℕ}
 use native.Mathlib.Omega.{arith}
 use mathlib.Core.Path.{_≡_, refl, sym, ap, _∙_}
-use mathlib.Core.Bool.{Bool, true, false}
-use mathlib.Core.List.{List, [], _++_}
+use mathlib.Core.Logic.{⊎-elim}
+use mathlib.Core.List.{List, [], _∷_, _++_}
 use lib.ListN.{replicate, length-replicate}
 use Rattle.laws.proofs.Lists.{getD-replicate-all}
-use Rattle.laws.proofs.Tests.{never}
+use Rattle.laws.proofs.Tests.{eq-or-ne, never}
 use Rattle.bufmodel.specs.Sizes.{maxBuffers, maxBlocks}
 use Rattle.buftrace.specs.declared.scan.Reader.{Reader}
 use Rattle.buftrace.specs.Trace.{traceOf}
-use Rattle.buftrace.specs.Scan.{Scan, Ready, Fed, fed-all, fed-some, start, newReader, scanOf, feds, broken}
+use Rattle.buftrace.specs.Scan.{Scan, Ready, Fed, maxLines, start, newReader, scanOf, spoilt, stepped, fed, feds, broken}
+use Rattle.buftrace.proofs.FeedLaws.{digit-none, stepped-past, stepped-other}
 use Rattle.buftrace.proofs.ScanLaws.{feds-then}
 
-pub feds-none : (s : Scan) → feds s [] ≡ s
+feds-none : (s : Scan) → feds s [] ≡ s
 unfolding feds
 feds-none s = refl
 
-pub fed-then : {s t u : Scan} {more : Bool} → Fed s true t → Fed t more u → Fed s more u
-fed-then {s} (fed-all bs e) (fed-all cs f) = fed-all (bs ++ cs) (f ∙ ap (λ t. feds t cs) e ∙ sym (feds-then s bs cs))
-fed-then {s} (fed-all bs e) (fed-some cs f) =
-    fed-some (bs ++ cs) (f ∙ ap (λ t. broken (feds t cs)) e ∙ ap broken (sym (feds-then s bs cs)))
+pub fed-none : (s : Scan) → Fed s s
+fed-none s = record { bytes = []; is = sym (feds-none s) }
 
--- no more turns
-pub fed-end : {s t : Scan} {more : Bool} → Fed s more t → Fed s false t
-fed-end (fed-all bs e) = fed-all bs e
-fed-end (fed-some bs e) = fed-some bs e
+pub fed-then : {s t u : Scan} → Fed s t → Fed t u → Fed s u
+fed-then {s} {t} {u} f g =
+    record {
+      bytes = f .bytes ++ g .bytes;
+      is = g .is ∙ ap (λ t. feds t (g .bytes)) (f .is) ∙ sym (feds-then s (f .bytes) (g .bytes));
+    }
+
+-- a read that fails is as a byte that is neither digit nor newline
+stepped-none : (s : Scan) → stepped s 0 ≡ spoilt s
+stepped-none s =
+    ⊎-elim (λ e. stepped-past s 0 e) (λ n. stepped-other s 0 n (λ e. absurd (omega (arith, e))) (digit-none 0 refl))
+    (eq-or-ne (s .line) maxLines)
+
+broken-is : (s : Scan) → broken s ≡ feds s (0 ∷ [])
+unfolding broken feds fed
+broken-is s = rw (stepped-none s) refl
+
+pub fed-broken : {s t : Scan} → t ≡ broken s → Fed s t
+fed-broken {s} e = record { bytes = 0 ∷ []; is = e ∙ broken-is s }
 
 -- ---- before the first byte, over slices of zeros
 pub ready-as : {r t : Reader} {states held place : List ℕ} → r ≡ t → Ready t states held place → Ready r states held place
@@ -62,6 +76,5 @@ new-ready =
       uses = omega arith;
     }
 
-pub fed-from : (r : Reader) (states held : List ℕ) {more : Bool} {t : Scan} → r ≡ newReader → Fed (scanOf r states held) more t
-    → Fed start more t
+pub fed-from : (r : Reader) (states held : List ℕ) {t : Scan} → r ≡ newReader → Fed (scanOf r states held) t → Fed start t
 fed-from r states held e f = rw (ap (λ r. scanOf r states held) e ∙ new-start states held) at f

@@ -2,7 +2,6 @@
 use Prim.Native.Nat.{ℕ, _≤_, _<_}
 use native.Mathlib.Omega.{arith}
 use mathlib.Core.Path.{_≡_, refl, sym, ap, _∙_}
-use mathlib.Core.Bool.{false}
 use mathlib.Core.List.{List}
 use borrow.Author.Tests.{ne-eqb}
 use Rattle.laws.specs.Times.{times}
@@ -11,8 +10,8 @@ use Rattle.buftrace.specs.declared.scan.Reader.{Reader}
 use Rattle.buftrace.specs.Input.{Given, bad, linesOf, parse}
 use Rattle.buftrace.specs.Usage.{Below, usedOn}
 use Rattle.buftrace.specs.Trace.{unused, uses, traceOf}
-use Rattle.buftrace.specs.Scan.{Scan, start, feds, finished, scanOf, Fed, fed-all, fed-some}
-use Rattle.buftrace.specs.Report.{totalsLine, badLine, reported, report, printed, printedOf, Wrote, wrote-all, wrote-some}
+use Rattle.buftrace.specs.Scan.{Scan, start, feds, finished, scanOf, Fed}
+use Rattle.buftrace.specs.Report.{totalsLine, badLine, reported, report, printed, printedOf, Wrote}
 use Rattle.buftrace.proofs.UsageLaws.{trace-is}
 use Rattle.buftrace.proofs.ScanLaws.{Tells, tells-bad, tells-given, input-is}
 
@@ -50,6 +49,5 @@ unfolding report
 costs input = reported-is (parse (linesOf input)) (finished (feds start input)) (input-is input)
 
 -- whatever was read, the line is its own
-pub wrote : {s t : Scan} {line : List ℕ} → Fed start false s → t ≡ finished s → line ≡ printed t → Wrote line
-wrote (fed-all input e) f l = wrote-all input (l ∙ ap printed (f ∙ ap finished e) ∙ costs input)
-wrote (fed-some input e) f l = wrote-some input (l ∙ ap printed (f ∙ ap finished e))
+pub wrote : {s : Scan} {line : List ℕ} → Fed start s → line ≡ printed (finished s) → Wrote line
+wrote f l = record { input = f .bytes; is = l ∙ ap (λ s. printed (finished s)) (f .is) ∙ costs (f .bytes) }

@@ -8,7 +8,7 @@ use Rattle.buftrace.specs.declared.usage.Totals.{Totals}
 use Rattle.buftrace.specs.declared.scan.Reader.{Reader}
 use Rattle.buftrace.specs.Input.{Given, given, bad, newline, linesOf, parse}
 use Rattle.buftrace.specs.Usage.{usedOn}
-use Rattle.buftrace.specs.Scan.{Scan, start, feds, finished, broken}
+use Rattle.buftrace.specs.Scan.{Scan}
 
 -- ---- a number in decimal digits, without zeros in front; a number has fewer digits than its value and one
 unfoldable pub spelled : ℕ → ℕ → List ℕ
@@ -51,7 +51,7 @@ printedOf r =
     let totals = totalsLine (r .tally .totals) in
     cond (eqb (r .bad) 0) totals (badLine (r .bad))
 
--- ---- what the program writes: the line for what was read; where a read failed, that the line begun is bad
-pub data Wrote : List ℕ → Type 0 where
-  wrote-all : {line : List ℕ} (input : List ℕ) → line ≡ report input → Wrote line
-  wrote-some : {line : List ℕ} (input : List ℕ) → line ≡ printed (finished (broken (feds start input))) → Wrote line
+-- ---- what the program writes: the line of what was read, whatever that was
+pub record Wrote (line : List ℕ) : Type 0 where
+  pub input : List ℕ
+  pub is : line ≡ report input

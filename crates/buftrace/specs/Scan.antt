@@ -169,7 +169,7 @@ abbrev pub onwardReader : Reader → ℕ → ℕ → Tally → Reader
 onwardReader s buffers blocks tally =
     record { line = s .line + 1; digits = false; value = 0; buffers = buffers; blocks = blocks; bad = s .bad; tally = tally }
 
--- what reads make of a scan, and whether there may be more: some bytes were fed, and then perhaps a read failed. No contract can say which
-pub data Fed (s : Scan) : Bool → Scan → Type 0 where
-  fed-all : {more : Bool} {t : Scan} (bytes : List ℕ) → t ≡ feds s bytes → Fed s more t
-  fed-some : {t : Scan} (bytes : List ℕ) → t ≡ broken (feds s bytes) → Fed s false t
+-- what reads make of a scan: some bytes were fed. No contract can say which. A read that fails is as a byte that is no digit (`broken-is`)
+pub record Fed (s t : Scan) : Type 0 where
+  pub bytes : List ℕ
+  pub is : t ≡ feds s bytes

@@ -1,88 +1,70 @@
 use borrow.Author.Needs.{needs}
 use native.Mathlib.Omega.{arith}
-use mathlib.Core.Path.{_≡_, refl, sym}
-use mathlib.Core.Bool.{Bool, true}
-use mathlib.Core.List.{[]}
+use mathlib.Core.Path.{_≡_, refl}
 use lib.ListN.{length}
-use Rattle.buftrace.specs.Scan.{Scan, Ready, Fed, fed-all, scanOf}
-use Rattle.buftrace.proofs.ReadLaws.{feds-none, fed-then, fed-end}
+use Rattle.buftrace.specs.Scan.{Ready, Fed, scanOf}
+use Rattle.buftrace.proofs.ReadLaws.{fed-none, fed-then}
 use Rattle.bufcost.proofs.read_all.Statement.{statement}
 use Rattle.bufcost.proofs.read_all.Tie as tie
 
 abbrev Inv-loop : tie.InvT-loop
 Inv-loop states₀ held₀ place₀ turns₀ t₀ more₀ states held place turns t more =
-    Ready t states held place × Fed (scanOf t₀ states₀ held₀) more (scanOf t states held) × (length states ≡ length states₀)
+    Ready t states held place × Fed (scanOf t₀ states₀ held₀) (scanOf t states held) × (length states ≡ length states₀)
     × (length held ≡ length held₀)
     × (length place ≡ length place₀)
 
 abbrev μ-loop : tie.MeasureT-loop
 μ-loop states₀ held₀ place₀ turns₀ t₀ more₀ states held place turns t more = turns
 
-more-is : {s t : Scan} {more : Bool} → more ≡ true → Fed s more t → Fed s true t
-more-is e f = rw (e) at f
-
--- src/main.rt:56:5
 loop-holds : tie.Need-loop-holds Inv-loop μ-loop
-loop-holds c = (c .before .before .before .pre, fed-all [] (sym (feds-none _)), refl, refl, refl)
+loop-holds c = (c .before .before .before .pre, fed-none _, refl, refl, refl)
 
--- src/main.rt:57:13
 read-piece-requires : tie.Need-read-piece-requires Inv-loop μ-loop
 read-piece-requires c κs = c .before .before .before .before .before .loop .inv .0
 
--- src/main.rt:60:9
 sub-turns : tie.Need-sub-turns Inv-loop μ-loop
 sub-turns c =
     let c9 = c .before .before .before .before .before .before .before .before .before in
     let c12 = c9 .before .before .before in
     omega (arith, c12 .loop-test .taken)
 
--- src/main.rt:56:5
 loop-less : tie.Need-loop-less Inv-loop μ-loop
 loop-less c =
     let c9 = c .before .before .before .before .before .before .before .before .before in
     let c12 = c9 .before .before .before in
     omega (arith, c12 .loop-test .taken)
 
--- src/main.rt:56:5
 loop-again : tie.Need-loop-again Inv-loop μ-loop
 loop-again c =
     let c7 = c .before .before .before .before .before .before .before in
     let c11 = c7 .before .before .before .before in
     let c13 = c11 .before .before in
     let p = c7 .read-piece in
-    (p .ensures .0, fed-then (more-is (c11 .if1 .taken) (c13 .loop .inv .1)) (p .ensures .1), search needs, search needs, search needs)
+    (p .ensures .0, fed-then (c13 .loop .inv .1) (p .ensures .1), search needs, search needs, search needs)
 
--- src/main.rt:48:1
 same-length : tie.Need-same-length Inv-loop μ-loop
 same-length c = search needs
 
--- src/main.rt:48:1
 same-length-2 : tie.Need-same-length-2 Inv-loop μ-loop
 same-length-2 c = search needs
 
--- src/main.rt:48:1
 same-length-3 : tie.Need-same-length-3 Inv-loop μ-loop
 same-length-3 c = search needs
 
--- src/main.rt:48:1
 returns : tie.Need-returns Inv-loop μ-loop
-returns c = (c .before .before .loop .inv .0, fed-end (c .before .before .loop .inv .1))
+returns c = (c .before .before .loop .inv .0, c .before .before .loop .inv .1)
 
--- src/main.rt:48:1
 same-length-4 : tie.Need-same-length-4 Inv-loop μ-loop
 same-length-4 c = search needs
 
--- src/main.rt:48:1
 same-length-5 : tie.Need-same-length-5 Inv-loop μ-loop
 same-length-5 c = search needs
 
--- src/main.rt:48:1
 same-length-6 : tie.Need-same-length-6 Inv-loop μ-loop
 same-length-6 c = search needs
 
--- src/main.rt:48:1
 returns-2 : tie.Need-returns-2 Inv-loop μ-loop
-returns-2 c = (c .before .loop .inv .0, fed-end (c .before .loop .inv .1))
+returns-2 c = (c .before .loop .inv .0, c .before .loop .inv .1)
 
 pub read-all-spec : {M : Type 1} → statement M
 read-all-spec =

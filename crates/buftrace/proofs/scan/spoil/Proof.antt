@@ -3,11 +3,9 @@ use Rattle.buftrace.proofs.scan.spoil.Statement.{statement}
 use Rattle.buftrace.proofs.scan.spoil.Tie as tie
 use Rattle.buftrace.proofs.ReaderLaws.{spoilt-becomes}
 
--- src/scan.rt:87:14
 add-t3 : tie.Need-add-t3
 add-t3 c = search needs
 
--- src/scan.rt:76:1
 returns : tie.Need-returns
 returns c = spoilt-becomes _ (search needs)
 
