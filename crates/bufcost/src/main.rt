@@ -1,9 +1,11 @@
 // What a list of used pages costs: reads the list from standard input, and writes hits, loads and probes, or the first bad line.
 
 ghost use mathlib.Core.Path.{_≡_};
-ghost use lib.ListN.{take};
+ghost use mathlib.Core.Bool.{not, _&&_};
+ghost use lib.ListN.{length, take};
+ghost use lib.Dec.{eqb};
 ghost use Rattle.io.specs.Counts.{Counts};
-ghost use Rattle.buftrace.specs.Scan.{Ready, Fed, scanOf, finished};
+ghost use Rattle.buftrace.specs.Scan.{Ready, Fed, scanOf, feds, finished};
 ghost use Rattle.buftrace.specs.Report.{Wrote, printed};
 use buftrace::report::put_line;
 use buftrace::scan::Reader;
@@ -20,7 +22,29 @@ struct Piece {
     more: bool,
 }
 
-// Reads a piece of the input, and no more behind a bad line.
+// A piece that was read: one without a byte is the end, and behind a bad line there is no more to read.
+fn take_piece(
+    s: Reader,
+    states: &mut [u32],
+    held: &mut [u16],
+    place: &mut [u16],
+    bytes: &[u8],
+) -> Piece
+    requires { ⌜ Ready s (now states) (now held) (now place) ⌝ }
+    ensures { λ r. ⌜ Ready (r .reader) (now (states .exit)) (now (held .exit)) (now (place .exit)) ⌝ }
+    ensures { λ r.
+        ⌜ scanOf (r .reader) (now (states .exit)) (now (held .exit))
+        ≡ feds (scanOf s (now (states .entry)) (now (held .entry))) (now (bytes .entry)) ⌝ }
+    ensures { λ r. ⌜ r .more ≡ (not (eqb (length (now (bytes .entry))) 0) && eqb (r .reader .bad) 0) ⌝ }
+{
+    let t = feed(s, states, held, place, bytes);
+    Piece {
+        reader: t,
+        more: (bytes.len() != 0) & (t.bad == 0),
+    }
+}
+
+// Reads a piece of the input.
 fn read_piece(s: Reader, states: &mut [u32], held: &mut [u16], place: &mut [u16]) -> Piece
     requires { ⌜ Ready s (now states) (now held) (now place) ⌝ }
     ensures { λ r. ⌜ Ready (r .reader) (now (states .exit)) (now (held .exit)) (now (place .exit)) ⌝ }
@@ -37,14 +61,11 @@ fn read_piece(s: Reader, states: &mut [u32], held: &mut [u16], place: &mut [u16]
         };
     }
     let n = io::count(got, &buf);
-    let t = feed(s, states, held, place, &buf[..n]);
-    Piece {
-        reader: t,
-        more: (n != 0) & (t.bad == 0),
-    }
+    take_piece(s, states, held, place, &buf[..n])
 }
 
 // All pieces. A proved loop has to end, and nothing says that the input does: it counts its turns down, from a number that no run uses up.
+// Should one, it has not read all, and the line begun is bad.
 fn read_all(s: Reader, states: &mut [u32], held: &mut [u16], place: &mut [u16]) -> Reader
     requires { ⌜ Ready s (now states) (now held) (now place) ⌝ }
     ensures { λ r. ⌜ Ready r (now (states .exit)) (now (held .exit)) (now (place .exit)) ⌝ }
@@ -58,6 +79,9 @@ fn read_all(s: Reader, states: &mut [u32], held: &mut [u16], place: &mut [u16]) 
         t = p.reader;
         more = p.more;
         turns -= 1;
+    }
+    if more {
+        return break_off(t);
     }
     t
 }
@@ -78,7 +102,7 @@ fn sum_up(
     put_line(end, out)
 }
 
-// Reads the input, puts its line at the start of out, and answers the line's length.
+// Reads the input, puts the line at the start of out, and answers its length.
 fn cost_line(out: &mut [u8; 64]) -> usize
     ensures { λ r. ⌜ Counts r (now (out .exit)) ⌝ }
     ensures { λ r. ⌜ Wrote (take r (now (out .exit))) ⌝ }

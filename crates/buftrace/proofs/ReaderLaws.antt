@@ -12,7 +12,21 @@ use Rattle.bufmodel.specs.Sizes.{maxBuffers, maxBlocks}
 use Rattle.buftrace.specs.declared.trace.Tally.{Tally}
 use Rattle.buftrace.specs.declared.scan.Reader.{Reader}
 use Rattle.buftrace.specs.Trace.{Fit, many, use1, traceOf}
-use Rattle.buftrace.specs.Scan.{Scan, Ready, Becomes, maxLines, onwardReader, scanOf, spoilt, ended, digit, closed, broken}
+use Rattle.buftrace.specs.Scan.{
+  Scan,
+  Ready,
+  Becomes,
+  maxLines,
+  spoiltReader,
+  brokenReader,
+  onwardReader,
+  scanOf,
+  spoilt,
+  ended,
+  digit,
+  closed,
+  broken,
+}
 use Rattle.buftrace.proofs.FeedLaws.{one-more}
 use Rattle.buftrace.proofs.EndLaws.{
   ended-none,
@@ -92,16 +106,7 @@ module _ (s : Reader) where
 
   -- the line begun is bad
   pub spoilt-becomes : s .line ≤ maxLines
-      → Becomes spoilt s
-      (record {
-        line = s .line;
-        digits = s .digits;
-        value = s .value;
-        buffers = s .buffers;
-        blocks = s .blocks;
-        bad = s .line + 1;
-        tally = s .tally;
-      })
+      → Becomes spoilt s (spoiltReader s)
   unfolding spoilt
   spoilt-becomes l =
       record {
@@ -252,6 +257,14 @@ module _ (s : Reader) where
   broken-late : (states held : List ℕ) → s .bad ≢ 0 → broken (scanOf s states held) ≡ scanOf s states held
   unfolding broken
   broken-late states held n = rw (ne-eqb (s .bad) 0 n) refl
+
+  pub broken-first : s .bad ≡ 0 → brokenReader s ≡ spoiltReader s
+  unfolding brokenReader
+  broken-first e = rw (eq-eqb (s .bad) 0 e) refl
+
+  pub broken-kept : s .bad ≢ 0 → brokenReader s ≡ s
+  unfolding brokenReader
+  broken-kept n = rw (ne-eqb (s .bad) 0 n) refl
 
   pub broken-spoils : {r : Reader} → s .bad ≡ 0 → Becomes spoilt s r → Becomes broken s r
   broken-spoils e = becomes-as (λ states held place k. broken-bad states held e)

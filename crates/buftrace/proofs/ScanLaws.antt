@@ -1,7 +1,7 @@
 -- The input byte by byte, and line by line: the same numbers, the same bad line.
 use Prim.Native.Nat.{ℕ, zero, suc, _+_, _≤_, _<_}
 use native.Mathlib.Omega.{arith}
-use mathlib.Core.Path.{_≡_, refl, ap, _∙_}
+use mathlib.Core.Path.{sym, _≡_, refl, ap, _∙_}
 use mathlib.Core.Bool.{false}
 use mathlib.Core.List.{List, [], _∷_, _++_}
 use borrow.Author.Tests.{ne-eqb, lt-ltb, le-ltb}
@@ -10,7 +10,7 @@ use Rattle.bufmodel.specs.Sizes.{maxBuffers, maxBlocks}
 use Rattle.buftrace.specs.Input.{Given, given, bad, linesOf, valueOf, between, maxUses, more, numbers, withBlocks, withBuffers, parse}
 use Rattle.buftrace.specs.Usage.{Below, no-more, one-more}
 use Rattle.buftrace.specs.Trace.{Trace, unused, use1, uses}
-use Rattle.buftrace.specs.Scan.{Scan, start, spoilt, takenAt, taken, leastAt, endAt, feds, closed, finished}
+use Rattle.buftrace.specs.Scan.{fedPieces, together, Scan, start, spoilt, takenAt, taken, leastAt, endAt, feds, closed, finished}
 use Rattle.buftrace.proofs.LineLaws.{allowed, linesFed, lines-none, lines-many, lines-on, lines-end}
 use Rattle.buftrace.proofs.LineLaws.{spoilt-bad, spoilt-not, taken-missing, between-found}
 use Rattle.buftrace.proofs.ByteLaws.{Alike, bytes-lines}
@@ -28,6 +28,11 @@ pub feds-then : (s : Scan) (a b : List ℕ) → feds s (a ++ b) ≡ feds (feds s
 unfolding feds
 feds-then s [] b = refl
 feds-then s (x ∷ a) b = feds-then _ a b
+
+pub pieces-are : (s : Scan) (pieces : List (List ℕ)) → fedPieces s pieces ≡ feds s (together pieces)
+unfolding feds fedPieces together
+pieces-are s [] = refl
+pieces-are s (piece ∷ pieces) = pieces-are (feds s piece) pieces ∙ sym (feds-then s piece (together pieces))
 
 -- the same of lines behind the first two, from a trace on
 data TellsFrom (n blocks : ℕ) (t : Trace) : Given → Scan → Type 0 where

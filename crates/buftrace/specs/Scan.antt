@@ -2,7 +2,7 @@
 use Prim.Native.Nat.{ℕ, zero, suc, _+_, _-_, _*_, _≤_, _<_}
 use mathlib.Core.Path.{_≡_}
 use mathlib.Core.Bool.{Bool, true, false, _&&_, cond}
-use mathlib.Core.List.{List, [], _∷_}
+use mathlib.Core.List.{List, [], _∷_, _++_}
 use lib.Dec.{eqb, leb, ltb}
 use Rattle.laws.specs.First.{Found, found, missing}
 use Rattle.bufmodel.specs.Sizes.{maxBuffers, maxBlocks}
@@ -105,6 +105,15 @@ unfoldable pub feds : Scan → List ℕ → Scan
 feds s [] = s
 feds s (b ∷ bs) = feds (fed s b) bs
 
+-- several pieces, and the input that they make
+unfoldable pub fedPieces : Scan → List (List ℕ) → Scan
+fedPieces s [] = s
+fedPieces s (piece ∷ pieces) = fedPieces (feds s piece) pieces
+
+unfoldable pub together : List (List ℕ) → List ℕ
+together [] = []
+together (piece ∷ pieces) = piece ++ together pieces
+
 -- ---- the end of the input: the last newline is optional; the first two lines are not
 unfoldable pub lastLine : Scan → Scan
 lastLine s =
@@ -146,6 +155,22 @@ newReader =
       bad = 0;
       tally = record { used = 0; hand = 0; totals = none-yet };
     }
+
+-- the line begun is bad, and, of a read that fails, unless one before it was
+abbrev pub spoiltReader : Reader → Reader
+spoiltReader r =
+    record {
+      line = r .line;
+      digits = r .digits;
+      value = r .value;
+      buffers = r .buffers;
+      blocks = r .blocks;
+      bad = r .line + 1;
+      tally = r .tally;
+    }
+
+unfoldable pub brokenReader : Reader → Reader
+brokenReader r = cond (eqb (r .bad) 0) (spoiltReader r) r
 
 -- what a piece of the input asks of the reader and lent slices, and leaves
 pub record Ready (r : Reader) (states held place : List ℕ) : Type 0 where

@@ -10,6 +10,8 @@ ghost use Rattle.buftrace.specs.Scan.{
   maxLines,
   Becomes,
   newReader,
+  spoiltReader,
+  brokenReader,
   onwardReader,
   spoilt,
   scanOf,
@@ -75,6 +77,7 @@ pub fn new_reader() -> Reader
 // The line begun is bad.
 fn spoil(s: Reader) -> Reader
     requires { ⌜ s .line ≤ maxLines ⌝ }
+    ensures { λ r. ⌜ r ≡ spoiltReader s ⌝ }
     ensures { λ r. ⌜ Becomes spoilt s r ⌝ }
 {
     let tally = s.tally;
@@ -238,6 +241,7 @@ pub fn finish(s: Reader, states: &mut [u32], held: &mut [u16], place: &mut [u16]
 // A read failed: the line begun could not be read.
 pub fn break_off(s: Reader) -> Reader
     requires { ⌜ s .line ≤ maxLines ⌝ }
+    ensures { λ r. ⌜ r ≡ brokenReader s ⌝ }
     ensures { λ r. ⌜ Becomes broken s r ⌝ }
 {
     if s.bad != 0 {

@@ -3,7 +3,7 @@ use native.Mathlib.Omega.{arith}
 use mathlib.Core.Path.{_≡_, refl}
 use lib.ListN.{length}
 use Rattle.buftrace.specs.Scan.{Ready, Fed, scanOf}
-use Rattle.buftrace.proofs.ReadLaws.{fed-none, fed-then}
+use Rattle.buftrace.proofs.ReadLaws.{fed-none, fed-then, fed-broken}
 use Rattle.bufcost.proofs.read_all.Statement.{statement}
 use Rattle.bufcost.proofs.read_all.Tie as tie
 
@@ -37,10 +37,12 @@ loop-less c =
 loop-again : tie.Need-loop-again Inv-loop μ-loop
 loop-again c =
     let c7 = c .before .before .before .before .before .before .before in
-    let c11 = c7 .before .before .before .before in
-    let c13 = c11 .before .before in
+    let c13 = c7 .before .before .before .before .before .before in
     let p = c7 .read-piece in
     (p .ensures .0, fed-then (c13 .loop .inv .1) (p .ensures .1), search needs, search needs, search needs)
+
+break-off-requires : tie.Need-break-off-requires Inv-loop μ-loop
+break-off-requires c κs = c .before .before .loop .inv .0 .line
 
 same-length : tie.Need-same-length Inv-loop μ-loop
 same-length c = search needs
@@ -52,7 +54,9 @@ same-length-3 : tie.Need-same-length-3 Inv-loop μ-loop
 same-length-3 c = search needs
 
 returns : tie.Need-returns Inv-loop μ-loop
-returns c = (c .before .before .loop .inv .0, c .before .before .loop .inv .1)
+returns c =
+    let b = c .break-off .ensures .1 .each _ _ _ (c .before .before .before .loop .inv .0) in
+    (b .1, fed-then (c .before .before .before .loop .inv .1) (fed-broken (b .0)))
 
 same-length-4 : tie.Need-same-length-4 Inv-loop μ-loop
 same-length-4 c = search needs
@@ -64,7 +68,7 @@ same-length-6 : tie.Need-same-length-6 Inv-loop μ-loop
 same-length-6 c = search needs
 
 returns-2 : tie.Need-returns-2 Inv-loop μ-loop
-returns-2 c = (c .before .loop .inv .0, c .before .loop .inv .1)
+returns-2 c = (c .before .before .loop .inv .0, c .before .before .loop .inv .1)
 
 pub read-all-spec : {M : Type 1} → statement M
 read-all-spec =
@@ -77,6 +81,7 @@ read-all-spec =
     sub-turns
     loop-less
     loop-again
+    break-off-requires
     same-length
     same-length-2
     same-length-3

@@ -17,7 +17,7 @@ break-off-requires c κs = c .before .before .before .before .before .before .be
 
 returns : tie.Need-returns
 returns c =
-    let b = c .break-off .ensures .each _ _ _ (c .before .before .before .before .before .before .before .before .before .pre) in
+    let b = c .break-off .ensures .1 .each _ _ _ (c .before .before .before .before .before .before .before .before .before .pre) in
     (b .1, fed-broken (b .0))
 
 slice-aggregate-count : tie.Need-slice-aggregate-count
@@ -29,11 +29,11 @@ count-requires c κs = search needs
 array-share-prefix-buf : tie.Need-array-share-prefix-buf
 array-share-prefix-buf c = search needs
 
-slice-aggregate-feed : tie.Need-slice-aggregate-feed
-slice-aggregate-feed c = search needs
+slice-aggregate-take-piece : tie.Need-slice-aggregate-take-piece
+slice-aggregate-take-piece c = search needs
 
-feed-requires : tie.Need-feed-requires
-feed-requires c κs = search needs
+take-piece-requires : tie.Need-take-piece-requires
+take-piece-requires c κs = search needs
 
 same-length : tie.Need-same-length
 same-length c = search needs
@@ -45,9 +45,7 @@ same-length-3 : tie.Need-same-length-3
 same-length-3 c = search needs
 
 returns-2 : tie.Need-returns-2
-returns-2 c =
-    let c7 = c .before .before .before .before .before .before .before in
-    (c7 .feed .ensures .1, record { bytes = _; is = c7 .feed .ensures .0 })
+returns-2 c = search needs
 
 pub read-piece-spec : {M : Type 1} → statement M
 read-piece-spec =
@@ -61,8 +59,8 @@ read-piece-spec =
     slice-aggregate-count
     count-requires
     array-share-prefix-buf
-    slice-aggregate-feed
-    feed-requires
+    slice-aggregate-take-piece
+    take-piece-requires
     same-length
     same-length-2
     same-length-3

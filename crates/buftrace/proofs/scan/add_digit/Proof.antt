@@ -21,7 +21,7 @@ spoil-requires : tie.Need-spoil-requires
 spoil-requires c κs = search needs
 
 returns : tie.Need-returns
-returns c = digit-spoils _ _ _ (c .before .before .wide .ensures) (c .before .if1 .taken) (c .spoil .ensures)
+returns c = digit-spoils _ _ _ (c .before .before .wide .ensures) (c .before .if1 .taken) (c .spoil .ensures .1)
 
 returns-2 : tie.Need-returns-2
 returns-2 c = digit-becomes _ _ _ (c .before .before .wide .ensures) (c .before .before .before .before .pre .0) (c .before .if1 .left)

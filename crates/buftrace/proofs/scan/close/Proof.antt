@@ -7,7 +7,7 @@ spoil-requires : tie.Need-spoil-requires
 spoil-requires c κs = search needs
 
 returns : tie.Need-returns
-returns c = closed-spoils _ (c .before .if1 .taken) (c .spoil .ensures)
+returns c = closed-spoils _ (c .before .if1 .taken) (c .spoil .ensures .1)
 
 returns-2 : tie.Need-returns-2
 returns-2 c = closed-stays _ (c .if1 .left)

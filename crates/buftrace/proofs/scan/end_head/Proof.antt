@@ -17,7 +17,7 @@ returns-2 : tie.Need-returns-2
 returns-2 c =
     let c4 = c .before .before .before .before in
     let c7 = c4 .before .before .before in
-    head-becomes _ (omega (arith, c4 .if1 .left, c7 .pre .0)) (c7 .pre .1) (c .before .if2 .taken) (c .spoil .ensures)
+    head-becomes _ (omega (arith, c4 .if1 .left, c7 .pre .0)) (c7 .pre .1) (c .before .if2 .taken) (c .spoil .ensures .1)
 
 go-on-requires-2 : tie.Need-go-on-requires-2
 go-on-requires-2 c κs = search needs

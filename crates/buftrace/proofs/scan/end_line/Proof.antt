@@ -11,7 +11,7 @@ spoil-requires c κs = search needs
 returns : tie.Need-returns
 returns c =
     let c6 = c .before .before .before .before .before .before in
-    none-becomes _ (not-true _ (c .before .if1 .taken)) (c .spoil .ensures) .each _ _ _ (c6 .pre .0)
+    none-becomes _ (not-true _ (c .before .if1 .taken)) (c .spoil .ensures .1) .each _ _ _ (c6 .pre .0)
 
 end-head-requires : tie.Need-end-head-requires
 end-head-requires c κs = (search needs, not-false _ (c .before .before .if1 .left))
@@ -26,7 +26,7 @@ returns-3 : tie.Need-returns-3
 returns-3 c =
     let c5 = c .before .before .before .before .before in
     let c10 = c5 .before .before .before .before .before in
-    outside-becomes _ (search needs) (not-false _ (c5 .if1 .left)) (search needs) (c .spoil2 .ensures) .each _ _ _ (c10 .pre .0)
+    outside-becomes _ (search needs) (not-false _ (c5 .if1 .left)) (search needs) (c .spoil2 .ensures .1) .each _ _ _ (c10 .pre .0)
 
 use-block-requires : tie.Need-use-block-requires
 use-block-requires c κs =

@@ -10,7 +10,7 @@ spoil-requires c κs = c .before .before .before .before .before .pre .line
 
 returns : tie.Need-returns
 returns c =
-    let b = c .spoil .ensures .each _ _ _ (c .before .before .before .before .before .before .pre) in
+    let b = c .spoil .ensures .1 .each _ _ _ (c .before .before .before .before .before .before .pre) in
     (b .0 ∙ sym (stepped-past _ _ (c .before .if1 .taken)), b .1)
 
 end-line-requires : tie.Need-end-line-requires
@@ -43,7 +43,7 @@ returns-3 c =
     let c2 = c .before .before in
     let c3 = c2 .before in
     let c8 = c3 .before .before .before .before .before in
-    let b = c .spoil2 .ensures .each _ _ _ (c8 .pre) in
+    let b = c .spoil2 .ensures .1 .each _ _ _ (c8 .pre) in
     (b .0 ∙ sym (stepped-other _ _ (c3 .if1 .left) (c2 .if2 .left) (digit-none _ (c .before .if3 .taken))), b .1)
 
 add-digit-requires : tie.Need-add-digit-requires
