@@ -17,3 +17,4 @@ pub mod FeedLaws
 pub mod ReaderLaws
 pub mod DigitsLaws
 pub mod ReportLaws
+pub mod Computed
