@@ -46,7 +46,7 @@ pub paper-used : usedOn 3 4 five ≡ three 0 5 5
 unfolding computes
 paper-used = refl
 
-pub paper-traced : uses 3 unused five .totals ≡ three 0 5 5
+paper-traced : uses 3 unused five .totals ≡ three 0 5 5
 unfolding computes
 paper-traced = refl
 
@@ -54,7 +54,7 @@ pub eleven-used : usedOn 3 5 eleven ≡ three 3 8 14
 unfolding computes
 eleven-used = refl
 
-pub eleven-traced : uses 3 unused eleven .totals ≡ three 3 8 14
+eleven-traced : uses 3 unused eleven .totals ≡ three 3 8 14
 unfolding computes
 eleven-traced = refl
 
@@ -75,14 +75,14 @@ unfolding computes bytes
 paper-printed = refl
 
 -- ---- the line for a text, and what is read there
-abbrev pub Line : String → String → Type 0
+abbrev Line : String → String → Type 0
 Line input line = report (bytes input) ≡ bytes line
 
-abbrev pub Reads : String → Given → Type 0
+abbrev Reads : String → Given → Type 0
 Reads input g = parse (linesOf (bytes input)) ≡ g
 
 -- the last newline is optional; zeros in front count nothing; the limits are allowed
-pub lines-read : Reads "3\n4\n0\n3\n" (given 3 4 (0 ∷ 3 ∷ []))
+lines-read : Reads "3\n4\n0\n3\n" (given 3 4 (0 ∷ 3 ∷ []))
     × Reads "3\n4\n0\n3" (given 3 4 (0 ∷ 3 ∷ []))
     × Reads "007\n0004\n000" (given 7 4 (0 ∷ []))
     × Reads "1\n0" (given 1 0 [])
@@ -90,16 +90,16 @@ pub lines-read : Reads "3\n4\n0\n3\n" (given 3 4 (0 ∷ 3 ∷ []))
 unfolding computes bytes
 lines-read = (refl, refl, refl, refl, refl)
 
-pub few-lines : Line "3\n0\n" "0 0 0\n" × Line "3\n4\n0" "0 1 0\n"
+few-lines : Line "3\n0\n" "0 0 0\n" × Line "3\n4\n0" "0 1 0\n"
 unfolding computes bytes
 few-lines = (refl, refl)
 
 -- a line that is missing, or empty
-pub lines-missing : Line "" "bad line 1\n" × Line "3" "bad line 2\n" × Line "3\n" "bad line 2\n"
+lines-missing : Line "" "bad line 1\n" × Line "3" "bad line 2\n" × Line "3\n" "bad line 2\n"
 unfolding computes bytes
 lines-missing = (refl, refl, refl)
 
-pub lines-empty : Line "\n4\n" "bad line 1\n"
+lines-empty : Line "\n4\n" "bad line 1\n"
     × Line "3\n\n" "bad line 2\n"
     × Line "3\n4\n\n" "bad line 3\n"
     × Line "3\n4\n0\n\n" "bad line 4\n"
@@ -107,7 +107,7 @@ unfolding computes bytes
 lines-empty = (refl, refl, refl, refl)
 
 -- out of range
-pub lines-outside : Line "0\n4\n" "bad line 1\n"
+lines-outside : Line "0\n4\n" "bad line 1\n"
     × Line "1025\n4\n" "bad line 1\n"
     × Line "3\n65537\n" "bad line 2\n"
     × Line "3\n4\n4\n" "bad line 3\n"
@@ -116,7 +116,7 @@ unfolding computes bytes
 lines-outside = (refl, refl, refl, refl, refl)
 
 -- no number: a sign, a carriage return, a space, the bytes beside the digits; of several bad lines the first counts
-pub lines-other : Line "+3\n4\n" "bad line 1\n"
+lines-other : Line "+3\n4\n" "bad line 1\n"
     × Line "-3\n4\n" "bad line 1\n"
     × Line "3\r\n4\r\n" "bad line 1\n"
     × Line "3\n 4\n" "bad line 2\n"
@@ -127,11 +127,11 @@ unfolding computes bytes
 lines-other = (refl, refl, refl, refl, refl, refl, refl)
 
 -- numbers are printed without zeros in front
-pub digits : (decimal 0 ≡ bytes "0") × (decimal 10 ≡ bytes "10") × (decimal 1000000 ≡ bytes "1000000")
+digits : (decimal 0 ≡ bytes "0") × (decimal 10 ≡ bytes "10") × (decimal 1000000 ≡ bytes "1000000")
 unfolding computes bytes
 digits = (refl, refl, refl)
 
 -- where no number is left, a line is bad, whatever stands in it
-pub one-too-many : (n blocks k : ℕ) (line : List ℕ) (lines : List (List ℕ)) → numbers n blocks k 0 (line ∷ lines) ≡ bad k
+one-too-many : (n blocks k : ℕ) (line : List ℕ) (lines : List (List ℕ)) → numbers n blocks k 0 (line ∷ lines) ≡ bad k
 unfolding numbers
 one-too-many n blocks k line lines = refl
