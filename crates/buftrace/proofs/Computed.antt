@@ -35,12 +35,15 @@ computes = tt
 abbrev three : ℕ → ℕ → ℕ → Totals
 three hits loads probes = record { hits = hits; loads = loads; probes = probes }
 
--- the paper's, and one with hits, whose sweeps pass buffers
+-- the paper's; one with hits, whose sweeps pass buffers; and one buffer's, whose usage reaches the cap
 abbrev five : List ℕ
 five = 0 ∷ 1 ∷ 2 ∷ 3 ∷ 0 ∷ []
 
 abbrev eleven : List ℕ
 eleven = 0 ∷ 0 ∷ 1 ∷ 2 ∷ 0 ∷ 3 ∷ 1 ∷ 3 ∷ 2 ∷ 4 ∷ 0 ∷ []
+
+abbrev eight : List ℕ
+eight = 0 ∷ 0 ∷ 0 ∷ 0 ∷ 0 ∷ 0 ∷ 0 ∷ 1 ∷ []
 
 pub paper-used : usedOn 3 4 five ≡ three 0 5 5
 unfolding computes
@@ -57,6 +60,14 @@ eleven-used = refl
 eleven-traced : uses 3 unused eleven .totals ≡ three 3 8 14
 unfolding computes
 eleven-traced = refl
+
+pub eight-used : usedOn 1 2 eight ≡ three 6 2 6
+unfolding computes
+eight-used = refl
+
+eight-traced : uses 1 unused eight .totals ≡ three 6 2 6
+unfolding computes
+eight-traced = refl
 
 -- ---- a text's bytes, one for each character
 unfoldable pub bytes : String → List ℕ
@@ -120,8 +131,8 @@ lines-other : Line "+3\n4\n" "bad line 1\n"
     × Line "-3\n4\n" "bad line 1\n"
     × Line "3\r\n4\r\n" "bad line 1\n"
     × Line "3\n 4\n" "bad line 2\n"
-    × Line "3\n4\n0/\n" "bad line 3\n"
-    × Line "3\n4\n0:\n" "bad line 3\n"
+    × Line "3\n99\n0/\n" "bad line 3\n"
+    × Line "3\n99\n0:\n" "bad line 3\n"
     × Line "3\n4\n0\n4\nx\n" "bad line 4\n"
 unfolding computes bytes
 lines-other = (refl, refl, refl, refl, refl, refl, refl)
