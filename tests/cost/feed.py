@@ -45,6 +45,11 @@ def few_bytes(program):
             yield from in_pieces(program, text, size)
 
 
+def many_pieces(program):
+    """More pieces than 16 bits count."""
+    yield from in_pieces(program, b'3\n4\n' + b'0\n' * 33_000 + b'1\n2\n3\n0\n', 1)
+
+
 def great_pieces(program):
     """About as many bytes as are read at a time."""
     text = some_list(40_000)
@@ -147,7 +152,7 @@ def failing(program):
                 yield f'{text[-12:]!r}, and then a read that fails: {ran}'
 
 
-CHECKS = {check.__name__: check for check in (few_bytes, great_pieces, piece_ends, waits, stops, endless, memory, failing)}
+CHECKS = {check.__name__: check for check in (few_bytes, many_pieces, great_pieces, piece_ends, waits, stops, endless, memory, failing)}
 
 
 def main():

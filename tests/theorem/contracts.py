@@ -1,5 +1,6 @@
-"""contracts.py CRATES: the contracts of the exports of CRATES/bufpool and of the hash of CRATES/buftag, as theorem and documents speak of
-them, and of the other crates' exports that they ask nothing. Prints what differs; status 1 if anything does."""
+"""contracts.py CRATES: the contracts of the exports of CRATES/bufpool, of the hash of CRATES/buftag and of the functions of CRATES/buftrace
+and CRATES/bufcost that make a line of costs, as theorems and documents speak of them, and of the other crates' exports that they ask
+nothing. Prints what differs; status 1 if anything does."""
 import glob
 import re
 import sys
@@ -31,13 +32,55 @@ OTHERS = {
         'ensures { λ _. ⌜ now (answer .exit) ≡ sumAnswer (now (page .entry)) block (now (answer .entry)) ⌝ }'),
 }
 # the hash of a name, by its five words, within the library and for C
-FIVE = 'tablespace: u32, database: u32, relation: u32, fork: u32, block: u32'
+FIVE = 'tablespace: u32, database: u32, relation: u32, fork: u32, block: u32) -> u32 '
 OF_BYTES = 'ensures { λ r. ⌜ r ≡ hashOf (nameOf tablespace database relation fork block) ⌝ }'
 OF_WORDS = 'ensures { λ r. ⌜ r ≡ hashWords tablespace database relation fork block ⌝ }'
-HASHES = {'pub fn hash': OF_WORDS + ' ' + OF_BYTES, 'pub extern "C" fn buftag_hash': OF_BYTES}
+# a line of costs: what a use, a piece of the input and its end make of words, blocks and table that are lent, and what is put of that
+LENT = 'states: &mut [u32], held: &mut [u16], place: &mut [u16]'
+BEFORE, AFTER = ('(now (states .%s)) (now (held .%s))' % (moment, moment) for moment in ('entry', 'exit'))
+
+
+def leaves(asked, left, made, of, more=''):
+    """`asked` of what is lent, and `more`; at exit `left` of it, and `made` of it is `of`."""
+    return ('requires { ⌜ %s (now states) (now held) (now place) ⌝ } %sensures { λ r. ⌜ %s %s ≡ %s ⌝ } '
+            'ensures { λ r. ⌜ %s %s (now (place .exit)) ⌝ }' % (asked, more, made, AFTER, of, left, AFTER))
+
+
+def reads(of):
+    return leaves('Ready s', 'Ready r', 'scanOf r', of % ('(scanOf s %s)' % BEFORE))
+
+
+# functions by crate, with parameters and contract
+FUNCTIONS = {
+    'buftag': {'pub fn hash': FIVE + OF_WORDS + ' ' + OF_BYTES, 'pub extern "C" fn buftag_hash': FIVE + OF_BYTES},
+    'buftrace': {
+        'pub fn use_block': 'n: usize, c: Tally, %s, block: usize) -> Tally ' % LENT
+        + leaves('Fit n c', 'Fit n r', 'traceOf r', 'use1 n (traceOf c %s) block' % BEFORE,
+                 'requires { ⌜ (0 < n) × (block < maxBlocks) × (many (c .totals) < maxUses) ⌝ } ')
+        + ' ensures { λ r. ⌜ many (r .totals) ≡ suc (many (c .totals)) ⌝ }',
+        'pub fn feed': 's: Reader, %s, bytes: &[u8]) -> Reader ' % LENT + reads('feds %s (now (bytes .entry))'),
+        'pub fn finish': 's: Reader, %s) -> Reader ' % LENT + reads('finished %s'),
+        'pub fn put_line': 's: Reader, out: &mut [u8; 64]) -> usize ensures { λ r. ⌜ Counts r (now (out .exit)) ⌝ } '
+        'ensures { λ r. ⌜ take r (now (out .exit)) ≡ printedOf s ⌝ }',
+    },
+    'bufcost': {
+        'fn cost_line': 'out: &mut [u8; 64]) -> usize ensures { λ r. ⌜ Counts r (now (out .exit)) ⌝ } '
+        'ensures { λ r. ⌜ Wrote (take r (now (out .exit))) ⌝ }',
+    },
+}
 # and where the words of these contracts are from, none by another name
-WORDS, FROM = {'hashOf', 'hashWords', 'nameOf'}, 'Rattle.buftag.specs.Name'
-GHOST = re.compile(r'^ghost use (\S+)\.\{(.*?)\};', re.M)
+SCAN, TRACE, REPORT = ('Rattle.buftrace.specs.' + name for name in ('Scan', 'Trace', 'Report'))
+FROM = {
+    'buftag': dict.fromkeys(('hashOf', 'hashWords', 'nameOf'), 'Rattle.buftag.specs.Name'),
+    'buftrace': {
+        **dict.fromkeys(('Ready', 'scanOf', 'feds', 'finished'), SCAN),
+        **dict.fromkeys(('Fit', 'many', 'traceOf', 'use1'), TRACE),
+        'printedOf': REPORT, 'maxUses': 'Rattle.buftrace.specs.Input', 'maxBlocks': 'Rattle.bufmodel.specs.Sizes',
+        'take': 'lib.ListN',
+    },
+    'bufcost': {'Wrote': 'Rattle.buftrace.specs.Report', 'take': 'lib.ListN'},
+}
+GHOST = re.compile(r'^ghost use (\S+)\.\{(.*?)\};', re.M | re.S)
 # the lent memory of the contracts and what a call leaves, and what the two of OTHERS say, as bufpool's own specs define it
 DEFINITIONS = {
     'Lent.antt': [
@@ -75,22 +118,22 @@ def exports(crates, crate):
         yield from EXPORT.findall(open(path, encoding='utf8').read())
 
 
-def hashes(crates):
-    """What is wrong with the contracts of the hash."""
-    code = ''.join(open(path, encoding='utf8').read() for path in sorted(glob.glob('%s/buftag/src/*.rt' % crates)))
-    for head, contract in HASHES.items():
+def functions(crates, crate):
+    """What is wrong with the contracts of a crate's functions."""
+    code = ''.join(open(path, encoding='utf8').read() for path in sorted(glob.glob('%s/%s/src/*.rt' % (crates, crate))))
+    for head, contract in FUNCTIONS[crate].items():
         said = [' '.join(text.split()) for text in re.findall(r'^%s\((.*?\n)\{\n' % re.escape(head), code, re.S | re.M)]
-        said = [re.sub(r',? ?\) -> u32 ', ') -> u32 ', text, count=1) for text in said]
-        if said != ['%s) -> u32 %s' % (FIVE, contract)]:
+        said = [re.sub(r',? ?\) -> ', ') -> ', text, count=1) for text in said]
+        if said != [contract]:
             yield '%s says: %s' % (head.split()[-1], said)
     for module, names in GHOST.findall(code):
-        for name in names.split(', '):
-            if WORDS & set(name.split()) and (module != FROM or ' as ' in name):
-                yield 'buftag has %s from %s' % (name, module)
+        for name in re.split(r',\s*', names.strip().rstrip(',')):
+            if any(FROM[crate][word] != module or ' as ' in name for word in FROM[crate].keys() & set(name.split())):
+                yield '%s has %s from %s' % (crate, name, module)
 
 
 def main(crates):
-    found, wrong = {}, list(hashes(crates))
+    found, wrong = {}, [text for crate in FUNCTIONS for text in functions(crates, crate)]
     for crate in ('buftag', 'bufbooks', 'bufpool'):
         for name, parameters, contract in exports(crates, crate):
             found[name] = crate

@@ -13,6 +13,7 @@ pub mod ByteLaws
 pub mod ScanLaws
 pub mod DigitsLaws
 pub mod ReportLaws
+pub mod Computed
 pub mod IdleLaws
 pub mod PlaceLaws
 pub mod TraceLaws
