@@ -60,10 +60,19 @@ FUNCTIONS = {
         + ' ensures { λ r. ⌜ many (r .totals) ≡ suc (many (c .totals)) ⌝ }',
         'pub fn feed': 's: Reader, %s, bytes: &[u8]) -> Reader ' % LENT + reads('feds %s (now (bytes .entry))'),
         'pub fn finish': 's: Reader, %s) -> Reader ' % LENT + reads('finished %s'),
+        'pub fn break_off': 's: Reader) -> Reader requires { ⌜ s .line ≤ maxLines ⌝ } ensures { λ r. ⌜ r ≡ brokenReader s ⌝ } '
+        'ensures { λ r. ⌜ Becomes broken s r ⌝ }',
         'pub fn put_line': 's: Reader, out: &mut [u8; 64]) -> usize ensures { λ r. ⌜ Counts r (now (out .exit)) ⌝ } '
         'ensures { λ r. ⌜ take r (now (out .exit)) ≡ printedOf s ⌝ }',
     },
     'bufcost': {
+        'fn take_piece': 's: Reader, %s, bytes: &[u8]) -> Piece requires { ⌜ Ready s (now states) (now held) (now place) ⌝ } ' % LENT
+        + 'ensures { λ r. ⌜ Ready (r .reader) %s (now (place .exit)) ⌝ } ' % AFTER
+        + 'ensures { λ r. ⌜ scanOf (r .reader) %s ≡ feds (scanOf s %s) (now (bytes .entry)) ⌝ } ' % (AFTER, BEFORE)
+        + 'ensures { λ r. ⌜ r .more ≡ (not (eqb (length (now (bytes .entry))) 0) && eqb (r .reader .bad) 0) ⌝ }',
+        'fn sum_up': 't: Reader, %s, out: &mut [u8; 64]) -> usize requires { ⌜ Ready t (now states) (now held) (now place) ⌝ } ' % LENT
+        + 'ensures { λ r. ⌜ Counts r (now (out .exit)) ⌝ } '
+        + 'ensures { λ r. ⌜ take r (now (out .exit)) ≡ printed (finished (scanOf t %s)) ⌝ }' % BEFORE,
         'fn cost_line': 'out: &mut [u8; 64]) -> usize ensures { λ r. ⌜ Counts r (now (out .exit)) ⌝ } '
         'ensures { λ r. ⌜ Wrote (take r (now (out .exit))) ⌝ }',
     },
@@ -73,12 +82,16 @@ SCAN, TRACE, REPORT = ('Rattle.buftrace.specs.' + name for name in ('Sca
 FROM = {
     'buftag': dict.fromkeys(('hashOf', 'hashWords', 'nameOf'), 'Rattle.buftag.specs.Name'),
     'buftrace': {
-        **dict.fromkeys(('Ready', 'scanOf', 'feds', 'finished'), SCAN),
+        **dict.fromkeys(('Ready', 'scanOf', 'feds', 'finished', 'broken', 'brokenReader', 'Becomes', 'maxLines'), SCAN),
         **dict.fromkeys(('Fit', 'many', 'traceOf', 'use1'), TRACE),
         'printedOf': REPORT, 'maxUses': 'Rattle.buftrace.specs.Input', 'maxBlocks': 'Rattle.bufmodel.specs.Sizes',
         'take': 'lib.ListN',
     },
-    'bufcost': {'Wrote': 'Rattle.buftrace.specs.Report', 'take': 'lib.ListN'},
+    'bufcost': {
+        **dict.fromkeys(('Ready', 'scanOf', 'feds', 'finished'), 'Rattle.buftrace.specs.Scan'),
+        **dict.fromkeys(('Wrote', 'printed'), 'Rattle.buftrace.specs.Report'),
+        'take': 'lib.ListN', 'length': 'lib.ListN', 'eqb': 'lib.Dec', 'not': 'mathlib.Core.Bool',
+    },
 }
 GHOST = re.compile(r'^ghost use (\S+)\.\{(.*?)\};', re.M | re.S)
 # the lent memory of the contracts and what a call leaves, and what the two of OTHERS say, as bufpool's own specs define it
