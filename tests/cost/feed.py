@@ -46,8 +46,13 @@ def few_bytes(program):
 
 
 def many_pieces(program):
-    """More pieces than 16 bits count."""
-    yield from in_pieces(program, b'3\n4\n' + b'0\n' * 33_000 + b'1\n2\n3\n0\n', 1)
+    """As many pieces as a list may have lines: in such a pipe each write is a read of its own."""
+    uses = [b'%d\n' % (use % 4) for use in range(1_000_000)]
+    with program.fed(os.O_DIRECT) as (child, feed):
+        if not all(map(feed.write, [b'3\n', b'4\n', *uses])):
+            yield 'not all is read'
+        feed.close()
+        yield from judged(program.end(child), b'3\n4\n' + b''.join(uses), f'{len(uses)} pieces')
 
 
 def great_pieces(program):

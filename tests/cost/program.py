@@ -98,9 +98,9 @@ class Program:
             return self.over(source.fileno())
 
     @contextlib.contextmanager
-    def fed(self):
+    def fed(self, flags=0):
         """The program, and the pipe that it reads. One that is not waited for is ended."""
-        with pipe() as (source, sink):
+        with pipe(flags) as (source, sink):
             child = self.start(source.fileno())
             source.close()
             yield child, Feed(sink)
@@ -109,8 +109,8 @@ class Program:
 
 
 @contextlib.contextmanager
-def pipe():
-    source, sink = os.pipe()
+def pipe(flags=0):
+    source, sink = os.pipe2(flags | os.O_CLOEXEC)
     with open(source, 'rb', buffering=0) as source, open(sink, 'wb', buffering=0) as sink:
         yield source, sink
 

@@ -74,6 +74,8 @@ class Expected:
             again = [n for n in self.costs if mark and n > mark and self.parts[n] < fractions.Fraction(level, 100)]
             if again:
                 yield '  below it again: N = ' + ', '.join(map(str, again[:8])) + (' and %d more' % len(again[8:]) if again[8:] else '')
+        if (self.first, self.last) != (1, 1024):
+            yield 'only N from %d to %d were looked at: a smaller or a greater one may do' % (self.first, self.last)
         if self.step:
             yield 'only the N of this table were looked at: a smaller one between them may do'
 

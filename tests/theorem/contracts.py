@@ -141,6 +141,8 @@ def functions(crates, crate):
             yield '%s says: %s' % (head.split()[-1], said)
     for module, names in GHOST.findall(code):
         for name in re.split(r',\s*', names.strip().rstrip(',')):
+            if ' as ' in name and '_' in name:
+                yield '%s has an operator by another name: %s' % (crate, name)
             if any(FROM[crate][word] != module or ' as ' in name for word in FROM[crate].keys() & set(name.split())):
                 yield '%s has %s from %s' % (crate, name, module)
 
