@@ -1,4 +1,4 @@
--- What the end of a line, and of the input, makes of a scan, case by case.
+-- What the end of a line makes of a scan, case by case.
 use Prim.Native.Nat.{ℕ, zero, suc, _≤_, _<_}
 use native.Mathlib.Omega.{arith}
 use mathlib.Core.Path.{_≡_, refl, _∙_}

@@ -1,4 +1,4 @@
--- One byte, and a piece of the input, case by case.
+-- One byte, a piece of the input, and its end, case by case.
 use Prim.Native.Nat.{ℕ, zero, suc, _+_, _≤_, _<_}
 use native.Mathlib.Omega.{arith}
 use mathlib.Core.Path.{_≡_, refl, sym, ap, _∙_}
