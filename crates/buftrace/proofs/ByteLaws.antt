@@ -6,7 +6,7 @@ use mathlib.Core.Bool.{Bool, true, false, cond}
 use mathlib.Core.Logic.{_⊎_, inl, inr, ⊎-elim, _≢_}
 use mathlib.Core.List.{List, [], _∷_}
 use lib.Dec.{eqb}
-use borrow.Author.Tests.{ne-eqb, le-leb, lt-leb}
+use borrow.Author.Tests.{ne-eqb}
 use Rattle.laws.specs.First.{Found, found, missing}
 use Rattle.laws.proofs.First.{found-same, found-missing}
 use Rattle.laws.proofs.Tests.{eq-or-ne, lt-or-le}
@@ -19,6 +19,8 @@ use Rattle.buftrace.proofs.FeedLaws.{
   stepped-end,
   stepped-digit,
   stepped-other,
+  digit-grown,
+  digit-great,
   fed-on,
   feds-late,
   closed-late,
@@ -154,14 +156,6 @@ module _ (s : Scan) (d : Bool) (v : ℕ) where
       fed-digit : isDigit b ≡ true → fed (begun s d v) b ≡ digit (begun s d v) b
       fed-digit e = fed-on (begun s d v) b refl ∙ stepped-digit (begun s d v) b f g e
 
-  digit-grown : (b : ℕ) → v * 10 + (b - 48) ≤ maxBlocks → digit (begun s d v) b ≡ begun s true (v * 10 + (b - 48))
-  unfolding digit
-  digit-grown b l = rw (le-leb (v * 10 + (b - 48)) maxBlocks l)
-
-  digit-great : (b : ℕ) → maxBlocks < v * 10 + (b - 48) → digit (begun s d v) b ≡ spoilt (begun s d v)
-  unfolding digit
-  digit-great b l = rw (lt-leb (v * 10 + (b - 48)) maxBlocks l)
-
 -- ---- the end of a line
 ended-empty : (s : Scan) → ended (begun s false 0) ≡ taken (begun s false 0) missing
 unfolding ended numberOf
@@ -235,10 +229,10 @@ module _ (s : Scan) (few : s .blocks ≤ maxBlocks) (f : s .line ≢ maxLines) w
       go : (t : Bool) → isDigit b ≡ t → (maxBlocks < v * 10 + (b - 48)) ⊎ (v * 10 + (b - 48) ≤ maxBlocks)
           → SameOn s d v (b ∷ bs) (b ∷ line) lines
       go true e (inl h) =
-          rw (feds-one (begun s d v) _ b bs (fed-digit s d v f b g e ∙ digit-great s d v b h))
+          rw (feds-one (begun s d v) _ b bs (fed-digit s d v f b g e ∙ digit-great (begun s d v) b h))
           (bad-line s d v bs _ lines (ap (allowed s) (value-digit v b line e) ∙ too-great s few _ line h))
       go true e (inr h) =
-          rw (feds-one (begun s d v) _ b bs (fed-digit s d v f b g e ∙ digit-grown s d v b h), value-digit v b line e) (ih _)
+          rw (feds-one (begun s d v) _ b bs (fed-digit s d v f b g e ∙ digit-grown (begun s d v) b h), value-digit v b line e) (ih _)
       go false e h =
           rw (feds-one (begun s d v) _ b bs (fed-other s d v f b g e))
           (bad-line s d v bs _ lines (ap (allowed s) (value-other v b line e) ∙ allowed-missing s))

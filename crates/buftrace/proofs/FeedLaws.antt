@@ -1,5 +1,5 @@
 -- One byte, a piece of the input, and its end, case by case.
-use Prim.Native.Nat.{ℕ, zero, suc, _+_, _≤_, _<_}
+use Prim.Native.Nat.{ℕ, zero, suc, _+_, _-_, _*_, _≤_, _<_}
 use native.Mathlib.Omega.{arith}
 use mathlib.Core.Path.{_≡_, refl, sym, ap, _∙_}
 use mathlib.Core.Logic.{_≢_, _⊎_, inl, inr}
@@ -9,8 +9,10 @@ use lib.ListN.{length, getD, drop}
 use lib.Dec.{leb, ltb}
 use borrow.Author.Tests.{leb-true, ltb-true, ltb-false, eq-eqb, ne-eqb, le-leb, lt-leb}
 use Rattle.laws.proofs.Tests.{and-left, or-neither, true-or-false}
+use Rattle.bufmodel.specs.Sizes.{maxBlocks}
 use Rattle.buftrace.specs.Input.{newline, isDigit}
 use Rattle.buftrace.specs.Scan.{
+  grown,
   Scan,
   maxLines,
   spoilt,
@@ -62,6 +64,14 @@ module _ (s : Scan) (b : ℕ) where
   pub stepped-other : s .line ≢ maxLines → b ≢ newline → isDigit b ≡ false → stepped s b ≡ spoilt s
   unfolding stepped
   stepped-other n e d = rw (ne-eqb (s .line) maxLines n, ne-eqb b newline e, d) refl
+
+  pub digit-grown : s .value * 10 + (b - 48) ≤ maxBlocks → digit s b ≡ grown s (s .value * 10 + (b - 48))
+  unfolding digit
+  digit-grown l = rw (le-leb (s .value * 10 + (b - 48)) maxBlocks l) refl
+
+  pub digit-great : maxBlocks < s .value * 10 + (b - 48) → digit s b ≡ spoilt s
+  unfolding digit
+  digit-great l = rw (lt-leb (s .value * 10 + (b - 48)) maxBlocks l) refl
 
   pub fed-on : s .bad ≡ 0 → fed s b ≡ stepped s b
   unfolding fed

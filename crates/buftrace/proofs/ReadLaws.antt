@@ -70,7 +70,6 @@ new-ready =
       begun = λ e. never e refl;
       value = omega arith;
       blocks = omega arith;
-      bad = omega arith;
       none = λ e. refl;
       some = λ l. absurd (omega (arith, l));
       uses = omega arith;

@@ -6,7 +6,7 @@ use mathlib.Core.Logic.{_≢_, _⊎_, inl, inr}
 use mathlib.Core.Bool.{Bool, true, false, _&&_, _||_}
 use mathlib.Core.List.{List}
 use lib.Dec.{eqb, ltb}
-use borrow.Author.Tests.{eq-eqb, ne-eqb, le-leb, lt-leb, ltb-true, ltb-false}
+use borrow.Author.Tests.{eq-eqb, ne-eqb, ltb-true, ltb-false}
 use Rattle.laws.proofs.Tests.{or-neither, true-or-false, never}
 use Rattle.bufmodel.specs.Sizes.{maxBuffers, maxBlocks}
 use Rattle.buftrace.specs.declared.trace.Tally.{Tally}
@@ -27,7 +27,7 @@ use Rattle.buftrace.specs.Scan.{
   closed,
   broken,
 }
-use Rattle.buftrace.proofs.FeedLaws.{one-more}
+use Rattle.buftrace.proofs.FeedLaws.{one-more, digit-grown, digit-great}
 use Rattle.buftrace.proofs.EndLaws.{
   ended-none,
   ended-buffers,
@@ -60,20 +60,19 @@ fit-more n c states held place l f =
 
 module _ (s : Reader) where
   -- the next line begins; slices may have changed
-  onward-ready : (buffers blocks : ℕ) (c : Tally) (states held place : List ℕ) → s .line < maxLines → s .bad ≤ suc maxLines
+  onward-ready : (buffers blocks : ℕ) (c : Tally) (states held place : List ℕ) → s .line < maxLines
       → Fit buffers c states held place
       → blocks ≤ maxBlocks
       → 0 < buffers
       → many (c .totals) ≤ s .line + 1 - 2
       → Ready (onwardReader s buffers blocks c) states held place
-  onward-ready buffers blocks c states held place l b f u n m =
+  onward-ready buffers blocks c states held place l f u n m =
       record {
         fit = f;
         line = omega (arith, l);
         begun = λ e. never e refl;
         value = omega arith;
         blocks = u;
-        bad = b;
         none = λ e. absurd (omega (arith, e));
         some = λ e. n;
         uses = m;
@@ -119,7 +118,6 @@ module _ (s : Reader) where
                 begun = k .begun;
                 value = k .value;
                 blocks = k .blocks;
-                bad = omega (arith, l);
                 none = k .none;
                 some = k .some;
                 uses = k .uses;
@@ -174,7 +172,7 @@ module _ (s : Reader) where
             λ states held place k. (
               ap (begins (s .value) (s .blocks) (s .tally) states held) (one-more (s .line))
                   ∙ sym (ended-buffers (scanOf s states held) e d l u),
-              onward-ready (s .value) (s .blocks) (s .tally) states held place (omega (arith, e)) (k .bad)
+              onward-ready (s .value) (s .blocks) (s .tally) states held place (omega (arith, e))
                   (fit-more (s .value) (s .tally) states held place u
                   (rw (k .none e) at (k .fit)))
                   (k .blocks) l (omega (arith, k .uses, e)),
@@ -188,7 +186,7 @@ module _ (s : Reader) where
             λ states held place k. (
               ap (begins (s .buffers) (s .value) (s .tally) states held) (one-more (s .line))
                   ∙ sym (ended-blocks (scanOf s states held) e d (k .value)),
-              onward-ready (s .buffers) (s .value) (s .tally) states held place (omega (arith, e)) (k .bad) (k .fit) (k .value)
+              onward-ready (s .buffers) (s .value) (s .tally) states held place (omega (arith, e)) (k .fit) (k .value)
                   (k .some (omega (arith, e))) (omega (arith, k .uses, e)),
             );
       }
@@ -210,14 +208,13 @@ module _ (s : Reader) where
       record {
         each =
             λ states held place k. (
-              rw (sym e, le-leb (s .value * 10 + (d - 48)) maxBlocks u) refl,
+              rw (e) (sym (digit-grown (scanOf s states held) b (rw (e) at u))),
               record {
                 fit = k .fit;
                 line = k .line;
                 begun = λ e. l;
                 value = u;
                 blocks = k .blocks;
-                bad = k .bad;
                 none = k .none;
                 some = k .some;
                 uses = k .uses;
@@ -225,14 +222,9 @@ module _ (s : Reader) where
             );
       }
 
-  digit-over : (b d : ℕ) (states held : List ℕ) → d ≡ b → maxBlocks < s .value * 10 + (d - 48)
-      → digit (scanOf s states held) b ≡ spoilt (scanOf s states held)
-  unfolding digit
-  digit-over b d states held e u = rw (sym e, lt-leb (s .value * 10 + (d - 48)) maxBlocks u) refl
-
   pub digit-spoils : {r : Reader} (b d : ℕ) → d ≡ b → maxBlocks < s .value * 10 + (d - 48) → Becomes spoilt s r
       → Becomes (λ s. digit s b) s r
-  digit-spoils b d e u = becomes-as (λ states held place k. digit-over b d states held e u)
+  digit-spoils b d e u = becomes-as (λ states held place k. digit-great (scanOf s states held) b (rw (e) at u))
 
   -- ---- the end of the input, and a read that fails
   closed-bad : (states held : List ℕ) → (eqb (s .bad) 0 && ltb (s .line) 2) ≡ true
@@ -305,6 +297,6 @@ module _ (s : Reader) where
   used-ready c states held place states₁ held₁ place₁ r k m l d u e f n i = (
     ap (λ r. scanOf r states₁ held₁) i ∙ used-next c states held states₁ held₁ l d u e,
     rw (i)
-        (onward-ready (s .buffers) (s .blocks) c states₁ held₁ place₁ m (k .bad) f (k .blocks) (k .some (omega (arith, l)))
+        (onward-ready (s .buffers) (s .blocks) c states₁ held₁ place₁ m f (k .blocks) (k .some (omega (arith, l)))
         (omega (arith, n, k .uses, l))),
   )

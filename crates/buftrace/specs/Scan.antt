@@ -179,7 +179,6 @@ pub record Ready (r : Reader) (states held place : List ℕ) : Type 0 where
   pub begun : r .digits ≡ true → r .line < maxLines
   pub value : r .value ≤ maxBlocks
   pub blocks : r .blocks ≤ maxBlocks
-  pub bad : r .bad ≤ suc maxLines
   pub none : r .line ≡ 0 → r .buffers ≡ 0
   pub some : 0 < r .line → 0 < r .buffers
   pub uses : many (r .tally .totals) ≤ r .line - 2
