@@ -1,0 +1,11 @@
+pub mod Numbers
+pub mod Tests
+pub mod Every
+pub mod Sum
+pub mod Times
+pub mod First
+pub mod Block
+pub mod Says
+pub mod Sets
+pub mod Lists
+pub mod Fill
