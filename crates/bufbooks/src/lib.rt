@@ -1,5 +1,7 @@
 // Whether lent memory may be used: its sizes first (1), then its books (2); and the control record read from its words.
 
+#![tactic(auto)]
+
 pub mod books;
 pub mod buffers;
 pub mod counts;

@@ -6,7 +6,7 @@ ghost use Rattle.bufbooks.specs.Words.{fine, counts_of};
 use bufmem::word::is_full;
 use buftag::link::{NONE, OFF};
 
-#[derive(Drop)]
+#[derive(Clone, Copy)]
 pub struct Counts {
     // How many buffers have a word and links that fit together, and how many are empty.
     pub fine: u32,

@@ -7,14 +7,14 @@ use bufmodel::answer::{Accepted, Written};
 use bufmodel::control::Control;
 
 // Of the calls that answer only that they were done.
-#[derive(Drop)]
+#[derive(Clone, Copy)]
 pub struct AcceptedEnd {
     pub control: Control,
     pub answer: Accepted,
 }
 
 // Of flush and checkpoint.
-#[derive(Drop)]
+#[derive(Clone, Copy)]
 pub struct WrittenEnd {
     pub control: Control,
     pub answer: Written,

@@ -1,5 +1,7 @@
 // The calls by value but for pin. Each checks first, in the table's order, and changes nothing where it refuses.
 
+#![tactic(auto)]
+
 pub mod buffer;
 pub mod checkpoint;
 pub mod ends;

@@ -106,7 +106,7 @@ pub fn log_flushed_to(
 }
 
 // What both calls leave: the control record, and each answer.
-#[derive(Drop)]
+#[derive(Clone, Copy)]
 pub struct LogEnd {
     pub control: Control,
     pub inserted: Accepted,

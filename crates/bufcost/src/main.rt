@@ -1,5 +1,7 @@
 // What a list of used pages costs: reads the list from standard input, and writes hits, loads and probes, or the first bad line.
 
+#![tactic(auto)]
+
 ghost use Rattle.std.specs.Prelude.{◌≡◌, not, ◌&&◌, length, take, eqb};
 ghost use Rattle.io.specs.Counts.{IsPrefixLen};
 ghost use Rattle.buftrace.specs.Scan.{Ready, Fed, scan_of, feds, finished};
@@ -10,7 +12,7 @@ use buftrace::scan::{Reader, break_off, feed, finish, new_reader};
 use libc::{STDIN_FILENO, STDOUT_FILENO};
 
 // What a read left: the reader, and whether there may be more.
-#[derive(Drop)]
+#[derive(Clone, Copy)]
 struct Piece {
     reader: Reader,
     more: bool,

@@ -1,5 +1,7 @@
 // The leaves over lent memory: control words, state words, private counts, log positions, file rows, blocks of bytes, pages, checksums.
 
+#![tactic(auto)]
+
 pub mod block;
 pub mod checksum;
 pub mod control;

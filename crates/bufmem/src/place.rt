@@ -8,7 +8,7 @@ use crate::rows::{Row, block_place, find_row, has_block};
 use buftag::name::PageName;
 
 // A page's place, or what there is none of: a row of its file, or such a block in its file.
-#[derive(Drop)]
+#[derive(Clone, Copy)]
 pub enum Place {
     At(usize),
     NoFile,

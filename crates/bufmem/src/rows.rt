@@ -19,7 +19,7 @@ const BLOCKS_WORD: usize = 4;
 const CAPACITY_WORD: usize = 5;
 
 // What a search for a file answers: its row, or that there is none.
-#[derive(Drop)]
+#[derive(Clone, Copy)]
 pub enum Row {
     At(usize),
     Missing,

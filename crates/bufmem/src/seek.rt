@@ -9,7 +9,7 @@ use bufmodel::refusal::{NO_BLOCK, NO_FILE};
 use buftag::name::PageName;
 
 // A page's place in the store, or the number that refuses its name.
-#[derive(Drop)]
+#[derive(Clone, Copy)]
 pub enum Sought {
     At(usize),
     Refused(u32),

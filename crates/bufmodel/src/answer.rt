@@ -2,7 +2,7 @@
 
 use buftag::number::{BlockNumber, BufferNumber};
 
-#[derive(Drop)]
+#[derive(Clone, Copy)]
 pub enum Pinned {
     At {
         buffer: BufferNumber,
@@ -14,14 +14,14 @@ pub enum Pinned {
 }
 
 // Of flush and checkpoint: how many pages were written back.
-#[derive(Drop)]
+#[derive(Clone, Copy)]
 pub enum Written {
     Pages(u64),
     Refused(u32),
 }
 
 // Of peek: where the page lies, as a byte offset in the pool or in the store.
-#[derive(Drop)]
+#[derive(Clone, Copy)]
 pub enum Peeked {
     InPool(u64),
     InStore(u64),
@@ -29,14 +29,14 @@ pub enum Peeked {
 }
 
 // Of extend: the number of the new block.
-#[derive(Drop)]
+#[derive(Clone, Copy)]
 pub enum Extended {
     Block(BlockNumber),
     Refused(u32),
 }
 
 // Of the calls that answer only that they were done.
-#[derive(Drop)]
+#[derive(Clone, Copy)]
 pub enum Accepted {
     Done,
     Refused(u32),

@@ -1,6 +1,6 @@
 // The control record by value.
 
-#[derive(Drop)]
+#[derive(Clone, Copy)]
 pub struct Control {
     // P, the block size in bytes.
     pub size: usize,

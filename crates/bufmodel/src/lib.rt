@@ -2,6 +2,8 @@
 // the moves of a page and the thirteen calls. The code's contracts cite them; the code's control record, holders, answers and refusal
 // numbers are declared here.
 
+#![tactic(auto)]
+
 pub mod answer;
 pub mod control;
 pub mod holder;

@@ -10,7 +10,7 @@ use bufmem::word::{is_pinned, usage_of, use_less};
 use buftag::number::BufferNumber;
 
 // The buffer taken, the hand afterwards and the probes; or that every buffer is pinned.
-#[derive(Drop)]
+#[derive(Clone, Copy)]
 pub enum Victim {
     At {
         buffer: BufferNumber,

@@ -6,7 +6,7 @@ ghost use Rattle.bufmodel.specs.declared.answer.Pinned.TheVariants.{Refused};
 use bufmodel::answer::Pinned;
 use bufmodel::control::Control;
 
-#[derive(Drop)]
+#[derive(Clone, Copy)]
 pub struct PinnedEnd {
     pub control: Control,
     pub answer: Pinned,

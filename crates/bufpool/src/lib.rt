@@ -1,5 +1,7 @@
 // The pool for programs in C: the thirteen calls over lent memory, a page's checksum, and the interface's number.
 
+#![tactic(auto)]
+
 pub mod answer;
 pub mod back;
 pub mod buffer;

@@ -21,7 +21,7 @@ use Rattle.buftag.specs.declared.budget.Walked.TheVariants.{Left, Wrong}
 use Rattle.buftag.specs.Link.{link_at, is_end, Links, done, step}
 use Rattle.buftag.specs.Budget.{spend}
 use Rattle.buftag.specs.contracts.link.Link.{the_type}
-use Rattle.buftag.proofs.TagLaws.{no-tag}
+use Rattle.buftag.proofs.TagLaws.{NotTo}
 use Rattle.buftag.proofs.LinkLaws.{is_end-true}
 
 -- ---- how a walk went that did not go wrong
@@ -48,9 +48,9 @@ module _ (ls : List ℤ) where
   spend-ends k l e = rw (is_end-true l e) (spend-end k)
 
   -- a link that is neither the end nor a place
-  pub spend-stops : (k : ℕ) (l : Link) → is_end l ≡ false → OneOf (1 ∷ 2 ∷ 3 ∷ []) (tag_of the_type l) → spend ls k l ≡ Wrong
+  pub spend-stops : (k : ℕ) (l : Link) → is_end l ≡ false → NotTo l → spend ls k l ≡ Wrong
   unfolding spend
-  spend-stops k (To i) e h = absurd (no-tag h)
+  spend-stops k (To i) e h = absurd (h _ refl)
   spend-stops k End e h = never refl e
   spend-stops zero Off e h = refl
   spend-stops (suc k) Off e h = refl

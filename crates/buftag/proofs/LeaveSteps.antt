@@ -16,7 +16,7 @@ use Rattle.buftag.specs.declared.link.Link.{Link}
 use Rattle.buftag.specs.declared.link.Link.TheVariants.{To, End, Off, Bad}
 use Rattle.buftag.specs.Link.{number_at, link_at, is_to}
 use Rattle.buftag.specs.Chain.{prev, past_at, past_heads, past_chain}
-use Rattle.buftag.proofs.TagLaws.{no-tag}
+use Rattle.buftag.proofs.TagLaws.{NotTo}
 use Rattle.buftag.proofs.LinkLaws.{To-same, end-to}
 
 -- ---- the search for the place before i, a turn of the loop
@@ -27,10 +27,10 @@ module _ (chain : List ℤ) (i : ℕ) where
   prev-none l = refl
 
   -- a link that is no place
-  pub prev-other : (k : ℕ) (l : Link) → OneOf (1 ∷ 2 ∷ 3 ∷ []) (tag_of the_type l) → prev chain i k l ≡ End
+  pub prev-other : (k : ℕ) (l : Link) → NotTo l → prev chain i k l ≡ End
   unfolding prev
   prev-other zero l h = refl
-  prev-other (suc k) (To j) h = absurd (no-tag h)
+  prev-other (suc k) (To j) h = absurd (h _ refl)
   prev-other (suc k) End h = refl
   prev-other (suc k) Off h = refl
   prev-other (suc k) Bad h = refl
@@ -86,13 +86,13 @@ module _ (heads chain : List ℤ) (b i : ℕ) where
   led-head z e t = (rw (t, e), rw t)
 
   -- no link leads to i
-  pub led-none : (l : Link) → l ≡ prev chain i (length chain) (link_at heads b) → OneOf (1 ∷ 2 ∷ 3 ∷ []) (tag_of the_type l)
+  pub led-none : (l : Link) → l ≡ prev chain i (length chain) (link_at heads b) → NotTo l
       → is_to i (link_at heads b) ≡ false → Led heads chain
   unfolding past_heads past_chain
   led-none l e h t = (rw t, rw (t, ← e) (go l h))
     where
-      go : (l : Link) → OneOf (1 ∷ 2 ∷ 3 ∷ []) (tag_of the_type l) → chain ≡ past_at chain i l
-      go (To j) h = absurd (no-tag h)
+      go : (l : Link) → NotTo l → chain ≡ past_at chain i l
+      go (To j) h = absurd (h _ refl)
       go End h = refl
       go Off h = refl
       go Bad h = refl

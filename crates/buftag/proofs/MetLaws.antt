@@ -38,7 +38,7 @@ pub data Met (ls : List ℤ) (l : Link) : ℕ → ℕ → Type 0 where
 
 module _ {ls : List ℤ} where
   -- a place before: it is met one later
-  met-later : {q j i : ℕ} → j < length ls → Met ls (link_at ls j) q i → Met ls (To j) (suc q) i
+  met-later : {j q i : ℕ} → j < length ls → Met ls (link_at ls j) q i → Met ls (To j) (suc q) i
   met-later h (first e) = next (first refl) h e
   met-later h (next m g e) = next (met-later h m) g e
 

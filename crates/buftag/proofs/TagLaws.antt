@@ -12,13 +12,13 @@ use Rattle.buftag.specs.declared.link.Link.{Link}
 use Rattle.buftag.specs.declared.link.Link.TheVariants.{To, End, Off, Bad}
 use Rattle.buftag.specs.Link.{is_to}
 
--- the tag of `To` is none of the others'
-pub no-tag : OneOf (1 ∷ 2 ∷ 3 ∷ []) 0 → ⊥
-no-tag = ⊎_elim (λ (e : 0 ≡ 1). omega arith) (⊎_elim (λ (e : 0 ≡ 2). omega arith) (λ (e : 0 ≡ 3). omega arith))
+-- a link that leads to no place
+abbrev pub NotTo : Link → Type 0
+NotTo l = (k : ℕ) → l ≡ To k → ⊥
 
 -- so such a link leads to no place
-pub is_to-other : (i : ℕ) (l : Link) → OneOf (1 ∷ 2 ∷ 3 ∷ []) (tag_of the_type l) → is_to i l ≡ false
-is_to-other i (To j) h = absurd (no-tag h)
+pub is_to-other : (i : ℕ) (l : Link) → NotTo l → is_to i l ≡ false
+is_to-other i (To j) h = absurd (h _ refl)
 is_to-other i End h = refl
 is_to-other i Off h = refl
 is_to-other i Bad h = refl

@@ -26,7 +26,7 @@ use Rattle.buftag.specs.Names.{name_at}
 use Rattle.buftag.specs.Link.{link_at, Links, done, step}
 use Rattle.buftag.specs.Lookup.{walk}
 use Rattle.buftag.specs.contracts.link.Link.{the_type}
-use Rattle.buftag.proofs.TagLaws.{no-tag}
+use Rattle.buftag.proofs.TagLaws.{NotTo}
 use Rattle.buftag.proofs.NameLaws.{says-same-name}
 
 pub At-same : {a b : BufferNumber} → At a ≡ At b → a.0 ≡ b.0
@@ -44,9 +44,9 @@ module _ (chain : List ℤ) (names : List ℕ) (n : PageName) where
   walk_none l = refl
 
   -- a link that is no place
-  pub walk-other : (k : ℕ) (l : Link) → OneOf (1 ∷ 2 ∷ 3 ∷ []) (tag_of the_type l) → walk chain names n k l ≡ Nowhere
+  pub walk-other : (k : ℕ) (l : Link) → NotTo l → walk chain names n k l ≡ Nowhere
   unfolding walk
-  walk-other k (To i) h = absurd (no-tag h)
+  walk-other k (To i) h = absurd (h _ refl)
   walk-other zero End h = refl
   walk-other (suc k) End h = refl
   walk-other zero Off h = refl

@@ -6,7 +6,7 @@ ghost use Rattle.buftag.specs.Budget.{spend, spent};
 use crate::link::{Link, is_end, link_at};
 
 // How a walk ends: at the end of its list, with so much of the budget left, or wrong.
-#[derive(Drop)]
+#[derive(Clone, Copy)]
 pub enum Walked {
     Left(usize),
     Wrong,

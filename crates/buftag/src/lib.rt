@@ -1,6 +1,8 @@
 // Page names, their bytes and hash, the bucket chains that find the buffer of a name, and the check of all chains.
 // Knows nothing of the pool: a buffer is a number with a state word (0 where it is empty), a name and a chain link.
 
+#![tactic(auto)]
+
 pub mod bucket;
 pub mod budget;
 pub mod chain;

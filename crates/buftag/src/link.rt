@@ -9,7 +9,7 @@ pub const NONE: i32 = -1;
 pub const OFF: i32 = -2;
 
 // What a link says.
-#[derive(Drop)]
+#[derive(Clone, Copy)]
 pub enum Link {
     // The list goes on at this place.
     To(usize),

@@ -10,7 +10,7 @@ use crate::names::holds;
 use crate::number::BufferNumber;
 
 // What a look-up answers: the buffer that has the page, or that none has.
-#[derive(Drop)]
+#[derive(Clone, Copy)]
 pub enum Held {
     At(BufferNumber),
     Nowhere,

@@ -16,7 +16,7 @@ pub const NAME_SIZE: usize = 20;
 // The last of a file's forks: 0 table, 1 free space map, 2 visibility map.
 const VISIBILITY_MAP: u32 = 2;
 
-#[derive(Drop)]
+#[derive(Clone, Copy)]
 pub struct FileName {
     pub tablespace: u32,
     pub database: u32,
@@ -24,7 +24,7 @@ pub struct FileName {
     pub fork: u32,
 }
 
-#[derive(Drop)]
+#[derive(Clone, Copy)]
 pub struct PageName {
     pub file: FileName,
     pub block: BlockNumber,

@@ -35,7 +35,7 @@ const MAX_LINES: u64 = 1000002;
 const NEWLINE: u8 = 10;
 
 // What is kept between two pieces.
-#[derive(Drop)]
+#[derive(Clone, Copy)]
 pub struct Reader {
     // Lines that have ended.
     pub line: u64,

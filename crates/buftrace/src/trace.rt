@@ -13,7 +13,7 @@ use bufmoves::sweep::{Victim, sweep};
 // The cap.
 const CAP: usize = 5;
 
-#[derive(Drop)]
+#[derive(Clone, Copy)]
 pub struct Tally {
     // Buffers that have a page: the free list has given them, rising.
     pub used: usize,

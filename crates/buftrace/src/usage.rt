@@ -1,6 +1,6 @@
 // The three numbers.
 
-#[derive(Drop)]
+#[derive(Clone, Copy)]
 pub struct Totals {
     // Pins whose page was held.
     pub hits: u64,

@@ -1,6 +1,8 @@
 // Cases of document 01's bench, with document 02's holders, through those forms of the calls that no function for C reaches: the control
 // record lent by `&mut`, the part that a peek hands back, state words packed and taken apart. What is written is held to the file `stdout`.
 
+#![tactic(auto)]
+
 mod bench;
 mod calls;
 mod lend;

@@ -1,0 +1,11 @@
+use Rattle.buftag.proofs.FirstLaws.{link-other, first-own}
+use Rattle.buftag.proofs.SignedLaws.{bits_back}
+use Rattle.buftag.specs.Check.{is_first}
+use Rattle.buftag.specs.Link.{link_of}
+use mathlib.Core.Path.{◌∙◌, ap}
+use borrow.Author.Rules.{rules}
+use Rattle.buftag.proofs.check.is_first.Goals as goal
+
+pub returns-then-first-buffer : goal.returns-then-first-buffer
+returns-then-first-buffer c =
+    first-own _ _ c.args.buffer.0 c.args.first c.ranges.first c.requires.1 c.requires.2 c.if-first-buffer.true
