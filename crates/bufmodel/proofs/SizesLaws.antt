@@ -1,6 +1,6 @@
 -- The tests of the rows and of the sizes decide their statements; the least and the greatest block size.
 use Prim.Native.Nat.{ℕ, ◌<◌, ◌≤◌}
-use mathlib.Core.Path.{◌≡◌}
+use mathlib.Core.Path.{◌≡◌, sym, subst}
 use mathlib.Core.Bool.{true}
 use mathlib.Core.Logic.{inl, inr, ⊎_elim}
 use mathlib.Core.List.{List, [], ◌∷◌}
@@ -87,7 +87,7 @@ one-times : (k : ℕ) (xs : List ℕ) → OneOf xs k → 0 < times k xs
 unfolding times
 one-times k [] h = absurd h
 one-times k (x ∷ []) h = rw h (times-here x [])
-one-times k (x ∷ y ∷ xs) h = ⊎_elim (λ e. rw e (times-here x (y ∷ xs))) (λ l. omega (arith, one-times k (y ∷ xs) l)) h
+one-times k (x ∷ y ∷ xs) h = ⊎_elim (λ e. subst (λ (z : ℕ). 0 < times z (x ∷ y ∷ xs)) (sym e) (times-here x (y ∷ xs))) (λ l. omega (arith, one-times k (y ∷ xs) l)) h
 
 times-one : (k : ℕ) (xs : List ℕ) → 0 < times k xs → OneOf xs k
 unfolding times

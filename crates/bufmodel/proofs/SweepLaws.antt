@@ -51,7 +51,7 @@ module _ (fuel n run probes hand : ℕ) (words : List ℕ) where
   step-takes e z = rw (e, sweep, eq-eqb (usage (get_or words hand 0)) 0 z)
 
 -- ---- the function computes what the relation says, and so the relation decides its end
-pub sweep-of : {n run hand : ℕ} {words : List ℕ} {s : Swept} (fuel probes : ℕ) → Sweeps n run hand words s → s.probes ≤ fuel
+pub sweep-of : {n : ℕ} (fuel probes : ℕ) {run hand : ℕ} {words : List ℕ} {s : Swept} → Sweeps n run hand words s → s.probes ≤ fuel
     → sweep fuel n run probes hand words ≡ swept s.victim s.words s.hand (probes + s.probes)
 sweep-of zero probes (passes e l r) h = absurd (omega arith)
 sweep-of zero probes (stops e q) h = absurd (omega arith)

@@ -1,0 +1,12 @@
+use borrow.Author.Rules.{rules}
+use lib.ListN.{length, length-set, get_or}
+use mathlib.Core.Path.{◌≡◌, refl, ◌∙◌}
+use Prim.Native.Nat.{◌≤◌, ◌-◌}
+use Rattle.laws.proofs.Fill.{Filled, fill_none, fill_more, fill_done}
+use Rattle.bufmem.proofs.block.copy_bytes.Given as goal
+
+abbrev pub invariant-loop-i : goal.invariant-loop-i
+invariant-loop-i l = (l.i ≤ length l.initial.to) × (length l.to ≡ length l.initial.to) × Filled 0 l.i l.to l.from
+
+abbrev pub decreases-loop-i : goal.decreases-loop-i
+decreases-loop-i l = length l.initial.to - l.i
