@@ -12,7 +12,7 @@ use Rattle.bufmem.proofs.ChecksumLaws.{summed-start, summed-more, mixed-behind, 
 use Rattle.bufmem.proofs.checksum.page_checksum.Given as goal
 
 abbrev pub invariant-loop-i : goal.invariant-loop-i
-invariant-loop-i l = (1 ≤ l.i) × (l.i ≤ l.rows) × Summed (bare l.page) l.i l.all
+invariant-loop-i l = (1 ≤ l.i) × (l.i ≤ l.rows) × Summed (bare l.page) l.i l.sums
 
 abbrev pub decreases-loop-i : goal.decreases-loop-i
 decreases-loop-i l = l.rows - l.i

@@ -1,0 +1,11 @@
+use borrow.Author.Rules.{rules}
+use native.Mathlib.Nat.{add-sub_cancel_left}
+use Prim.Native.Nat.{◌*◌}
+use Rattle.laws.specs.Block.{block, put_block}
+use Rattle.bufmem.proofs.page.write_page.Goals as goal
+
+pub returns : goal.returns
+unfolding put_block block
+returns c =
+    let a = c.args in
+    rw (c.write_bytes.ensures, add-sub_cancel_left (a.buffer.0 * a.size) a.size)

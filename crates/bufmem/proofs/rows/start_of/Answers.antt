@@ -1,0 +1,16 @@
+use borrow.Author.Rules.{rules}
+use Rattle.bufmodel.specs.Rows.{start_of, capacity_at}
+use Rattle.laws.proofs.Sum.{sum-none, sum-one-more, sum_done}
+use native.Mathlib.Omega.{arith}
+use mathlib.Core.Path.{◌≡◌, sym}
+use Prim.Native.Nat.{◌≤◌, ◌-◌, ◌*◌}
+use Rattle.bufmem.proofs.rows.start_of.Goals as goal
+
+pub loop-i-init : goal.loop-i-init
+unfolding start_of
+loop-i-init c = (search rules, sym (sum-none _), search rules)
+
+pub loop-i-preserved : goal.loop-i-preserved
+unfolding start_of
+loop-i-preserved c =
+    omega (arith, sum-one-more (capacity_at c.args.rows.now) c.loop-i.i, c.capacity_at.ensures)
