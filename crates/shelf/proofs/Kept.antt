@@ -153,5 +153,5 @@ runs_of steps m v (c ∷ cs) k f =
         size = ap (λ (l : Ledger). l.shelf.size) s.shared;
         agrees = s.agrees;
       },
-      subst (λ (l : Ledger). Runs (step m c).after l cs) (sym s.shared) (runs_of steps _ _ cs s.kept f.1),
+      subst (λ (l : Ledger). Runs (step m c).after l cs) (sym s.shared) (runs_of steps (step m c).after (view_of (ledger_next m v c (step m c))) cs s.kept f.1),
     )

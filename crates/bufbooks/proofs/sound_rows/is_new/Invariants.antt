@@ -1,0 +1,16 @@
+use borrow.Author.Rules.{rules}
+use Rattle.bufmodel.specs.Sizes.{new_file}
+use Rattle.bufmodel.specs.Rows.{file_at}
+use Rattle.buftag.specs.Name.{same_file}
+use Rattle.laws.proofs.Every.{all_none, all_more, all-fails, all-passes}
+use Rattle.laws.specs.Every.{all}
+use mathlib.Core.Bool.{true, not}
+use mathlib.Core.Path.{ap, ◌≡◌, sym, ◌∙◌}
+use Prim.Native.Nat.{◌≤◌, ◌-◌}
+use Rattle.bufbooks.proofs.sound_rows.is_new.Given as goal
+
+abbrev pub invariant-loop-i : goal.invariant-loop-i
+invariant-loop-i l = (l.i ≤ l.row) × (all l.i (λ s. not (same_file (file_at l.rows s) (file_at l.rows l.row))) ≡ true)
+
+abbrev pub decreases-loop-i : goal.decreases-loop-i
+decreases-loop-i l = l.row - l.i
