@@ -9,8 +9,7 @@ use bufmem::control::{ANSWER_WORDS, CONTROL_WORDS, read_control};
 use bufmodel::refusal::SIZES;
 
 // 0, or the number of the first place that refuses: 1 sizes and rows, 2 the books.
-#[unsafe(no_mangle)]
-pub extern "C" fn bufbooks_check(
+pub fn bufbooks_check(
     control: &[u64],
     states: &[u32],
     names: &[u32],

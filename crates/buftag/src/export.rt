@@ -9,8 +9,7 @@ use crate::names::{NAME_WORDS, put_name};
 use crate::number::BufferNumber;
 
 // The hash of a name.
-#[unsafe(no_mangle)]
-pub extern "C" fn buftag_hash(
+pub fn buftag_hash(
     tablespace: u32,
     database: u32,
     relation: u32,
@@ -23,8 +22,7 @@ pub extern "C" fn buftag_hash(
 }
 
 // Fills `out` with a name's bytes and answers 0; where `out` has another length, it stays as it is and the answer is 1.
-#[unsafe(no_mangle)]
-pub extern "C" fn buftag_bytes(
+pub fn buftag_bytes(
     tablespace: u32,
     database: u32,
     relation: u32,
@@ -44,8 +42,7 @@ pub extern "C" fn buftag_bytes(
 
 // Fills `words` with the five words of the name that has these bytes and answers 0; where `bytes` or `words` has another length,
 // `words` stays as it is and the answer is 1.
-#[unsafe(no_mangle)]
-pub extern "C" fn buftag_name(bytes: &[u8], words: &mut [u32]) -> u32
+pub fn buftag_name(bytes: &[u8], words: &mut [u32]) -> u32
     ensures value { result ≡ cond (both_fit bytes.now words.old) 0 1 }
     ensures words_after { words.new ≡ words_into words.old bytes.now }
 {
