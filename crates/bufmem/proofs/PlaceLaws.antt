@@ -32,8 +32,8 @@ unfolding placed place_of
 found-placed rows n = found_in rows n.block.0 (row_of rows n.file)
 
 -- an answer of which a match says that it is no `At`
-pub found-other : (p : Place) → OneOf (1 ∷ 2 ∷ []) (tag_of the_type p) → found_place p ≡ missing
+pub found-other : (p : Place) → ((g : ℕ) → p ≡ At g → ⊥) → found_place p ≡ missing
 unfolding found_place
-found-other (At g) h = absurd (⊎_elim (λ (e : 0 ≡ 1). omega arith) (λ (e : 0 ≡ 2). omega arith) h)
+found-other (At g) h = absurd (h g refl)
 found-other NoFile h = refl
 found-other NoBlock h = refl

@@ -12,7 +12,7 @@ use Rattle.buftag.specs.declared.link.Link.{Link}
 use Rattle.buftag.specs.declared.link.Link.TheVariants.{To, End}
 use Rattle.buftag.specs.declared.name.PageName.{PageName}
 use Rattle.buftag.specs.Link.{link_of}
-use Rattle.buftag.proofs.TagLaws.{no-tag}
+use Rattle.buftag.proofs.TagLaws.{NotTo}
 use Rattle.bufmodel.specs.Rows.{place_of}
 use Rattle.bufmodel.specs.Memory.{Memory, cap_of, with_counts}
 use Rattle.bufmodel.specs.Counts.{set_count}
@@ -26,12 +26,12 @@ use Rattle.bufmodel.proofs.LoadLaws.{load_is}
 use Rattle.bufpin.specs.Victim.{loaded_at}
 
 -- the free list is empty where its top leads to no buffer
-pub top-ends : (m : Memory) → Good m → (l : Link) → l ≡ link_of m.control.top → OneOf (1 ∷ 2 ∷ 3 ∷ []) (tag_of the_type l)
+pub top-ends : (m : Memory) → Good m → (l : Link) → l ≡ link_of m.control.top → NotTo l
     → link_of m.control.top ≡ End
 top-ends m k l e tag =
     ⊎_elim
     (λ h. h)
-    (λ h. absurd (no-tag (subst (λ (x : Link). OneOf (1 ∷ 2 ∷ 3 ∷ []) (tag_of the_type x)) (e ∙ h.1) tag)))
+    (λ h. absurd (tag h.0 (e ∙ h.1)))
     (top-none m k)
 
 module _ (m : Memory) (h : ℕ) (n : PageName) where

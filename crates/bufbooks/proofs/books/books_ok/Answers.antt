@@ -57,7 +57,7 @@ cap-3 c = sym c.cap_ok.ensures ∙ c.if-not-cap_ok.false
 
 pub lists_ok-requires : goal.lists_ok-requires
 lists_ok-requires c =
-    let fit = c.pre in
+    let fit = c.requires in
     (fit.few, fit.narrow, fit.free, fit.chain, cap-few c.args.control.cap (cap-3 c))
 
 -- the lent memory
@@ -73,11 +73,11 @@ cap-4 c = sym c.cap_ok.ensures ∙ c.if-not-cap_ok.false
 
 pub returns-then-not-lists_ok : goal.returns-then-not-lists_ok
 returns-then-not-lists_ok c =
-    books-lists (lent-4 c) (cap-4 c) c.if-control-states.left c.if-control.false (sym c.lists_ok.ensures ∙ c.if-not-lists_ok.true)
+    books-lists (lent-4 c) (cap-4 c) c.if-control-states.false c.if-control.false (sym c.lists_ok.ensures ∙ c.if-not-lists_ok.true)
 
 pub guess_rows-requires : goal.guess_rows-requires
 guess_rows-requires c =
-    ((rows-say c.args.rows.now).holds c.pre.rows).few
+    ((rows-say c.args.rows.now).holds c.requires.rows).few
 
 -- the lent memory
 abbrev lent-5 : goal.After-buffers_ok → Memory
@@ -93,5 +93,5 @@ cap-5 c = sym c.cap_ok.ensures ∙ c.if-not-cap_ok.false
 pub returns : goal.returns
 returns c =
     c.buffers_ok.ensures
-    ∙ books-buffers (lent-5 c) (cap-5 c) c.if-control-states.left c.if-control.false
+    ∙ books-buffers (lent-5 c) (cap-5 c) c.if-control-states.false c.if-control.false
     (sym c.lists_ok.ensures ∙ c.if-not-lists_ok.false)

@@ -16,6 +16,7 @@ use mathlib.Core.Bool.{true}
 use mathlib.Core.List.{[]}
 use mathlib.Core.Logic.{⊎_elim}
 use mathlib.Core.Path.{◌≡◌, ap, sym, ◌∙◌}
+use Rattle.bufbooks.proofs.buffers.buffers_ok.Goals.{else-is_empty, then-is_empty}
 use Rattle.bufbooks.proofs.buffers.buffers_ok.Goals as goal
 
 pub loop-i-init : goal.loop-i-init
@@ -117,16 +118,12 @@ loop-i-preserved c =
     let m = lent-4 c in
     let i = place-4 c in
     let inv = c.loop-i.invariant in
-    ⊎_elim
-    (λ w.
-    let named = sym (w.2.ensures ∙ ap (same_name (name_at m.names i)) w.1.ensures) in (
+    elim c.if-is_empty.branch [ then-is_empty w ↦ let named = sym (w.2.ensures ∙ ap (same_name (name_at m.names i)) w.1.ensures) in (
       omega (arith, inside-4 c),
-      all_more (buffer_test m) i inv.1 (buffer-empty m i (blank-4 c ∙ w.0.taken) (named ∙ w.3.left)),
-    ))
-    (λ w. (
+      all_more (buffer_test m) i inv.1 (buffer-empty m i (blank-4 c ∙ w.if-is_empty.true) (named ∙ w.3.left)),
+    ) | else-is_empty w ↦ (
       omega (arith, inside-4 c),
       all_more (buffer_test m) i inv.1
-          (buffer_held m i (blank-4 c ∙ w.0.left) (sym w.1.ensures ∙ w.2.left)
+          (buffer_held m i (blank-4 c ∙ w.if-is_empty.false) (sym w.1.ensures ∙ w.2.left)
           (sym w.3.ensures ∙ w.4.left)),
-    ))
-    c.if-is_empty.branch
+    ) ]

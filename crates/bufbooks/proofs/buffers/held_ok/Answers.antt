@@ -52,8 +52,8 @@ here : (c : goal.In-At) → its-row-2 (c) ≡ found (found-row c)
 unfolding found_row
 here c = near-2 c ∙ ap found_row c.in-At.is
 
-within : (c : goal.In-At) → found-row c < files (c).args.rows.now
-within c = (row-found (c).args.rows.now _ (here c)).0
+within : (c : goal.In-At) → found-row c < files c.args.rows.now
+within c = (row-found c.args.rows.now _ (here c)).0
 
 pub has_block-requires : goal.has_block-requires
 unfolding files
@@ -81,12 +81,12 @@ abbrev block_of : goal.Then-not-has_block → ℕ
 block_of s = (name_at s.args.names.now s.args.buffer.0).block.0
 
 abbrev blocks-of : goal.Then-not-has_block → ℕ
-blocks-of r = blocks_at (r).args.rows.now (found-row-2 r)
+blocks-of r = blocks_at r.args.rows.now (found-row-2 r)
 
 has : (c : goal.Then-not-has_block)
     → ltb (block_of (c)) (blocks-of c) ≡ c.has_block.result
 has c =
-    sym (c.has_block.ensures ∙ ap (λ n. ltb n.block.0 (blocks-of c)) (c).stored.ensures)
+    sym (c.has_block.ensures ∙ ap (λ n. ltb n.block.0 (blocks-of c)) c.stored-name.ensures)
 
 pub returns-then-not-has_block : goal.returns-then-not-has_block
 returns-then-not-has_block c =
@@ -109,11 +109,11 @@ here-3 : (c : goal.Else-not-has_block) → its-row-4 (c) ≡ found (found-row-3 
 unfolding found_row
 here-3 c = near-4 c ∙ ap found_row c.in-At.is
 
-within-2 : (c : goal.Else-not-has_block) → found-row-3 c < files (c).args.rows.now
-within-2 c = (row-found (c).args.rows.now _ (here-3 c)).0
+within-2 : (c : goal.Else-not-has_block) → found-row-3 c < files c.args.rows.now
+within-2 c = (row-found c.args.rows.now _ (here-3 c)).0
 
 few : (c : goal.Else-not-has_block) → found-row-3 c < max_files
-few c = omega (arith, within-2 c, ((rows-say c.args.rows.now).holds c.pre.6).few)
+few c = omega (arith, within-2 c, ((rows-say c.args.rows.now).holds c.requires.6).few)
 
 pub offset_bounds-hashes-row : goal.offset_bounds-hashes-row
 offset_bounds-hashes-row c = omega (arith, few c)
@@ -135,11 +135,11 @@ here-4 : (c : goal.After-way_told-2-1) → its-row-5 (c) ≡ found (found-row-4 
 unfolding found_row
 here-4 c = near-5 c ∙ ap found_row c.in-At.is
 
-within-3 : (c : goal.After-way_told-2-1) → found-row-4 c < files (c).args.rows.now
-within-3 c = (row-found (c).args.rows.now _ (here-4 c)).0
+within-3 : (c : goal.After-way_told-2-1) → found-row-4 c < files c.args.rows.now
+within-3 c = (row-found c.args.rows.now _ (here-4 c)).0
 
 few-2 : (c : goal.After-way_told-2-1) → found-row-4 c < max_files
-few-2 c = omega (arith, within-3 c, ((rows-say c.args.rows.now).holds c.pre.6).few)
+few-2 c = omega (arith, within-3 c, ((rows-say c.args.rows.now).holds c.requires.6).few)
 
 pub bounds-hashes-row : goal.bounds-hashes-row
 bounds-hashes-row c = few-2 c
@@ -153,12 +153,12 @@ abbrev found-row-5 : goal.After-hash_short-arg-1 → ℕ
 found-row-5 c = c.in-At.row
 
 abbrev blocks-of-2 : goal.After-hash_short-arg-1 → ℕ
-blocks-of-2 r = blocks_at (r).args.rows.now (found-row-5 r)
+blocks-of-2 r = blocks_at r.args.rows.now (found-row-5 r)
 
 has-2 : (c : goal.After-hash_short-arg-1)
     → ltb (block_of-2 (c)) (blocks-of-2 c) ≡ c.has_block.result
 has-2 c =
-    sym (c.has_block.ensures ∙ ap (λ n. ltb n.block.0 (blocks-of-2 c)) (c).stored.ensures)
+    sym (c.has_block.ensures ∙ ap (λ n. ltb n.block.0 (blocks-of-2 c)) c.stored-name.ensures)
 
 below : (c : goal.After-hash_short-arg-1) → block_of-2 (c) < blocks-of-2 c
 below c = ltb-true _ _ (has-2 c ∙ c.if-not-has_block.false)
@@ -176,16 +176,16 @@ here-5 : (c : goal.After-hash_short-arg-1) → its-row-6 (c) ≡ found (found-ro
 unfolding found_row
 here-5 c = near-6 c ∙ ap found_row c.in-At.is
 
-within-4 : (c : goal.After-hash_short-arg-1) → found-row-5 c < files (c).args.rows.now
-within-4 c = (row-found (c).args.rows.now _ (here-5 c)).0
+within-4 : (c : goal.After-hash_short-arg-1) → found-row-5 c < files c.args.rows.now
+within-4 c = (row-found c.args.rows.now _ (here-5 c)).0
 
 pub hash_short-requires : goal.hash_short-requires
 hash_short-requires c =
     omega (
       arith,
-      ap (λ (n : PageName). n.block.0) (c).stored.ensures,
+      ap (λ (n : PageName). n.block.0) c.stored-name.ensures,
       below c,
-      blocks-low c.args.rows.now ((rows-say c.args.rows.now).holds c.pre.6) (found-row-5 c) (within-4 c),
+      blocks-low c.args.rows.now ((rows-say c.args.rows.now).holds c.requires.6) (found-row-5 c) (within-4 c),
     )
 
 -- the row of the buffer's file is the one looked for
@@ -210,27 +210,27 @@ abbrev block_of-3 : goal.After-is_first → ℕ
 block_of-3 s = (name_at s.args.names.now s.args.buffer.0).block.0
 
 abbrev blocks-of-3 : goal.After-is_first → ℕ
-blocks-of-3 r = blocks_at (r).args.rows.now (found-row-6 r)
+blocks-of-3 r = blocks_at r.args.rows.now (found-row-6 r)
 
 has-3 : (c : goal.After-is_first)
     → ltb (block_of-3 (c)) (blocks-of-3 c) ≡ c.has_block.result
 has-3 c =
-    sym (c.has_block.ensures ∙ ap (λ n. ltb n.block.0 (blocks-of-3 c)) (c).stored.ensures)
+    sym (c.has_block.ensures ∙ ap (λ n. ltb n.block.0 (blocks-of-3 c)) c.stored-name.ensures)
 
 below-2 : (c : goal.After-is_first) → block_of-3 (c) < blocks-of-3 c
 below-2 c = ltb-true _ _ (has-3 c ∙ c.if-not-has_block.false)
 
 -- the chain walked is that of the name's bucket
 finds : (c : goal.After-is_first)
-    → let a = (entry (c)).args in
+    → let a = c.args in
     finds_itself a.names.now a.heads.now a.chain.now a.buffer.0 ≡ c.is_first.result
 unfolding finds_itself
 finds c =
     let a = c.args in
     let n = name_at a.names.now a.buffer.0 in
     let start = get_or a.hashes.now (found-row-6 c) 0 in
-    let hash = c.hash_short.ensures ∙ ap (λ m. fnv (word_bytes m.block.0) start) (c).stored.ensures in
-    let bucket = bucket-continued a.rows.now a.hashes.now c.pre.7 n (here-6 c) hash (length a.heads.now) in
+    let hash = c.hash_short.ensures ∙ ap (λ m. fnv (word_bytes m.block.0) start) c.stored-name.ensures in
+    let bucket = bucket-continued a.rows.now a.hashes.now c.requires.7 n (here-6 c) hash (length a.heads.now) in
     let back = element-back a.heads.now c.bucket_by-b.result c.is_first-arg-1.given in
     let first = ap link_of back ∙ ap (link_at a.heads.now) (c.bucket_by-b.ensures ∙ bucket) in
     sym (c.is_first.ensures ∙ ap (λ l. is_first a.chain.now a.names.now l a.buffer.0) first)

@@ -11,6 +11,7 @@ use mathlib.Core.List.{List}
 use Rattle.laws.specs.Sum.{count}
 use Rattle.laws.proofs.Sum.{count_none, count-hit, count-miss, count-done, count-le}
 use Rattle.bufmodel.specs.Counts.{max_holders, count_at, has_pin, holders_of}
+use Rattle.bufbooks.proofs.counts.holders_of.Goals.{else-counts-at-ne0, then-counts-at-ne0}
 use Rattle.bufbooks.proofs.counts.holders_of.Invariants.{p}
 use Rattle.bufbooks.proofs.counts.holders_of.Goals as goal
 
@@ -34,8 +35,7 @@ loop-h-preserved c =
     let n = c.loop-h.invariant.2 in (
       c.loop-h.invariant.0,
       search rules,
-      ⊎_elim (λ w. omega (arith, n, count-hit (has-2 c) c.loop-h.h (ap not (ne_eqb _ 0 w.0.taken))))
-          (λ w. omega (arith, n, count-miss (has-2 c) c.loop-h.h (ap not (eq-eqb _ 0 w.0.left)))) c.if-counts-at-ne0.branch,
+      elim c.if-counts-at-ne0.branch [ then-counts-at-ne0 w ↦ omega (arith, n, count-hit (has-2 c) c.loop-h.h (ap not (ne_eqb _ 0 w.if-counts-at-ne0.true))) | else-counts-at-ne0 w ↦ omega (arith, n, count-miss (has-2 c) c.loop-h.h (ap not (eq-eqb _ 0 w.if-counts-at-ne0.false))) ],
     )
 
 pub returns : goal.returns

@@ -17,6 +17,7 @@ use mathlib.Core.Logic.{⊎_elim}
 use mathlib.Core.Path.{◌≡◌, ap, sym, ◌∙◌}
 use native.Mathlib.Omega.{arith}
 use Prim.Native.Nat.{ℕ, ◌≤◌, ◌<◌, ◌-◌}
+use Rattle.bufbooks.proofs.hashes.hash_rows.Goals.{else-file-tablespace, then-file-tablespace}
 use Rattle.bufbooks.proofs.hashes.hash_rows.Invariants.{begun}
 use Rattle.bufbooks.proofs.hashes.hash_rows.Goals as goal
 
@@ -45,15 +46,15 @@ joined : (c : goal.After-hash_within)
 joined c =
     let l = c.loop-row in
     let file = c.file_at-file.result in
-    ⊎_elim
-    (λ w.
-    let new = w.4 ∙ w.1.ensures in
-    (new ∙ sym (same w.2 w.3), new))
-    (λ w.
-    let kept = or-neither (not (eqb file.tablespace l.tablespace)) _ w.0.left in
-    let old = w.3 ∙ l.invariant.2 in
-    (old ∙ sym (same w.1 w.2), old ∙ sym (same (eqb-true _ _ (kept.0)) (eqb-true _ _ (kept.1)))))
-    c.if-file-tablespace.branch
+    elim c.if-file-tablespace.branch [
+      then-file-tablespace w ↦
+        let new = w.start-is ∙ w.hash_database-start-then-file-tablespace.ensures in
+        (new ∙ sym (same w.tablespace-is w.database-is), new)
+    | else-file-tablespace w ↦
+        let kept = or-neither (not (eqb file.tablespace l.tablespace)) _ w.if-file-tablespace.false in
+        let old = w.start-is ∙ l.invariant.2 in
+        (old ∙ sym (same w.tablespace-is w.database-is), old ∙ sym (same (eqb-true _ _ kept.0) (eqb-true _ _ kept.1)))
+    ]
 
 pub loop-row-preserved : goal.loop-row-preserved
 loop-row-preserved c =

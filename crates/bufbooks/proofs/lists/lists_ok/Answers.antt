@@ -25,7 +25,7 @@ counted c = omega (arith, c.leading.ensures, c.leading-2.ensures)
 few : (c : goal.After-leading-2)
     → c.leading.result + c.leading-2.result ≤ max_buckets + length c.args.states.now
 few c =
-    omega (arith, counted c, leading_le c.args.heads.now, leading_le c.args.chain.now, c.pre.1, c.pre.3)
+    omega (arith, counted c, leading_le c.args.heads.now, leading_le c.args.chain.now, c.requires.1, c.requires.3)
 
 pub overflow_add-leading : goal.overflow_add-leading
 overflow_add-leading c = record { fits = omega (arith, few c, c.requires.0) }
@@ -38,7 +38,7 @@ counted-2 c = omega (arith, c.leading.ensures, c.leading-2.ensures)
 few-2 : (c : goal.After-struct_known-3-1)
     → c.leading.result + c.leading-2.result ≤ max_buckets + length c.args.states.now
 few-2 c =
-    omega (arith, counted-2 c, leading_le c.args.heads.now, leading_le c.args.chain.now, c.pre.1, c.pre.3)
+    omega (arith, counted-2 c, leading_le c.args.heads.now, leading_le c.args.chain.now, c.requires.1, c.requires.3)
 
 pub overflow_add-leading-2 : goal.overflow_add-leading-2
 overflow_add-leading-2 c =

@@ -57,14 +57,14 @@ pub returns-then-not-rows_ok : goal.returns-then-not-rows_ok
 returns-then-not-rows_ok c =
     not-sized _ (λ s. never ((rows-say _).shown s.rows) (sym c.rows_ok.ensures ∙ c.if-not-rows_ok.true))
 
-right-rows : (c : goal.Else-not-rows_ok) → sound_rows (c).args.rows.now ≡ true
+right-rows : (c : goal.Else-not-rows_ok) → sound_rows c.args.rows.now ≡ true
 right-rows c = sym c.rows_ok.ensures ∙ c.if-not-rows_ok.false
 
 pub start_of-blocks-requires : goal.start_of-blocks-requires
 unfolding files
 start_of-blocks-requires c = (search rules, ((rows-say _).holds (right-rows c)).few)
 
-right-rows-2 : (c : goal.After-start_of-blocks) → sound_rows (c).args.rows.now ≡ true
+right-rows-2 : (c : goal.After-start_of-blocks) → sound_rows c.args.rows.now ≡ true
 right-rows-2 c = sym c.rows_ok.ensures ∙ c.if-not-rows_ok.false
 
 right-size-2 : (c : goal.After-start_of-blocks) → permitted c.args.control.size ≡ true
@@ -77,7 +77,7 @@ pub overflow_mul-result : goal.overflow_mul-result
 unfolding files store_blocks
 overflow_mul-result c =
     let room = ((rows-say _).holds (right-rows-2 c)).room in
-    record { fits = below 32 (omega (arith, c.start_of_lem.ensures, room)) (small-2 c) }
+    record { fits = below 32 (omega (arith, c.start_of-blocks.ensures, room)) (small-2 c) }
 
 right-buckets-2 : (c : goal.After-start_of-blocks) → buckets_test (length c.args.states.now) (length c.args.heads.now) ≡ true
 right-buckets-2 c = sym c.buckets_ok.ensures ∙ c.if-not-buckets_ok.false
@@ -86,6 +86,6 @@ pub returns : goal.returns
 unfolding files store_blocks
 returns c =
     let a = c.args in
-    ap (λ b. eqb (length a.store.now) (b * a.control.size)) c.start_of_lem.ensures
+    ap (λ b. eqb (length a.store.now) (b * a.control.size)) c.start_of-blocks.ensures
     ∙ sized-store _ (right-size-2 c) (right-buckets-2 c) c.if-names-n.false
     c.if-pool-n.false c.if-free-n.false c.if-chain-n.false c.if-counts-n.false (right-rows-2 c)

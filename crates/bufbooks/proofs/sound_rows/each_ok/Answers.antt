@@ -27,7 +27,7 @@ row_ok-requires c =
     let marks = c.loop-row.marks in (
       search rules,
       λ f. unmarked-new rows marks c.loop-row.row c.loop-row.invariant.2
-          (sym (ap (λ (s : ℕ). get_or marks s 0) (slot c)) ∙ eqb-true (get_or marks c.slot_of-slot.result 0) 0 (f)),
+          (sym (ap (λ (s : ℕ). get_or marks s 0) (slot c)) ∙ eqb-true (get_or marks c.slot_of-slot.result 0) 0 (not-false _ f)),
     )
 
 pub returns-then-not-row_ok : goal.returns-then-not-row_ok

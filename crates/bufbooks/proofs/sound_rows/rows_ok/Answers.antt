@@ -15,10 +15,10 @@ returns-then-n-gt-MAX_FILES c = rows-many _ c.if-rows-ne0.false c.if-n-gt-MAX_FI
 pub returns-then-start_of-gt-MAX_BLOCKS : goal.returns-then-start_of-gt-MAX_BLOCKS
 unfolding files
 returns-then-start_of-gt-MAX_BLOCKS c =
-    rows-wide _ c.if-rows-ne0.false c.if-n-gt-MAX_FILES.false (omega (arith, c.start_of_lem.ensures, c.if-start_of-gt-MAX_BLOCKS.true))
+    rows-wide _ c.if-rows-ne0.false c.if-n-gt-MAX_FILES.false (omega (arith, c.start_of.ensures, c.if-start_of-gt-MAX_BLOCKS.true))
 
 pub returns : goal.returns
 unfolding files
 returns c =
     c.each_ok.ensures
-    ∙ rows-each _ c.if-rows-ne0.false c.if-n-gt-MAX_FILES.false (omega (arith, c.start_of_lem.ensures, c.if-start_of-gt-MAX_BLOCKS.false))
+    ∙ rows-each _ c.if-rows-ne0.false c.if-n-gt-MAX_FILES.false (omega (arith, c.start_of.ensures, c.if-start_of-gt-MAX_BLOCKS.false))

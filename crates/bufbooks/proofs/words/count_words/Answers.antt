@@ -9,6 +9,7 @@ use Rattle.laws.specs.Sum.{count}
 use Rattle.laws.proofs.Sum.{count_none, count-hit, count-miss, count-le}
 use Rattle.bufbooks.specs.Words.{fine_at}
 use Rattle.bufbooks.proofs.WordsLaws.{idle, idle-zero, idle-other, fine-read, words-done}
+use Rattle.bufbooks.proofs.words.count_words.Goals.{else-is_fine, else-w-eq0, then-is_fine, then-w-eq0}
 use Rattle.bufbooks.proofs.words.count_words.Goals as goal
 
 pub loop-i-init : goal.loop-i-init
@@ -43,12 +44,8 @@ loop-i-preserved c =
     c.is_fine-arg-1.given c.is_fine-arg-in-loop-i-1.given in
     let h = c.is_fine.ensures ∙ links in (
       search rules,
-      ⊎_elim (λ w. omega (arith, count-hit (fits-2 c) i (sym h ∙ w.0.taken)))
-          (λ w. omega (arith, count-miss (fits-2 c) i (sym h ∙ w.0.left)))
-          c.if-is_fine.branch,
-      ⊎_elim (λ w. omega (arith, count-hit (idles-2 c) i (idle-zero c.args.states.now i w.0.taken)))
-          (λ w. omega (arith, count-miss (idles-2 c) i (idle-other c.args.states.now i w.0.left)))
-          c.if-w-eq0.branch,
+      elim c.if-is_fine.branch [ then-is_fine w ↦ omega (arith, count-hit (fits-2 c) i (sym h ∙ w.if-is_fine.true)) | else-is_fine w ↦ omega (arith, count-miss (fits-2 c) i (sym h ∙ w.if-is_fine.false)) ],
+      elim c.if-w-eq0.branch [ then-w-eq0 w ↦ omega (arith, count-hit (idles-2 c) i (idle-zero c.args.states.now i w.if-w-eq0.true)) | else-w-eq0 w ↦ omega (arith, count-miss (idles-2 c) i (idle-other c.args.states.now i w.if-w-eq0.false)) ],
     )
 
 pub returns : goal.returns

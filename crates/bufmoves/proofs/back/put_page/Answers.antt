@@ -24,7 +24,7 @@ pub returns-in_default : goal.returns-in_default
 unfolding put_at
 returns-in_default c =
     let a = c.args in
-    ap (put_at a.control.size _ a.store.now) (sym (found-other _ c.in_default.not-To) ∙ place c)
+    ap (put_at a.control.size _ a.store.now) (sym (found-other _ c.in_default.not-At) ∙ place c)
 
 -- what the search for the page's place answered
 place-2 : (c : goal.After-page_to_store-arg-2-1)
