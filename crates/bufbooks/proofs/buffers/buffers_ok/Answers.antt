@@ -16,8 +16,8 @@ use mathlib.Core.Bool.{true}
 use mathlib.Core.List.{[]}
 use mathlib.Core.Logic.{⊎_elim}
 use mathlib.Core.Path.{◌≡◌, ap, sym, ◌∙◌}
-use Rattle.bufbooks.proofs.buffers.buffers_ok.Goals.{else-is_empty, then-is_empty}
 use Rattle.bufbooks.proofs.buffers.buffers_ok.Goals as goal
+use Rattle.bufbooks.proofs.buffers.buffers_ok.Goals.{then-is_empty+else-not-holds, else-is_empty+else-not-is_low+else-not-held_ok}
 
 pub loop-i-init : goal.loop-i-init
 loop-i-init c = (search rules, all_none _)
@@ -118,12 +118,16 @@ loop-i-preserved c =
     let m = lent-4 c in
     let i = place-4 c in
     let inv = c.loop-i.invariant in
-    elim c.if-is_empty.branch [ then-is_empty w ↦ let named = sym (w.2.ensures ∙ ap (same_name (name_at m.names i)) w.1.ensures) in (
-      omega (arith, inside-4 c),
-      all_more (buffer_test m) i inv.1 (buffer-empty m i (blank-4 c ∙ w.if-is_empty.true) (named ∙ w.3.left)),
-    ) | else-is_empty w ↦ (
-      omega (arith, inside-4 c),
-      all_more (buffer_test m) i inv.1
-          (buffer_held m i (blank-4 c ∙ w.if-is_empty.false) (sym w.1.ensures ∙ w.2.left)
-          (sym w.3.ensures ∙ w.4.left)),
-    ) ]
+    elim c.if-is_empty.branch [
+      then-is_empty+else-not-holds w ↦
+        let named = sym (w.holds.ensures ∙ ap (same_name (name_at m.names i)) w.no_name.ensures) in (
+          omega (arith, inside-4 c),
+          all_more (buffer_test m) i inv.1 (buffer-empty m i (blank-4 c ∙ w.if-is_empty.true) (named ∙ w.if-not-holds.false)),
+        )
+    | else-is_empty+else-not-is_low+else-not-held_ok w ↦ (
+        omega (arith, inside-4 c),
+        all_more (buffer_test m) i inv.1
+            (buffer_held m i (blank-4 c ∙ w.if-is_empty.false) (sym w.is_low.ensures ∙ w.if-not-is_low.false)
+            (sym w.held_ok.ensures ∙ w.if-not-held_ok.false)),
+      )
+    ]

@@ -53,7 +53,7 @@ joined c =
     | else-file-tablespace w ↦
         let kept = or-neither (not (eqb file.tablespace l.tablespace)) _ w.if-file-tablespace.false in
         let old = w.start-is ∙ l.invariant.2 in
-        (old ∙ sym (same w.tablespace-is w.database-is), old ∙ sym (same (eqb-true _ _ kept.0) (eqb-true _ _ kept.1)))
+        (old ∙ sym (same w.tablespace-is w.database-is), old ∙ sym (same (eqb-true _ _ (not-false _ kept.0)) (eqb-true _ _ (not-false _ kept.1))))
     ]
 
 pub loop-row-preserved : goal.loop-row-preserved

@@ -12,6 +12,7 @@ use Rattle.bufmodel.specs.Rows.{files, store_blocks}
 use Rattle.bufmodel.specs.Sizes.{permitted, sound_rows}
 use Rattle.bufmodel.proofs.SizesLaws.{rows-say, permitted-fits, permitted-sized}
 use Rattle.bufbooks.proofs.SizesLaws.{buckets_test, buckets-say, buckets-sized, not-sized, sized-store}
+use Rattle.bufmodel.specs.Memory.{memory, with_counts}
 use Rattle.bufbooks.proofs.sizes.sizes_ok.Goals as goal
 
 pub returns-then-not-size_ok : goal.returns-then-not-size_ok
@@ -42,7 +43,12 @@ pub overflow_mul-n-2 : goal.overflow_mul-n-2
 overflow_mul-n-2 c = record { fits = below 32 (few c) (small c) }
 
 pub returns-then-pool-n : goal.returns-then-pool-n
-returns-then-pool-n c = not-sized _ (λ s. c.if-pool-n.true s.pool)
+returns-then-pool-n c =
+    let a = c.args in
+    not-sized
+    (with_counts a.counts.now
+    (memory a.control a.states.now a.names.now a.pool.now a.free.now a.heads.now a.chain.now a.rows.now a.store.now))
+    (λ s. c.if-pool-n.true s.pool)
 
 pub returns-then-free-n : goal.returns-then-free-n
 returns-then-free-n c = not-sized _ (λ s. c.if-free-n.true s.free)
