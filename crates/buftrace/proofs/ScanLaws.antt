@@ -27,7 +27,7 @@ pub data Tells : Given → Scan → Type 0 where
 pub feds-then : (s : Scan) (a b : List ℕ) → feds s (a ++ b) ≡ feds (feds s a) b
 unfolding feds
 feds-then s [] b = refl
-feds-then s (x ∷ a) b = feds-then _ a b
+feds-then s (x ∷ a) b = feds-then (fed s x) a b
 
 pub pieces_are : (s : Scan) (pieces : List (List ℕ)) → fed_pieces s pieces ≡ feds s (together pieces)
 unfolding feds fed_pieces together

@@ -1,0 +1,16 @@
+use borrow.Author.Rules.{rules}
+use lib.ListN.{length}
+use mathlib.Core.Path.{◌≡◌, sym, ◌∙◌, ap, subst}
+use Prim.Native.Nat.{◌≤◌, ◌-◌}
+use Rattle.laws.proofs.Tests.{at-end}
+use Rattle.bufmodel.specs.Memory.{Memory}
+use Rattle.bufmodel.specs.Calls.{give_at, give_up_to}
+use Rattle.bufcalls.specs.Give.{pins_part}
+use Rattle.bufcalls.proofs.GiveLaws.{Way, give-none, give-more, way-up-to, next-asked}
+use Rattle.bufcalls.proofs.give.give_all.Given as goal
+
+abbrev pub invariant-loop-i : goal.invariant-loop-i
+invariant-loop-i l = (l.i ≤ length l.initial.states) × (pins_part l.states l.counts ≡ give_up_to l.holder.0 l.i (pins_part l.initial.states l.initial.counts))
+
+abbrev pub decreases-loop-i : goal.decreases-loop-i
+decreases-loop-i l = length l.initial.states - l.i

@@ -1,0 +1,165 @@
+use borrow.Author.Rules.{rules}
+use native.Mathlib.Omega.{arith}
+use mathlib.Core.Path.{◌≡◌, sym, ◌∙◌, ap}
+use Rattle.buftag.specs.declared.link.Link.TheVariants.{To, End}
+use Rattle.buftag.specs.Link.{link_of}
+use Rattle.buftag.proofs.SignedLaws.{bits_back}
+use Rattle.bufmodel.specs.Memory.{Memory, memory, with_counts}
+use Rattle.bufmodel.specs.Outcome.{Outcome}
+use Rattle.bufmodel.specs.Answer.{pinned_of}
+use Rattle.bufmodel.proofs.GoodLaws.{Good, good_of}
+use Rattle.bufmodel.proofs.FreeListLaws.{top-empty}
+use Rattle.bufmoves.proofs.WholeLaws.{load-whole, good-lodged}
+use Rattle.bufpin.proofs.NewLaws.{top-ends, new-swept, new-answer, new-after}
+use Rattle.bufpin.proofs.pin.pin_new.Goals as goal
+
+-- the memory at the start
+abbrev whole : goal.After-pin_swept-arg-in_default-7-1 → Memory
+whole c =
+    with_counts c.args.counts.now
+    (memory c.args.control c.args.states.now c.args.names.now c.args.pool.now c.args.free.now
+    c.args.heads.now c.args.chain.now c.args.rows.now c.args.store.now)
+
+good : (c : goal.After-pin_swept-arg-in_default-7-1) → Good (whole c)
+good c = good_of (whole c) c.requires.0 c.requires.1
+
+-- the top of the free list, as it was read
+top : (c : goal.After-pin_swept-arg-in_default-7-1)
+    → c.read_link.result ≡ link_of c.args.control.top
+top c =
+    c.read_link.ensures ∙ ap link_of (bits_back c.args.control.top (record { sfits = c.struct_told-1.given.1.1.0.1 }))
+
+none : (c : goal.After-pin_swept-arg-in_default-7-1)
+    → link_of c.args.control.top ≡ End
+none c =
+    top-ends (whole c) (good c) _ (top c) c.in_default.not-To
+
+pub pin_swept-requires : goal.pin_swept-requires
+pin_swept-requires c =
+    let at-match = c in
+    let s = at-match.before.before.before.before.before.before.before.before.before in
+    (s.requires.0, s.requires.1, s.requires.2, none at-match, s.requires.3)
+
+-- the memory at the start
+abbrev whole-2 : goal.After-slice_known-in_default-5-1 → Memory
+whole-2 c =
+    with_counts c.args.counts.now
+    (memory c.args.control c.args.states.now c.args.names.now c.args.pool.now c.args.free.now
+    c.args.heads.now c.args.chain.now c.args.rows.now c.args.store.now)
+
+good-2 : (c : goal.After-slice_known-in_default-5-1) → Good (whole-2 c)
+good-2 c = good_of (whole-2 c) c.requires.0 c.requires.1
+
+-- the top of the free list, as it was read
+top-2 : (c : goal.After-slice_known-in_default-5-1)
+    → c.read_link.result ≡ link_of c.args.control.top
+top-2 c =
+    c.read_link.ensures ∙ ap link_of (bits_back c.args.control.top (record { sfits = c.struct_told-1.given.1.1.0.1 }))
+
+none-2 : (c : goal.After-slice_known-in_default-5-1)
+    → link_of c.args.control.top ≡ End
+none-2 c =
+    top-ends (whole-2 c) (good-2 c) _ (top-2 c) c.in_default.not-To
+
+pub returns-in_default : goal.returns-in_default
+returns-in_default c =
+    let at-pin-swept = c in
+    let at-match = at-pin-swept.before.before.before.before.before.before.before.before.before in
+    let s = at-match.before.before.before.before.before.before.before.before.before in
+    let e = new-swept (whole-2 s) s.args.holder.0 s.args.name (none-2 at-match) in record {
+      answer_value = at-pin-swept.pin-swept.ensures.0 ∙ ap pinned_of (sym e);
+      store_after = at-pin-swept.pin-swept.ensures.1 ∙ ap (λ (o : Outcome). o.after) (sym e);
+    }
+
+-- the memory at the start
+abbrev whole-3 : goal.After-load_page-arg-6-1 → Memory
+whole-3 c =
+    with_counts c.args.counts.now
+    (memory c.args.control c.args.states.now c.args.names.now c.args.pool.now c.args.free.now
+    c.args.heads.now c.args.chain.now c.args.rows.now c.args.store.now)
+
+good-3 : (c : goal.After-load_page-arg-6-1) → Good (whole-3 c)
+good-3 c = good_of (whole-3 c) c.requires.0 c.requires.1
+
+-- the top of the free list, as it was read
+top-3 : (c : goal.After-load_page-arg-6-1)
+    → c.read_link.result ≡ link_of c.args.control.top
+top-3 c =
+    c.read_link.ensures ∙ ap link_of (bits_back c.args.control.top (record { sfits = c.struct_told-1.given.1.1.0.1 }))
+
+to : (c : goal.After-load_page-arg-6-1)
+    → link_of c.args.control.top ≡ To c.in-To.i
+to c =
+    let at-read-link = c in
+    sym (top-3 at-read-link) ∙ c.in-To.is
+
+pub load_page-after-requires : goal.load_page-after-requires
+load_page-after-requires c =
+    let at-known-told = c in
+    let at_i = at-known-told.before in
+    let s = at_i.before.before.before.before.before.before.before.before.before.before in
+    let i = at_i.i.given.0.0 in
+    good-lodged (whole-3 s) (good-3 s) i (top-empty (whole-3 s) (good-3 s) i (to at-known-told)).0 s.args.name s.args.g s.requires.2
+
+-- the memory at the start
+abbrev whole-4 : goal.After-put_count-arg-1 → Memory
+whole-4 c =
+    with_counts c.args.counts.now
+    (memory c.args.control c.args.states.now c.args.names.now c.args.pool.now c.args.free.now
+    c.args.heads.now c.args.chain.now c.args.rows.now c.args.store.now)
+
+good-4 : (c : goal.After-put_count-arg-1) → Good (whole-4 c)
+good-4 c = good_of (whole-4 c) c.requires.0 c.requires.1
+
+-- the top of the free list, as it was read
+top-4 : (c : goal.After-put_count-arg-1)
+    → c.read_link.result ≡ link_of c.args.control.top
+top-4 c =
+    c.read_link.ensures ∙ ap link_of (bits_back c.args.control.top (record { sfits = c.struct_told-1.given.1.1.0.1 }))
+
+to-2 : (c : goal.After-put_count-arg-1)
+    → link_of c.args.control.top ≡ To c.in-To.i
+to-2 c =
+    let at-read-link = c in
+    sym (top-4 at-read-link) ∙ c.in-To.is
+
+pub put_count-requires : goal.put_count-requires
+put_count-requires c =
+    let at-known-told = c in
+    let at_i = at-known-told.before in
+    let s = at_i.before.before.before.before.before.before.before.before.before.before in
+    let i = at_i.i.given.0.0 in
+    omega (arith, (good-4 s).sizes.counts, (top-empty (whole-4 s) (good-4 s) i (to-2 at-known-told)).0, s.pre.3)
+
+-- the top of the free list, as it was read
+top-5 : (c : goal.After-slice_known-9-1)
+    → c.read_link.result ≡ link_of c.args.control.top
+top-5 c =
+    c.read_link.ensures ∙ ap link_of (bits_back c.args.control.top (record { sfits = c.struct_told-1.given.1.1.0.1 }))
+
+to-3 : (c : goal.After-slice_known-9-1)
+    → link_of c.args.control.top ≡ To c.in-To.i
+to-3 c =
+    let at-read-link = c in
+    sym (top-5 at-read-link) ∙ c.in-To.is
+
+-- the memory at the start
+abbrev whole-5 : goal.After-slice_known-9-1 → Memory
+whole-5 c =
+    with_counts c.args.counts.now
+    (memory c.args.control c.args.states.now c.args.names.now c.args.pool.now c.args.free.now
+    c.args.heads.now c.args.chain.now c.args.rows.now c.args.store.now)
+
+pub returns : goal.returns
+returns c =
+    let at-load-page = c in
+    let at-known-told = at-load-page.before.before.before.before.before.before.before.before in
+    let at_i = at-known-told.before in
+    let s = at_i.before.before.before.before.before.before.before.before.before.before in
+    let i = at_i.i.given.0.0 in
+    let h = s.args.holder.0 in
+    let t = to-3 at-known-told in
+    let o = load-whole (whole-5 s) i _ _ s.args.name s.args.g _ _ _ _ _ at-load-page.load-page.ensures in record {
+      answer_value = new-answer (whole-5 s) h s.args.name i t;
+      store_after = new-after (whole-5 s) h s.args.name i t s.args.g s.requires.2 o c.put_count.ensures;
+    }
