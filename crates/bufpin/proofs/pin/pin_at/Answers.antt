@@ -69,20 +69,15 @@ held c =
 
 pub returns-then-not-passes_block : goal.returns-then-not-passes_block
 returns-then-not-passes_block c =
-    let at-passes-block = c in
-    let at-look-up = at-passes-block.before.before.before.before in
-    let s = at-look-up.before.before.before.before.before.before.before.before.before.before in
-    let none = held at-look-up ∙ c.in_default.is in
-    let differs = sym at-passes-block.passes-block.ensures ∙ c.if-not-passes_block.true in
-    let t = rw c.pin_refused.ensures
-    (pin-differs (whole-3 s) s.args.holder.0 s.args.name (good-3 s) s.requires.3 s.requires.2 none differs) in
-    record { answer_value = t.0; store_after = t.1 }
+    let none = held c ∙ c.in_default.is in
+    let differs = sym c.passes_block.ensures ∙ c.if-not-passes_block.true in
+    rw c.pin_refused.ensures
+    (let t = (pin-differs (whole-3 c) c.args.holder.0 c.args.name (good-3 c) c.requires.3 c.requires.2 none differs) in
+    record { answer_value = t.0; store_after = t.1 })
 
 pub pin_new-requires : goal.pin_new-requires
 pin_new-requires c =
-    let at-passes-block = c in
-    let s = at-passes-block.before.before.before.before.before.before.before.before.before.before.before.before.before.before in
-    (s.pre.0, s.pre.1, (name-at s.args.rows.now s.args.name [] s.pre.2).0, s.pre.3)
+    (c.requires.0, c.requires.1, (name-at c.args.rows.now c.args.name [] c.requires.2).0, c.requires.3)
 
 -- the memory at the start
 abbrev whole-4 : goal.After-slice_known-in_default-5-1 → Memory
@@ -102,17 +97,11 @@ held-2 c =
 
 pub returns-in_default : goal.returns-in_default
 returns-in_default c =
-    let at-pin-new = c in
-    let at-if1 = at-pin-new.before.before.before.before.before.before.before.before.before in
-    let at-passes-block = at-if1.before in
-    let at-enum-told = at-passes-block.before.before in
-    let at-look-up = at-enum-told.before.before in
-    let s = at-look-up.before.before.before.before.before.before.before.before.before.before in
-    let none = held-2 at-look-up ∙ at-enum-told.enum_told.given.1 in
-    let passes = sym at-passes-block.passes-block.ensures ∙ at-if1.if1.false in
-    let e = pin-new (whole-4 s) s.args.holder.0 s.args.name (good-4 s) s.requires.3 s.requires.2 none passes in record {
-      answer_value = at-pin-new.pin-new.ensures.0 ∙ ap pinned_of (sym e);
-      store_after = at-pin-new.pin-new.ensures.1 ∙ ap (λ (o : Outcome). o.after) (sym e);
+    let none = held-2 c ∙ c.in_default.is in
+    let passes = sym c.passes_block.ensures ∙ c.if-not-passes_block.false in
+    let e = pin-new (whole-4 c) c.args.holder.0 c.args.name (good-4 c) c.requires.3 c.requires.2 none passes in record {
+      answer_value = c.pin_new.ensures.answer_value ∙ ap pinned_of (sym e);
+      store_after = c.pin_new.ensures.store_after ∙ ap (λ (o : Outcome). o.after) (sym e);
     }
 
 -- the memory at the start
@@ -134,19 +123,17 @@ held-3 c =
 pub pin_held-requires : goal.pin_held-requires
 unfolding empty_at
 pin_held-requires c =
-    let at-look-up = c in
-    let s = at-look-up.before.before.before.before.before.before.before.before.before.before in
-    let m = whole-5 s in
-    let k = good-5 s in
-    let h = s.args.holder.0 in
+    let m = whole-5 c in
+    let k = good-5 c in
+    let h = c.args.holder.0 in
     let b = c.in-At.buffer in
-    let at = held_at m s.args.name b (held-3 at-look-up ∙ c.in-At.is) in (
+    let at = held_at m c.args.name b (held-3 c ∙ c.in-At.is) in (
       at.0,
       k.books.words b.0 at.0,
       at.1,
       k.books.cap.1,
-      omega (arith, k.sizes.counts, at.0, s.requires.3),
-      λ z. omega (arith, first-room m.counts b.0 h s.requires.3 z, k.books.counts b.0 at.0),
+      omega (arith, k.sizes.counts, at.0, c.requires.3),
+      λ z. omega (arith, first-room m.counts b.0 h c.requires.3 z, k.books.counts b.0 at.0),
     )
 
 -- the memory at the start
@@ -167,13 +154,10 @@ held-4 c =
 
 pub returns : goal.returns
 returns c =
-    let at-buffer = c in
-    let at-look-up = at-buffer.before.before in
-    let s = at-look-up.before.before.before.before.before.before.before.before.before.before in
-    let h = held-4 at-look-up ∙ at-buffer.buffer.given.1 in
-    let b = at-buffer.buffer.given.0.0 in
-    let e = pin-held (whole-6 s) s.args.holder.0 s.args.name (good-6 s) s.requires.3 s.requires.2 b h in
+    let h = held-4 c ∙ c.in-At.is in
+    let b = c.in-At.buffer in
+    let e = pin-held (whole-6 c) c.args.holder.0 c.args.name (good-6 c) c.requires.3 c.requires.2 b h in
     let o = c.pin_held.ensures in record {
-      answer_value = o.answer_value.0 ∙ e.0;
-      store_after = rw (o.control_value, o.answer_value.1.0, o.answer_value.1.1) e.1;
+      answer_value = o.answer_value ∙ e.0;
+      store_after = rw (o.control_value, o.states_after, o.counts_after) e.1;
     }

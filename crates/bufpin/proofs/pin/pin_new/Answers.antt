@@ -36,9 +36,7 @@ none c =
 
 pub pin_swept-requires : goal.pin_swept-requires
 pin_swept-requires c =
-    let at-match = c in
-    let s = at-match.before.before.before.before.before.before.before.before.before in
-    (s.requires.0, s.requires.1, s.requires.2, none at-match, s.requires.3)
+    (c.requires.0, c.requires.1, c.requires.2, none c, c.requires.3)
 
 -- the memory at the start
 abbrev whole-2 : goal.After-slice_known-in_default-5-1 → Memory
@@ -63,12 +61,9 @@ none-2 c =
 
 pub returns-in_default : goal.returns-in_default
 returns-in_default c =
-    let at-pin-swept = c in
-    let at-match = at-pin-swept.before.before.before.before.before.before.before.before.before in
-    let s = at-match.before.before.before.before.before.before.before.before.before in
-    let e = new-swept (whole-2 s) s.args.holder.0 s.args.name (none-2 at-match) in record {
-      answer_value = at-pin-swept.pin-swept.ensures.0 ∙ ap pinned_of (sym e);
-      store_after = at-pin-swept.pin-swept.ensures.1 ∙ ap (λ (o : Outcome). o.after) (sym e);
+    let e = new-swept (whole-2 c) c.args.holder.0 c.args.name (none-2 c) in record {
+      answer_value = c.pin_swept.ensures.answer_value ∙ ap pinned_of (sym e);
+      store_after = c.pin_swept.ensures.store_after ∙ ap (λ (o : Outcome). o.after) (sym e);
     }
 
 -- the memory at the start
@@ -90,16 +85,12 @@ top-3 c =
 to : (c : goal.After-load_page-arg-6-1)
     → link_of c.args.control.top ≡ To c.in-To.i
 to c =
-    let at-read-link = c in
-    sym (top-3 at-read-link) ∙ c.in-To.is
+    sym (top-3 c) ∙ c.in-To.is
 
 pub load_page-after-requires : goal.load_page-after-requires
 load_page-after-requires c =
-    let at-known-told = c in
-    let at_i = at-known-told.before in
-    let s = at_i.before.before.before.before.before.before.before.before.before.before in
-    let i = at_i.i.given.0.0 in
-    good-lodged (whole-3 s) (good-3 s) i (top-empty (whole-3 s) (good-3 s) i (to at-known-told)).0 s.args.name s.args.g s.requires.2
+    let i = c.in-To.i in
+    good-lodged (whole-3 c) (good-3 c) i (top-empty (whole-3 c) (good-3 c) i (to c)).0 c.args.name c.args.g c.requires.2
 
 -- the memory at the start
 abbrev whole-4 : goal.After-put_count-arg-1 → Memory
@@ -120,16 +111,12 @@ top-4 c =
 to-2 : (c : goal.After-put_count-arg-1)
     → link_of c.args.control.top ≡ To c.in-To.i
 to-2 c =
-    let at-read-link = c in
-    sym (top-4 at-read-link) ∙ c.in-To.is
+    sym (top-4 c) ∙ c.in-To.is
 
 pub put_count-requires : goal.put_count-requires
 put_count-requires c =
-    let at-known-told = c in
-    let at_i = at-known-told.before in
-    let s = at_i.before.before.before.before.before.before.before.before.before.before in
-    let i = at_i.i.given.0.0 in
-    omega (arith, (good-4 s).sizes.counts, (top-empty (whole-4 s) (good-4 s) i (to-2 at-known-told)).0, s.pre.3)
+    let i = c.in-To.i in
+    omega (arith, (good-4 c).sizes.counts, (top-empty (whole-4 c) (good-4 c) i (to-2 c)).0, c.requires.3)
 
 -- the top of the free list, as it was read
 top-5 : (c : goal.After-slice_known-9-1)
@@ -140,8 +127,7 @@ top-5 c =
 to-3 : (c : goal.After-slice_known-9-1)
     → link_of c.args.control.top ≡ To c.in-To.i
 to-3 c =
-    let at-read-link = c in
-    sym (top-5 at-read-link) ∙ c.in-To.is
+    sym (top-5 c) ∙ c.in-To.is
 
 -- the memory at the start
 abbrev whole-5 : goal.After-slice_known-9-1 → Memory
@@ -152,14 +138,10 @@ whole-5 c =
 
 pub returns : goal.returns
 returns c =
-    let at-load-page = c in
-    let at-known-told = at-load-page.before.before.before.before.before.before.before.before in
-    let at_i = at-known-told.before in
-    let s = at_i.before.before.before.before.before.before.before.before.before.before in
-    let i = at_i.i.given.0.0 in
-    let h = s.args.holder.0 in
-    let t = to-3 at-known-told in
-    let o = load-whole (whole-5 s) i _ _ s.args.name s.args.g _ _ _ _ _ at-load-page.load-page.ensures in record {
-      answer_value = new-answer (whole-5 s) h s.args.name i t;
-      store_after = new-after (whole-5 s) h s.args.name i t s.args.g s.requires.2 o c.put_count.ensures;
+    let i = c.in-To.i in
+    let h = c.args.holder.0 in
+    let t = to-3 c in
+    let o = load-whole (whole-5 c) i _ _ c.args.name c.args.g _ _ _ _ _ c.load_page-after.ensures in record {
+      answer_value = new-answer (whole-5 c) h c.args.name i t;
+      store_after = new-after (whole-5 c) h c.args.name i t c.args.g c.requires.2 o c.put_count.ensures;
     }

@@ -19,12 +19,10 @@ whole c =
 
 pub returns-then-k-ne0 : goal.returns-then-k-ne0
 returns-then-k-ne0 c =
-    let at-if1 = c in
-    let s = at-if1.before.before.before.before.before.before.before.before.before.before.before.before.before.before.before.before in
-    let t = rw c.pin_refused.ensures
-    (promised (pin-answers _ _ _)
-    (pin-early (whole s) s.args.holder.0 s.args.name at-if1.if1.true at-if1.before.refusal.ensures)) in
-    record { answer_value = t.0; answer_value_2 = t.1; answer_value_3 = t.2; store_after = t.3 }
+    rw c.pin_refused.ensures
+    (let t = (promised (pin-answers _ _ _)
+    (pin-early (whole c) c.args.holder.0 c.args.name c.if-k-ne0.true c.refusal-k.ensures)) in
+    record { answer_value = t.0; answer_value_2 = t.1.0; answer_value_3 = t.1.1.0; store_after = t.1.1.1 })
 
 -- the memory at the start
 abbrev whole-2 : goal.After-pin_refused-then-not-is_holder → Memory
@@ -41,12 +39,10 @@ good c =
 
 pub returns-then-not-is_holder : goal.returns-then-not-is_holder
 returns-then-not-is_holder c =
-    let at-if1 = c in
-    let s = at-if1.before.before.before.before.before.before.before.before.before.before.before.before.before.before.before.before in
     let stranger = sym c.is_holder.ensures ∙ c.if-not-is_holder.true in
-    let t = rw c.pin_refused-then-not-is_holder.ensures
-    (promised (pin-answers _ _ _) (pin-stranger (whole-2 s) s.args.holder.0 s.args.name (good at-if1) stranger)) in
-    record { answer_value = t.0; answer_value_2 = t.1; answer_value_3 = t.2; store_after = t.3 }
+    rw c.pin_refused-then-not-is_holder.ensures
+    (let t = (promised (pin-answers _ _ _) (pin-stranger (whole-2 c) c.args.holder.0 c.args.name (good c) stranger)) in
+    record { answer_value = t.0; answer_value_2 = t.1.0; answer_value_3 = t.1.1.0; store_after = t.1.1.1 })
 
 -- the memory at the start
 abbrev whole-3 : goal.Else-not-is_holder → Memory
@@ -63,9 +59,7 @@ good-2 c =
 
 pub seek-sought-requires : goal.seek-sought-requires
 seek-sought-requires c =
-    let at-if1 = c in
-    let s = at-if1.before.before.before.before.before.before.before.before.before.before.before.before.before.before.before.before in
-    (rows-say s.args.rows.now).shown (good-2 at-if1).sizes.rows
+    (rows-say c.args.rows.now).shown (good-2 c).sizes.rows
 
 -- the memory at the start
 abbrev whole-4 : goal.After-pin_at-arg-in-At-7-1 → Memory
@@ -88,13 +82,9 @@ few c =
 
 pub pin_at-requires : goal.pin_at-requires
 pin_at-requires c =
-    let at-sought = c in
-    let at-if2 = at-sought.before.before.before in
-    let at-if1 = at-if2.before.before in
-    let s = at-if1.before.before.before.before.before.before.before.before.before.before.before.before.before.before.before.before in
-    let k = good-3 at-if1 in
-    let at = sym at-sought.before.before.seek.ensures ∙ at-sought.sought2.given.1 in
-    (good-sized (whole-4 s) k, good-sound (whole-4 s) k, at, few at-if2)
+    let k = good-3 c in
+    let at = sym c.seek-sought.ensures ∙ c.in-At.is in
+    (good-sized (whole-4 c) k, good-sound (whole-4 c) k, at, few c)
 
 -- the memory at the start
 abbrev whole-5 : goal.After-pin_refused-in-Refused → Memory
@@ -117,17 +107,13 @@ few-2 c =
 
 pub returns-in-Refused : goal.returns-in-Refused
 returns-in-Refused c =
-    let at-if2 = c in
-    let at-if1 = at-if2.before.before in
-    let s = at-if1.before.before.before.before.before.before.before.before.before.before.before.before.before.before.before.before in
     let nameless = sym c.seek-sought.ensures ∙ c.in-Refused.is in
-    let t = rw c.pin_refused-in-Refused.ensures
-    (promised (pin-answers _ _ _)
-    (pin-nameless (whole-5 s) s.args.holder.0 s.args.name (good-4 at-if1) (few-2 at-if2) nameless)) in
-    record { answer_value = t.0; answer_value_2 = t.1; answer_value_3 = t.2; store_after = t.3 }
+    rw c.pin_refused-in-Refused.ensures
+    (let t = (promised (pin-answers _ _ _)
+    (pin-nameless (whole-5 c) c.args.holder.0 c.args.name (good-4 c) (few-2 c) nameless)) in
+    record { answer_value = t.0; answer_value_2 = t.1.0; answer_value_3 = t.1.1.0; store_after = t.1.1.1 })
 
 pub returns-in-At : goal.returns-in-At
 returns-in-At c =
-    let at-pin-at = c in
-    let t = promised (pin-answers _ _ _) at-pin-at.pin_at.ensures in
-    record { answer_value = t.0; answer_value_2 = t.1; answer_value_3 = t.2; store_after = t.3 }
+    let t = promised (pin-answers _ _ _) (c.pin_at.ensures.answer_value, c.pin_at.ensures.store_after) in
+    record { answer_value = t.0; answer_value_2 = t.1.0; answer_value_3 = t.1.1.0; store_after = t.1.1.1 }

@@ -38,11 +38,10 @@ pub returns-in_default : goal.returns-in_default
 returns-in_default c =
     let e = victim-none (end c) c.sweep.ensures.value c.in_default.is in
     let h = c.args.holder.0 in
-    let t = rw c.pin_refused.ensures (
-      swept-refused (whole-2 c) (good-2 c) h c.args.name e,
-      swept-still (whole-2 c) (good-2 c) h c.args.name e c.sweep.ensures.states_after,
-    ) in
-    record { answer_value = t.0; store_after = t.1 }
+    rw c.pin_refused.ensures (record {
+      answer_value = swept-refused (whole-2 c) (good-2 c) h c.args.name e;
+      store_after = swept-still (whole-2 c) (good-2 c) h c.args.name e c.sweep.ensures.states_after;
+    })
 
 abbrev end-2 : goal.After-pin_victim-arg-8-1 → Swept
 end-2 c = sweep_all c.args.control.cap c.args.states.now c.args.control.hand
@@ -59,13 +58,10 @@ good-3 c = good_of (whole-3 c) c.requires.0 c.requires.1
 
 pub pin_victim-requires : goal.pin_victim-requires
 pin_victim-requires c =
-    let at-buffer = c in
-    let at-sweep = at-buffer.before.before.before.before in
-    let s = at-sweep.before.before.before.before.before.before.before.before in
-    let e = victim-at (end-2 s) at-sweep.sweep.ensures.0 at-buffer.buffer.given.1 in
-    let q = at-sweep.sweep.ensures.1 in
-    let a = swept-asks (whole-3 s) (good-3 s) s.args.holder.0 s.args.name e.0 e.1 q s.requires.3 in
-    (a.0, a.1, a.2, a.3, a.4, s.requires.2, s.requires.4)
+    let e = victim-at (end-2 c) c.sweep.ensures.value c.in-At.is in
+    let q = c.sweep.ensures.states_after in
+    let a = swept-asks (whole-3 c) (good-3 c) c.args.holder.0 c.args.name e.0 e.1 q c.requires.3 in
+    (a.0, a.1, a.2, a.3, a.4, c.requires.2, c.requires.4)
 
 abbrev end-3 : goal.After-slice_known-11-1 → Swept
 end-3 c = sweep_all c.args.control.cap c.args.states.now c.args.control.hand
@@ -82,14 +78,10 @@ good-4 c = good_of (whole-4 c) c.requires.0 c.requires.1
 
 pub returns : goal.returns
 returns c =
-    let at-pin-victim = c in
-    let at-buffer = at-pin-victim.before.before.before.before.before.before.before.before.before.before in
-    let at-sweep = at-buffer.before.before.before.before in
-    let s = at-sweep.before.before.before.before.before.before.before.before in
-    let e = victim-at (end-3 s) at-sweep.sweep.ensures.0 at-buffer.buffer.given.1 in
-    let q = at-sweep.sweep.ensures.1 in
-    let h = s.args.holder.0 in
-    let o = at-pin-victim.pin-victim.ensures in record {
-      answer_value = o.0 ∙ swept-answer (whole-4 s) (good-4 s) h s.args.name e.0 e.1 q e.2;
-      store_after = o.1 ∙ swept-after (whole-4 s) (good-4 s) h s.args.name e.0 e.1 q;
+    let e = victim-at (end-3 c) c.sweep.ensures.value c.in-At.is in
+    let q = c.sweep.ensures.states_after in
+    let h = c.args.holder.0 in
+    let o = c.pin_victim.ensures in record {
+      answer_value = o.answer_value ∙ swept-answer (whole-4 c) (good-4 c) h c.args.name e.0 e.1 q e.2;
+      store_after = o.store_after ∙ swept-after (whole-4 c) (good-4 c) h c.args.name e.0 e.1 q;
     }

@@ -42,11 +42,9 @@ taken-2 c =
 
 pub release_buffer-freed-requires : goal.release_buffer-freed-requires
 release_buffer-freed-requires c =
-    let at-write-back = c in
-    let s = at-write-back.before.before.before.before.before.before.before.before.before.before.before.before.before.before in
-    let i = s.args.victim.0 in
-    let e = back_whole (whole-2 s) i _ _ _ at-write-back.write-back.ensures in
-    let t = back-taken (whole-2 s) i (taken-2 s) e in
+    let i = c.args.victim.0 in
+    let e = back_whole (whole-2 c) i _ _ _ c.write_back-written.ensures in
+    let t = back-taken (whole-2 c) i (taken-2 c) e in
     good-chained _ t.good i t.below t.full
 
 -- the memory at the start
@@ -63,15 +61,12 @@ taken-3 c =
 
 pub load_page-after-requires : goal.load_page-after-requires
 load_page-after-requires c =
-    let at-release-buffer = c in
-    let at-write-back = at-release-buffer.before.before.before.before.before.before.before.before.before.before in
-    let s = at-write-back.before.before.before.before.before.before.before.before.before.before.before.before.before.before in
-    let i = s.args.victim.0 in
-    let e = back_whole (whole-3 s) i _ _ _ at-write-back.write-back.ensures in
-    let t = back-taken (whole-3 s) i (taken-3 s) e in
-    let f = release-whole _ i _ _ _ _ _ _ at-release-buffer.release-buffer.ensures in
+    let i = c.args.victim.0 in
+    let e = back_whole (whole-3 c) i _ _ _ c.write_back-written.ensures in
+    let t = back-taken (whole-3 c) i (taken-3 c) e in
+    let f = release-whole _ i _ _ _ _ _ _ c.release_buffer-freed.ensures in
     let u = release-taken _ i t f in
-    good-lodged _ u.0 i u.1 s.args.name s.args.g s.pre.5
+    good-lodged _ u.0 i u.1 c.args.name c.args.g c.requires.5
 
 -- the memory at the start
 abbrev whole-4 : goal.After-put_count-arg-1 → Memory
@@ -87,11 +82,8 @@ taken-4 c =
 
 pub put_count-requires : goal.put_count-requires
 put_count-requires c =
-    let at-load-page = c in
-    let at-write-back = at-load-page.before.before.before.before.before.before.before.before.before.before.before.before.before.before.before.before.before.before.before.before.before.before.before.before.before in
-    let s = at-write-back.before.before.before.before.before.before.before.before.before.before.before.before.before.before in
-    let t = taken-4 s in
-    omega (arith, t.good.sizes.counts, t.below, s.pre.6)
+    let t = taken-4 c in
+    omega (arith, t.good.sizes.counts, t.below, c.requires.6)
 
 -- the memory at the start
 abbrev whole-5 : goal.After-slice_known-13-1 → Memory
@@ -102,15 +94,10 @@ whole-5 c =
 
 pub returns : goal.returns
 returns c =
-    let at-load-page = c in
-    let at-release-buffer = at-load-page.before.before.before.before.before.before.before.before.before.before.before.before.before.before.before in
-    let at-write-back = at-release-buffer.before.before.before.before.before.before.before.before.before.before in
-    let at-is-dirty = at-write-back.before.before.before.before.before in
-    let s = at-is-dirty.before.before.before.before.before.before.before.before.before in
-    let i = s.args.victim.0 in
-    let e = back_whole (whole-5 s) i _ _ _ at-write-back.write-back.ensures in
-    let f = release-whole _ i _ _ _ _ _ _ at-release-buffer.release-buffer.ensures in
-    let h = load-whole _ i _ _ s.args.name s.args.g _ _ _ _ _ at-load-page.load-page.ensures in record {
-      answer_value = ap (λ t. loaded_at i t s.args.probes) (at-is-dirty.is-dirty.ensures ∙ ap dirty at-is-dirty.before.state-of.ensures);
-      store_after = load-taken (whole-5 s) s.args.name i s.args.g s.pre.5 e f h c.put_count.ensures;
+    let i = c.args.victim.0 in
+    let e = back_whole (whole-5 c) i _ _ _ c.write_back-written.ensures in
+    let f = release-whole _ i _ _ _ _ _ _ c.release_buffer-freed.ensures in
+    let h = load-whole _ i _ _ c.args.name c.args.g _ _ _ _ _ c.load_page-after.ensures in record {
+      answer_value = ap (λ t. loaded_at i t c.args.probes) (c.is_dirty-wrote.ensures ∙ ap dirty c.state_of.ensures);
+      store_after = load-taken (whole-5 c) c.args.name i c.args.g c.requires.5 e f h c.put_count.ensures;
     }
