@@ -10,7 +10,7 @@ use Rattle.bufmodel.specs.Sizes.{max_buffers, max_blocks}
 use Rattle.buftrace.specs.Input.{Given, given, bad, lines_of, value_of, between, max_uses, more, numbers, with_blocks, with_buffers, parse}
 use Rattle.buftrace.specs.Usage.{Below, no_more, one_more_is}
 use Rattle.buftrace.specs.Trace.{Trace, unused, use1, uses}
-use Rattle.buftrace.specs.Scan.{fed_pieces, together, Scan, start, spoilt, taken_at, taken, least_at, end_at, feds, closed, finished}
+use Rattle.buftrace.specs.Scan.{fed, fed_pieces, together, Scan, start, spoilt, taken_at, taken, least_at, end_at, feds, closed, finished}
 use Rattle.buftrace.proofs.LineLaws.{allowed, lines_fed, lines_none, lines-many, lines-on, lines_end}
 use Rattle.buftrace.proofs.LineLaws.{spoilt-bad, spoilt-not, taken-missing, between-found}
 use Rattle.buftrace.proofs.ByteLaws.{Alike, bytes-lines}

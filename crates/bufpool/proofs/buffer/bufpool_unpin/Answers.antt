@@ -1,0 +1,22 @@
+use borrow.Author.Rules.{rules}
+use mathlib.Core.Path.{refl, ◌∙◌}
+use Rattle.bufmodel.proofs.AnsweredLaws.{unpin-answers}
+use Rattle.bufpool.proofs.ExportLaws.{export-answer, export-control, call-read, export-left}
+use Rattle.bufpool.proofs.CallLaws.{unpin-early}
+use Rattle.bufpool.proofs.buffer.bufpool_unpin.Goals as goal
+
+pub returns-then-answer-ne-ANSWER_WORDS : goal.returns-then-answer-ne-ANSWER_WORDS
+returns-then-answer-ne-ANSWER_WORDS c = export-answer _ _ _ _ c.if-answer-ne-ANSWER_WORDS.true
+
+pub returns-then-control-ne-CONTROL_WORDS : goal.returns-then-control-ne-CONTROL_WORDS
+returns-then-control-ne-CONTROL_WORDS c =
+    rw (c.refuse.ensures.value, c.refuse.ensures.answer_after) (export-control _ _ _ _ c.if-answer-ne-ANSWER_WORDS.false c.if-control-ne-CONTROL_WORDS.true)
+
+pub returns : goal.returns
+returns c =
+    let is = c.read_control.ensures in
+    let early = unpin-early _ _ in
+    let p = c.put_accepted.ensures in
+    let u = c.unpin_buffer-answered.ensures in
+    export-left _ _ _ _ c.if-answer-ne-ANSWER_WORDS.false c.if-control-ne-CONTROL_WORDS.false (call-read _ _ _ early _ is) (unpin-answers _ _ _)
+    (p.value ∙ u.result_value) (p.answer_after ∙ u.result_value_2) u.store_after early is refl

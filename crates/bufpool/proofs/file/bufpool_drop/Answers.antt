@@ -1,0 +1,22 @@
+use borrow.Author.Rules.{rules}
+use mathlib.Core.Path.{◌∙◌}
+use Rattle.bufmodel.proofs.AnsweredLaws.{drop-answers}
+use Rattle.bufpool.proofs.ExportLaws.{export-answer, export-control, call-read, export-made}
+use Rattle.bufpool.proofs.CallLaws.{drop-early}
+use Rattle.bufpool.proofs.file.bufpool_drop.Goals as goal
+
+pub returns-then-answer-ne-ANSWER_WORDS : goal.returns-then-answer-ne-ANSWER_WORDS
+returns-then-answer-ne-ANSWER_WORDS c = export-answer _ _ _ _ c.if-answer-ne-ANSWER_WORDS.true
+
+pub returns-then-control-ne-CONTROL_WORDS : goal.returns-then-control-ne-CONTROL_WORDS
+returns-then-control-ne-CONTROL_WORDS c =
+    rw (c.refuse.ensures.value, c.refuse.ensures.answer_after) (export-control _ _ _ _ c.if-answer-ne-ANSWER_WORDS.false c.if-control-ne-CONTROL_WORDS.true)
+
+pub returns : goal.returns
+returns c =
+    let p = c.put_accepted-r.ensures in
+    let u = c.drop_file-end.ensures in
+    let read = call-read _ _ _ (drop-early _) _ c.read_control.ensures in
+    rw (c.keep_control.ensures, ← c.file_name-file.ensures)
+    (export-made _ _ _ _ c.if-answer-ne-ANSWER_WORDS.false c.if-control-ne-CONTROL_WORDS.false read (drop-answers _ _)
+    (p.value ∙ u.answer_value_2) (p.answer_after ∙ u.answer_value_3) u.store_after)
