@@ -1,3 +1,1 @@
-pub mod LendLaws
 pub mod StoredLaws
-pub mod WalkLaws
