@@ -108,7 +108,7 @@ module _ (pool : Pool) (slices : ℕ → List ℕ) where
   fits-gets : ((i : ℕ) → length (slices i) ≡ answer_words) → (m : Lent) (p : Pins) (cs : List Asked) → FitsAsked cs → FitsMade (gets m p cs)
   unfolding gets
   fits-gets long m p [] f = tt
-  fits-gets long m p (c ∷ cs) f = (fits-clipped p.number c f.0, long p.made, fits-gets long _ _ cs f.1)
+  fits-gets long m p (c ∷ cs) f = (fits-clipped p.number c f.0, long p.made, fits-gets long (ended m p (clipped p.number c)).lent (pins_then p c (ended m p (clipped p.number c))) cs f.1)
 
   -- what is claimed of it, for a call d that it gets
   abbrev Claimed : Lent → Ledger → Pins → Asked → List Asked → Call → Type 0
