@@ -9,7 +9,7 @@ ghost use Rattle.buftrace.specs.Report.{Wrote, printed};
 
 use buftrace::report::put_line;
 use buftrace::scan::{Reader, break_off, feed, finish, new_reader};
-use libc::{STDIN_FILENO, STDOUT_FILENO};
+use std::io::{Read, Stdin, Write};
 
 // What a read left: the reader, and whether there may be more.
 #[derive(Clone, Copy)]
@@ -40,27 +40,37 @@ fn take_piece(
 }
 
 // Reads a piece of the input.
-fn read_piece(s: Reader, states: &mut [u32], held: &mut [u16], place: &mut [u16]) -> Piece
+fn read_piece(
+    input: &mut Stdin,
+    s: Reader,
+    states: &mut [u32],
+    held: &mut [u16],
+    place: &mut [u16],
+) -> Piece
     requires { Ready s states.old held.old place.old }
     ensures ready { Ready result.reader states.new held.new place.new }
     ensures fed { Fed (scan_of s states.old held.old) (scan_of result.reader states.new held.new) }
 {
-    let mut buf = io::large_buffer();
-    let got = libc::read(STDIN_FILENO, &mut buf);
-    if got < 0 {
+    let mut buf = [0u8; 65536];
+    let Ok(n) = input.read(&mut buf) else {
         let end = break_off(s);
         return Piece {
             reader: end,
             more: false,
         };
-    }
-    let n = io::count(got, &buf);
+    };
     take_piece(s, states, held, place, &buf[..n])
 }
 
 // All pieces. A proved loop has to end, and nothing says that the input does: it counts its turns down, from a number that no run uses up.
 // Should one, it has not read all, and the line begun is bad.
-fn read_all(s: Reader, states: &mut [u32], held: &mut [u16], place: &mut [u16]) -> Reader
+fn read_all(
+    input: &mut Stdin,
+    s: Reader,
+    states: &mut [u32],
+    held: &mut [u16],
+    place: &mut [u16],
+) -> Reader
     requires { Ready s states.old held.old place.old }
     ensures ready { Ready result states.new held.new place.new }
     ensures fed { Fed (scan_of s states.old held.old) (scan_of result states.new held.new) }
@@ -69,7 +79,7 @@ fn read_all(s: Reader, states: &mut [u32], held: &mut [u16], place: &mut [u16]) 
     let mut t = s;
     let mut more = true;
     while turns > 0 && more {
-        let p = read_piece(t, states, held, place);
+        let p = read_piece(input, t, states, held, place);
         t = p.reader;
         more = p.more;
         turns -= 1;
@@ -97,19 +107,20 @@ fn sum_up(
 }
 
 // Reads the input, puts the line at the start of out, and answers its length.
-fn cost_line(out: &mut [u8; 64]) -> usize
+fn cost_line(input: &mut Stdin, out: &mut [u8; 64]) -> usize
     ensures prefix_len { IsPrefixLen result out.new }
     ensures wrote { Wrote (take result out.new) }
 {
     let mut states = [0u32; 1024];
     let mut held = [0u16; 1024];
     let mut place = [0u16; 65536];
-    let t = read_all(new_reader(), &mut states, &mut held, &mut place);
+    let t = read_all(input, new_reader(), &mut states, &mut held, &mut place);
     sum_up(t, &mut states, &mut held, &mut place, out)
 }
 
-fn main() {
+// An output that is full or closed changes nothing else.
+fn main(rt: HostRuntime) {
     let mut out = [0u8; 64];
-    let k = cost_line(&mut out);
-    io::write_all(STDOUT_FILENO, &out[..k]);
+    let k = cost_line(&mut rt.stdin(), &mut out);
+    let _written = rt.stdout().write_all(&out[..k]);
 }
