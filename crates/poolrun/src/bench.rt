@@ -15,7 +15,7 @@ const POSITION: u64 = 100;
 const CAP: usize = 5;
 
 // The lent memory.
-#[derive(Drop)]
+#[derive(Clone, Copy)]
 pub(crate) struct Bench {
     pub(crate) control: Control,
     pub(crate) states: [u32; 3],

@@ -1,5 +1,4 @@
 // The control record in a local, lent by `&mut` to a call of `bufcontrol`. (To the log's calls it is lent by `log_through`, there.)
-// The prover does not cover a reference to a record: these functions are proved by walks, which `tools/walks` writes.
 
 use bufcalls::ends::WrittenEnd;
 use bufcontrol::back::{checkpoint, flush};
