@@ -4,7 +4,6 @@ ghost use Rattle.std.specs.Prelude.{◌≡◌, []};
 ghost use Rattle.bufmodel.specs.Lent.{called};
 ghost use Rattle.bufbooks.specs.Lent.{check};
 
-
 // 0, or the number of the first place that refuses: 1 sizes and rows, 2 the books.
 #[unsafe(no_mangle)]
 pub extern "C" fn bufbooks_check(
@@ -36,5 +35,7 @@ pub extern "C" fn bufbooks_check(
         })
         [] answer.now).result }
 {
-    bufbooks::export::bufbooks_check(control, states, names, pool, free, heads, chain, rows, store, counts, answer)
+    bufbooks::export::bufbooks_check(
+        control, states, names, pool, free, heads, chain, rows, store, counts, answer,
+    )
 }

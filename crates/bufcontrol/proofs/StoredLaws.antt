@@ -1,7 +1,7 @@
 -- The control record as a call stores it back: hand, top and log positions are the new ones, and the block size and the cap stay.
 use mathlib.Core.Path.{◌≡◌, ap, sym, ◌∙◌}
 use Prim.Native.Nat.{ℕ}
-use mathlib.Core.List.{List, [], ◌∷◌}
+use mathlib.Core.List.{List}
 use lib.IntN.{ℤ}
 use Rattle.bufmodel.specs.declared.control.Control.{Control}
 use Rattle.bufmodel.specs.Memory.{Memory, memory, with_counts}

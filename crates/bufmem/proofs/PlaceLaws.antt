@@ -1,17 +1,12 @@
 -- The place that the code answers is the model's.
 use Prim.Native.Nat.{ℕ}
-use native.Mathlib.Omega.{arith}
 use mathlib.Core.Path.{◌≡◌, refl}
 use mathlib.Core.Bool.{Bool, true, false, cond}
-use mathlib.Core.Logic.{⊎_elim}
-use mathlib.Core.List.{List, [], ◌∷◌}
+use mathlib.Core.List.{List}
 use lib.Dec.{ltb}
-use types.Run.{OneOf}
-use denote.Enum.Declared.{tag_of}
 use Rattle.laws.specs.First.{Found, found, missing}
 use Rattle.buftag.specs.declared.name.PageName.{PageName}
 use Rattle.bufmodel.specs.Rows.{blocks_at, row_of, place_in, place_of}
-use Rattle.bufmem.specs.contracts.place.Place.{the_type}
 use Rattle.bufmem.specs.declared.place.Place.{Place}
 use Rattle.bufmem.specs.declared.place.Place.TheVariants.{At, NoFile, NoBlock}
 use Rattle.bufmem.specs.Place.{placed_in, placed, found_place}

@@ -7,8 +7,6 @@ use Prim.Native.Nat.{ℕ, zero, suc, ◌+◌, ◌-◌, ◌≤◌, ◌<◌}
 use native.Mathlib.Numerals.{sub-one}
 use native.Mathlib.Nat.{suc-add, zero-add}
 use native.Mathlib.Omega.{arith}
-use types.Run.{OneOf}
-use denote.Enum.Declared.{tag_of}
 use lib.Dec.{ltb}
 use lib.IntN.{ℤ}
 use lib.ListN.{length}
@@ -20,7 +18,6 @@ use Rattle.buftag.specs.declared.budget.Walked.{Walked}
 use Rattle.buftag.specs.declared.budget.Walked.TheVariants.{Left, Wrong}
 use Rattle.buftag.specs.Link.{link_at, is_end, Links, done, step}
 use Rattle.buftag.specs.Budget.{spend}
-use Rattle.buftag.specs.contracts.link.Link.{the_type}
 use Rattle.buftag.proofs.TagLaws.{NotTo}
 use Rattle.buftag.proofs.LinkLaws.{is_end-true}
 

@@ -3,12 +3,10 @@ use Prim.Native.Nat.{ℕ, zero, suc, ◌-◌, ◌≤◌, ◌<◌}
 use mathlib.Core.Path.{◌≡◌, refl, sym, ◌∙◌, ap, subst}
 use mathlib.Core.Bool.{true, false}
 use mathlib.Core.Logic.{⊎_elim}
-use mathlib.Core.List.{List, [], ◌∷◌}
+use mathlib.Core.List.{List, ◌∷◌}
 use native.Mathlib.Nat.{not-suc-le-zero}
 use native.Mathlib.Numerals.{sub-one}
 use native.Mathlib.Omega.{arith}
-use types.Run.{OneOf}
-use denote.Enum.Declared.{tag_of}
 use lib.IntN.{ℤ}
 use lib.ListN.{length}
 use borrow.Author.Tests.{lt-ltb, le-ltb, ne_eqb}
@@ -25,7 +23,6 @@ use Rattle.buftag.specs.Name.{same_name}
 use Rattle.buftag.specs.Names.{name_at}
 use Rattle.buftag.specs.Link.{link_at, Links, done, step}
 use Rattle.buftag.specs.Lookup.{walk}
-use Rattle.buftag.specs.contracts.link.Link.{the_type}
 use Rattle.buftag.proofs.TagLaws.{NotTo}
 use Rattle.buftag.proofs.NameLaws.{says-same-name}
 

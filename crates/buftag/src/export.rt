@@ -9,13 +9,7 @@ use crate::names::{NAME_WORDS, put_name};
 use crate::number::BufferNumber;
 
 // The hash of a name.
-pub fn buftag_hash(
-    tablespace: u32,
-    database: u32,
-    relation: u32,
-    fork: u32,
-    block: u32,
-) -> u32
+pub fn buftag_hash(tablespace: u32, database: u32, relation: u32, fork: u32, block: u32) -> u32
     ensures { result ≡ hash_of (name_of tablespace database relation fork block) }
 {
     hash(tablespace, database, relation, fork, block)

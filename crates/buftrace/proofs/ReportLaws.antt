@@ -7,7 +7,7 @@ use borrow.Author.Tests.{ne_eqb}
 use Rattle.laws.specs.Times.{times}
 use Rattle.bufmodel.specs.Sizes.{block_sizes, max_buffers, max_blocks}
 use Rattle.buftrace.specs.declared.scan.Reader.{Reader}
-use Rattle.buftrace.specs.Input.{Given, bad, lines_of, parse}
+use Rattle.buftrace.specs.Input.{Given, lines_of, parse}
 use Rattle.buftrace.specs.Usage.{Below, used_on}
 use Rattle.buftrace.specs.Trace.{unused, uses, trace_of}
 use Rattle.buftrace.specs.Scan.{Scan, start, feds, fed_pieces, together, finished, scan_of, Fed}

@@ -9,7 +9,7 @@ use lib.Seq.{length-take-le, length_front, get_or-take, get_or-set_same, get_or-
 use borrow.Author.Tests.{lt-ltb, le-ltb}
 use Rattle.laws.specs.First.{found, missing}
 use Rattle.laws.proofs.Tests.{eq-or-ne}
-use Rattle.bufmodel.specs.Word.{max_cap, pinned}
+use Rattle.bufmodel.specs.Word.{max_cap}
 use Rattle.bufmodel.specs.Sizes.{max_buffers, max_blocks}
 use Rattle.bufmodel.specs.Sweep.{Swept, Sweeps, sweep_all}
 use Rattle.bufmodel.proofs.SweepLaws.{SweptFrom, sweeps-from}

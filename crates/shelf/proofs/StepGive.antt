@@ -14,7 +14,7 @@ use Rattle.bufmodel.specs.Rows.{store_blocks, place_of}
 use Rattle.bufmodel.specs.Memory.{Memory, buffers, cap_of, word_of, name_of, with_states, with_counts}
 use Rattle.bufmodel.specs.Counts.{max_holders, count_at}
 use Rattle.bufmodel.specs.Books.{empty_at}
-use Rattle.bufmodel.specs.Outcome.{Place, place, refusal_of, zeros, done}
+use Rattle.bufmodel.specs.Outcome.{Place, refusal_of, zeros, done}
 use Rattle.bufmodel.specs.Pin.{holder_place}
 use Rattle.bufmodel.specs.Calls.{given_word, give_up_to, give_back}
 use Rattle.bufmodel.specs.Step.{GiveBack, step}

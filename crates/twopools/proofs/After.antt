@@ -10,7 +10,7 @@ use Rattle.laws.specs.Sum.{count}
 use Rattle.laws.proofs.First.{found-same}
 use Rattle.buftag.specs.declared.name.PageName.{PageName}
 use Rattle.bufmodel.specs.Rows.{row_of, store_blocks, place_of}
-use Rattle.bufmodel.specs.Outcome.{Outcome, place}
+use Rattle.bufmodel.specs.Outcome.{Outcome}
 use Rattle.bufmodel.specs.Step.{Pin}
 use Rattle.bufmodel.proofs.RowsLaws.{store-set}
 use Rattle.bufmodel.proofs.OutcomeLaws.{refusal-passed}

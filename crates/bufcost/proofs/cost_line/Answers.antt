@@ -1,4 +1,3 @@
-use borrow.Author.Rules.{rules}
 use Rattle.buftrace.proofs.ReadLaws.{ready-as, new-ready, fed-from}
 use Rattle.buftrace.proofs.ReportLaws.{wrote}
 use Rattle.bufcost.proofs.cost_line.Goals as goal

@@ -1,8 +1,5 @@
 use borrow.Author.Rules.{rules}
-use native.Mathlib.Omega.{arith}
-use mathlib.Core.Path.{◌≡◌, refl}
-use lib.ListN.{length}
-use Rattle.buftrace.specs.Scan.{Ready, Fed, scan_of}
+use mathlib.Core.Path.{refl}
 use Rattle.buftrace.proofs.ReadLaws.{fed-none, fed_then, fed-broken}
 use Rattle.bufcost.proofs.read_all.Goals as goal
 

@@ -1,9 +1,6 @@
-use borrow.Author.Rules.{rules}
-use native.Mathlib.Omega.{arith}
-use mathlib.Core.Path.{◌≡◌, refl}
+use mathlib.Core.Path.{◌≡◌}
 use lib.ListN.{length}
 use Rattle.buftrace.specs.Scan.{Ready, Fed, scan_of}
-use Rattle.buftrace.proofs.ReadLaws.{fed-none, fed_then, fed-broken}
 use Rattle.bufcost.proofs.read_all.Given as goal
 
 abbrev pub invariant-loop-turns : goal.invariant-loop-turns

@@ -1,4 +1,3 @@
-use borrow.Author.Rules.{rules}
 use Rattle.buftrace.proofs.ReadLaws.{fed-broken}
 use Rattle.bufcost.proofs.read_piece.Goals as goal
 

@@ -1,4 +1,3 @@
-use borrow.Author.Rules.{rules}
 use mathlib.Core.Path.{sym, ap, ◌∙◌}
 use Rattle.buftrace.specs.Report.{printed}
 use Rattle.buftrace.proofs.ReportLaws.{printed-of}

@@ -1,20 +1,14 @@
 use borrow.Author.Rules.{rules}
-use borrow.Author.Tests.{not-true, not-false}
 use native.Mathlib.Omega.{arith}
 use Rattle.bufbooks.specs.Buffers.{buffer_test}
 use Rattle.bufbooks.proofs.BuffersLaws.{buffer-empty, buffer-late, buffer_held}
 use Rattle.bufmodel.specs.Books.{empty_at}
-use Rattle.bufmodel.specs.Memory.{Memory, memory, buffers, size}
+use Rattle.bufmodel.specs.Memory.{Memory, memory, buffers}
 use Rattle.buftag.specs.Name.{same_name}
 use Rattle.buftag.specs.Names.{name_at}
-use Rattle.laws.proofs.Block.{block_in}
-use Rattle.laws.proofs.Every.{all_none, all_more, all-fails, all-passes}
-use Rattle.laws.specs.Every.{all}
-use Prim.Native.Nat.{ℕ, ◌-◌, ◌≤◌, ◌<◌}
-use lib.ListN.{length}
-use mathlib.Core.Bool.{true}
+use Rattle.laws.proofs.Every.{all_none, all_more, all-fails}
+use Prim.Native.Nat.{ℕ, ◌<◌}
 use mathlib.Core.List.{[]}
-use mathlib.Core.Logic.{⊎_elim}
 use mathlib.Core.Path.{◌≡◌, ap, sym, ◌∙◌}
 use Rattle.bufbooks.proofs.buffers.buffers_ok.Goals as goal
 use Rattle.bufbooks.proofs.buffers.buffers_ok.Goals.{then-is_empty+else-not-holds, else-is_empty+else-not-is_low+else-not-held_ok}
@@ -119,12 +113,12 @@ loop-i-preserved c =
     let i = place-4 c in
     let inv = c.loop-i.invariant in
     elim c.if-is_empty.branch [
-      then-is_empty+else-not-holds w ↦
-        let named = sym (w.holds.ensures ∙ ap (same_name (name_at m.names i)) w.no_name.ensures) in (
-          omega (arith, inside-4 c),
-          all_more (buffer_test m) i inv.1 (buffer-empty m i (blank-4 c ∙ w.if-is_empty.true) (named ∙ w.if-not-holds.false)),
-        )
-    | else-is_empty+else-not-is_low+else-not-held_ok w ↦ (
+      | then-is_empty+else-not-holds w ↦
+          let named = sym (w.holds.ensures ∙ ap (same_name (name_at m.names i)) w.no_name.ensures) in (
+            omega (arith, inside-4 c),
+            all_more (buffer_test m) i inv.1 (buffer-empty m i (blank-4 c ∙ w.if-is_empty.true) (named ∙ w.if-not-holds.false)),
+          )
+      | else-is_empty+else-not-is_low+else-not-held_ok w ↦ (
         omega (arith, inside-4 c),
         all_more (buffer_test m) i inv.1
             (buffer_held m i (blank-4 c ∙ w.if-is_empty.false) (sym w.is_low.ensures ∙ w.if-not-is_low.false)

@@ -1,21 +1,11 @@
-use borrow.Author.Rules.{rules}
-use borrow.Author.Tests.{not-true, not-false}
-use native.Mathlib.Omega.{arith}
 use Rattle.bufbooks.specs.Buffers.{buffer_test}
-use Rattle.bufbooks.proofs.BuffersLaws.{buffer-empty, buffer-late, buffer_held}
-use Rattle.bufmodel.specs.Books.{empty_at}
-use Rattle.bufmodel.specs.Memory.{Memory, memory, buffers, size}
-use Rattle.buftag.specs.Name.{same_name}
-use Rattle.buftag.specs.Names.{name_at}
-use Rattle.laws.proofs.Block.{block_in}
-use Rattle.laws.proofs.Every.{all_none, all_more, all-fails, all-passes}
+use Rattle.bufmodel.specs.Memory.{memory}
 use Rattle.laws.specs.Every.{all}
-use Prim.Native.Nat.{ℕ, ◌-◌, ◌≤◌, ◌<◌}
+use Prim.Native.Nat.{◌-◌, ◌≤◌}
 use lib.ListN.{length}
 use mathlib.Core.Bool.{true}
 use mathlib.Core.List.{[]}
-use mathlib.Core.Logic.{⊎_elim}
-use mathlib.Core.Path.{◌≡◌, ap, sym, ◌∙◌}
+use mathlib.Core.Path.{◌≡◌}
 use Rattle.bufbooks.proofs.buffers.buffers_ok.Given as goal
 
 abbrev pub invariant-loop-i : goal.invariant-loop-i

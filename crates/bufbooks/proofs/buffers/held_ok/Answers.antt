@@ -1,6 +1,4 @@
-use borrow.Author.Rules.{rules}
-use borrow.Author.Tests.{ltb-true, ltb-false, not-true, not-false}
-use native.Mathlib.Nat.{mod-lt}
+use borrow.Author.Tests.{ltb-true, ltb-false}
 use native.Mathlib.Omega.{arith}
 use Rattle.bufmem.specs.Rows.{found_row}
 use Rattle.bufbooks.proofs.BuffersLaws.{bucket-continued, blocks-low, held-nowhere, held-behind, held-page}

@@ -1,5 +1,3 @@
-use borrow.Author.Rules.{rules}
-use borrow.Author.Tests.{not-true, not-false}
 use lib.Dec.{leb}
 use mathlib.Core.Path.{ap, sym, ◌∙◌}
 use Rattle.bufbooks.specs.Buffers.{low_test}

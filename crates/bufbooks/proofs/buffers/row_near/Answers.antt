@@ -1,4 +1,3 @@
-use borrow.Author.Rules.{rules}
 use Rattle.bufmem.specs.Rows.{found_row}
 use Rattle.bufmodel.proofs.RowsLaws.{row_is}
 use Rattle.bufmodel.proofs.SizesLaws.{rows-say}

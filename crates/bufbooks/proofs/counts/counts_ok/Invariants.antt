@@ -1,13 +1,10 @@
-use borrow.Author.Rules.{rules}
-use borrow.Author.Tests.{eq-eqb, ne_eqb}
 use mathlib.Core.Bool.{Bool, true}
 use mathlib.Core.List.{List}
-use mathlib.Core.Path.{◌≡◌, sym, ◌∙◌}
+use mathlib.Core.Path.{◌≡◌}
 use Prim.Native.Nat.{ℕ, ◌≤◌, ◌-◌}
 use lib.Dec.{eqb}
 use lib.ListN.{length, get_or}
 use Rattle.laws.specs.Every.{all}
-use Rattle.laws.proofs.Every.{all_none, all_more, all-fails, all-passes}
 use Rattle.bufmodel.specs.Word.{pins}
 use Rattle.bufmodel.specs.Counts.{holders_of}
 use Rattle.bufbooks.proofs.counts.counts_ok.Given as goal

@@ -1,14 +1,9 @@
 use borrow.Author.Rules.{rules}
 use borrow.Author.Tests.{eq-eqb, ne_eqb}
 use mathlib.Core.Bool.{Bool, not}
-use mathlib.Core.Logic.{⊎_elim}
-use mathlib.Core.Path.{◌≡◌, sym, ap}
-use Prim.Native.Nat.{ℕ, ◌≤◌, ◌-◌, ◌+◌, ◌*◌}
+use mathlib.Core.Path.{sym, ap}
+use Prim.Native.Nat.{ℕ, ◌*◌}
 use native.Mathlib.Omega.{arith}
-use lib.Dec.{eqb}
-use lib.ListN.{length, get_or}
-use mathlib.Core.List.{List}
-use Rattle.laws.specs.Sum.{count}
 use Rattle.laws.proofs.Sum.{count_none, count-hit, count-miss, count-done, count-le}
 use Rattle.bufmodel.specs.Counts.{max_holders, count_at, has_pin, holders_of}
 use Rattle.bufbooks.proofs.counts.holders_of.Goals.{else-counts-at-ne0, then-counts-at-ne0}

@@ -1,16 +1,11 @@
-use borrow.Author.Rules.{rules}
-use borrow.Author.Tests.{eq-eqb, ne_eqb}
 use mathlib.Core.Bool.{Bool, not}
-use mathlib.Core.Logic.{⊎_elim}
-use mathlib.Core.Path.{◌≡◌, sym, ap}
-use Prim.Native.Nat.{ℕ, ◌≤◌, ◌-◌, ◌+◌, ◌*◌}
-use native.Mathlib.Omega.{arith}
+use mathlib.Core.Path.{◌≡◌}
+use Prim.Native.Nat.{ℕ, ◌≤◌, ◌-◌, ◌+◌}
 use lib.Dec.{eqb}
 use lib.ListN.{length, get_or}
 use mathlib.Core.List.{List}
 use Rattle.laws.specs.Sum.{count}
-use Rattle.laws.proofs.Sum.{count_none, count-hit, count-miss, count-done, count-le}
-use Rattle.bufmodel.specs.Counts.{max_holders, count_at, has_pin, holders_of}
+use Rattle.bufmodel.specs.Counts.{max_holders}
 use Rattle.bufbooks.proofs.counts.holders_of.Given as goal
 
 -- the count of the holder h behind a place

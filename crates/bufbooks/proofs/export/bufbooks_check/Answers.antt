@@ -1,4 +1,3 @@
-use borrow.Author.Rules.{rules}
 use mathlib.Core.Path.{◌∙◌}
 use Rattle.bufbooks.proofs.LentLaws.{called-answer, called-control, called-read}
 use Rattle.bufbooks.proofs.export.bufbooks_check.Goals as goal

@@ -1,7 +1,7 @@
 use borrow.Author.Rules.{rules}
-use lib.ListN.{length, set, length-set}
+use lib.ListN.{set, length-set}
 use mathlib.Core.Path.{◌≡◌, refl, ap, sym, ◌∙◌}
-use Prim.Native.Nat.{ℕ, ◌≤◌, ◌-◌}
+use Prim.Native.Nat.{ℕ}
 use Rattle.laws.proofs.Tests.{at-end}
 use Rattle.bufmodel.specs.Rows.{files, file_at}
 use Rattle.bufbooks.specs.Guesses.{slot_of, guesses_of}

@@ -1,11 +1,7 @@
-use borrow.Author.Rules.{rules}
-use lib.ListN.{length, set, length-set}
-use mathlib.Core.Path.{◌≡◌, refl, ap, sym, ◌∙◌}
-use Prim.Native.Nat.{ℕ, ◌≤◌, ◌-◌}
-use Rattle.laws.proofs.Tests.{at-end}
-use Rattle.bufmodel.specs.Rows.{files, file_at}
-use Rattle.bufbooks.specs.Guesses.{slot_of, guesses_of}
-use Rattle.bufbooks.proofs.GuessesLaws.{guesses-more}
+use lib.ListN.{length}
+use mathlib.Core.Path.{◌≡◌}
+use Prim.Native.Nat.{◌≤◌, ◌-◌}
+use Rattle.bufbooks.specs.Guesses.{guesses_of}
 use Rattle.bufbooks.proofs.guesses.guess_rows.Given as goal
 
 abbrev pub invariant-loop-row : goal.invariant-loop-row

@@ -2,10 +2,9 @@ use borrow.Author.Rules.{rules}
 use borrow.Author.Count.{below_more}
 use borrow.Author.Tests.{eqb-true, not-false}
 use lib.Dec.{eqb}
-use lib.ListN.{length, get_or}
 use lib.Seq.{get_or-set_same, get_or-set_other}
 use Rattle.laws.proofs.Tests.{or-neither}
-use Rattle.bufmodel.specs.Rows.{files, file_at}
+use Rattle.bufmodel.specs.Rows.{files}
 use Rattle.bufmodel.proofs.SizesLaws.{rows-say}
 use Rattle.bufhash.specs.Bytes.{word_bytes}
 use Rattle.bufhash.specs.Fnv.{fnv, fnv_start}
@@ -13,10 +12,9 @@ use Rattle.buftag.specs.declared.name.FileName.{FileName}
 use Rattle.buftag.specs.Name.{file_bytes}
 use mathlib.Core.Bool.{not}
 use mathlib.Core.List.{◌++◌}
-use mathlib.Core.Logic.{⊎_elim}
 use mathlib.Core.Path.{◌≡◌, ap, sym, ◌∙◌}
 use native.Mathlib.Omega.{arith}
-use Prim.Native.Nat.{ℕ, ◌≤◌, ◌<◌, ◌-◌}
+use Prim.Native.Nat.{ℕ}
 use Rattle.bufbooks.proofs.hashes.hash_rows.Goals.{else-file-tablespace, then-file-tablespace}
 use Rattle.bufbooks.proofs.hashes.hash_rows.Invariants.{begun}
 use Rattle.bufbooks.proofs.hashes.hash_rows.Goals as goal
@@ -47,13 +45,13 @@ joined c =
     let l = c.loop-row in
     let file = c.file_at-file.result in
     elim c.if-file-tablespace.branch [
-      then-file-tablespace w ↦
-        let new = w.start-is ∙ w.hash_database-start-then-file-tablespace.ensures in
-        (new ∙ sym (same w.tablespace-is w.database-is), new)
-    | else-file-tablespace w ↦
-        let kept = or-neither (not (eqb file.tablespace l.tablespace)) _ w.if-file-tablespace.false in
-        let old = w.start-is ∙ l.invariant.2 in
-        (old ∙ sym (same w.tablespace-is w.database-is), old ∙ sym (same (eqb-true _ _ (not-false _ kept.0)) (eqb-true _ _ (not-false _ kept.1))))
+      | then-file-tablespace w ↦
+          let new = w.start-is ∙ w.hash_database-start-then-file-tablespace.ensures in
+          (new ∙ sym (same w.tablespace-is w.database-is), new)
+      | else-file-tablespace w ↦
+          let kept = or-neither (not (eqb file.tablespace l.tablespace)) _ w.if-file-tablespace.false in
+          let old = w.start-is ∙ l.invariant.2 in
+          (old ∙ sym (same w.tablespace-is w.database-is), old ∙ sym (same (eqb-true _ _ (not-false _ kept.0)) (eqb-true _ _ (not-false _ kept.1))))
     ]
 
 pub loop-row-preserved : goal.loop-row-preserved

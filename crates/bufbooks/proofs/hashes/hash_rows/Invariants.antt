@@ -1,21 +1,10 @@
-use borrow.Author.Rules.{rules}
-use borrow.Author.Count.{below_more}
-use borrow.Author.Tests.{eqb-true, not-false}
-use lib.Dec.{eqb}
 use lib.ListN.{length, get_or}
-use lib.Seq.{get_or-set_same, get_or-set_other}
-use Rattle.laws.proofs.Tests.{or-neither}
-use Rattle.bufmodel.specs.Rows.{files, file_at}
-use Rattle.bufmodel.proofs.SizesLaws.{rows-say}
+use Rattle.bufmodel.specs.Rows.{file_at}
 use Rattle.bufhash.specs.Bytes.{word_bytes}
 use Rattle.bufhash.specs.Fnv.{fnv, fnv_start}
-use Rattle.buftag.specs.declared.name.FileName.{FileName}
 use Rattle.buftag.specs.Name.{file_bytes}
-use mathlib.Core.Bool.{not}
 use mathlib.Core.List.{◌++◌}
-use mathlib.Core.Logic.{⊎_elim}
-use mathlib.Core.Path.{◌≡◌, ap, sym, ◌∙◌}
-use native.Mathlib.Omega.{arith}
+use mathlib.Core.Path.{◌≡◌}
 use Prim.Native.Nat.{ℕ, ◌≤◌, ◌<◌, ◌-◌}
 use Rattle.bufbooks.proofs.hashes.hash_rows.Given as goal
 

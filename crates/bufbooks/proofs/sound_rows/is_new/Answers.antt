@@ -3,10 +3,8 @@ use Rattle.bufmodel.specs.Sizes.{new_file}
 use Rattle.bufmodel.specs.Rows.{file_at}
 use Rattle.buftag.specs.Name.{same_file}
 use Rattle.laws.proofs.Every.{all_none, all_more, all-fails, all-passes}
-use Rattle.laws.specs.Every.{all}
-use mathlib.Core.Bool.{true, not}
-use mathlib.Core.Path.{ap, ◌≡◌, sym, ◌∙◌}
-use Prim.Native.Nat.{◌≤◌, ◌-◌}
+use mathlib.Core.Bool.{not}
+use mathlib.Core.Path.{ap, sym, ◌∙◌}
 use Rattle.bufbooks.proofs.sound_rows.is_new.Goals as goal
 
 pub loop-i-init : goal.loop-i-init

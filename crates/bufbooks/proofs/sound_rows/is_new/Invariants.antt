@@ -1,11 +1,8 @@
-use borrow.Author.Rules.{rules}
-use Rattle.bufmodel.specs.Sizes.{new_file}
 use Rattle.bufmodel.specs.Rows.{file_at}
 use Rattle.buftag.specs.Name.{same_file}
-use Rattle.laws.proofs.Every.{all_none, all_more, all-fails, all-passes}
 use Rattle.laws.specs.Every.{all}
 use mathlib.Core.Bool.{true, not}
-use mathlib.Core.Path.{ap, ◌≡◌, sym, ◌∙◌}
+use mathlib.Core.Path.{◌≡◌}
 use Prim.Native.Nat.{◌≤◌, ◌-◌}
 use Rattle.bufbooks.proofs.sound_rows.is_new.Given as goal
 

@@ -1,5 +1,3 @@
-use borrow.Author.Rules.{rules}
-use borrow.Author.Tests.{not-true, not-false}
 use Rattle.bufmem.proofs.RowsLaws.{row-fork, row-fill, row-rest}
 use Rattle.buftag.specs.Name.{is_fork}
 use Rattle.bufmodel.specs.Sizes.{new_file, sound_row}

@@ -1,4 +1,3 @@
-use borrow.Author.Rules.{rules}
 use Rattle.bufmem.proofs.RowsLaws.{rows-part, rows-many, rows-wide, rows-each}
 use Rattle.bufmodel.specs.Rows.{files}
 use mathlib.Core.Path.{◌∙◌}

@@ -1,11 +1,8 @@
 use borrow.Author.Rules.{rules}
-use lib.ListN.{length}
 use mathlib.Core.Bool.{Bool}
-use mathlib.Core.Logic.{⊎_elim}
-use mathlib.Core.Path.{◌≡◌, sym, ◌∙◌}
+use mathlib.Core.Path.{sym, ◌∙◌}
 use native.Mathlib.Omega.{arith}
-use Prim.Native.Nat.{ℕ, ◌≤◌, ◌-◌}
-use Rattle.laws.specs.Sum.{count}
+use Prim.Native.Nat.{ℕ}
 use Rattle.laws.proofs.Sum.{count_none, count-hit, count-miss, count-le}
 use Rattle.bufbooks.specs.Words.{fine_at}
 use Rattle.bufbooks.proofs.WordsLaws.{idle, idle-zero, idle-other, fine-read, words-done}

@@ -1,4 +1,3 @@
-use borrow.Author.Rules.{rules}
 use Rattle.bufbooks.proofs.WordsLaws.{fine-test}
 use Rattle.bufbooks.proofs.words.is_fine.Goals as goal
 

@@ -1,4 +1,3 @@
-use borrow.Author.Rules.{rules}
 use borrow.Author.Tests.{eq-eqb, ne_eqb}
 use Rattle.bufmodel.specs.Calls.{less_word}
 use Rattle.bufcalls.proofs.buffer.less_word.Goals as goal

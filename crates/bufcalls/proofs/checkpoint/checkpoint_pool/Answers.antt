@@ -1,4 +1,3 @@
-use borrow.Author.Rules.{rules}
 use mathlib.Core.List.{[]}
 use mathlib.Core.Path.{sym, ◌∙◌, ap}
 use Rattle.bufmodel.specs.declared.answer.Written.TheVariants.{Pages}

@@ -1,14 +1,7 @@
 use borrow.Author.Rules.{rules}
-use lib.ListN.{length, get_or}
-use mathlib.Core.Bool.{Bool}
-use mathlib.Core.List.{List}
-use mathlib.Core.Logic.{⊎_elim}
-use mathlib.Core.Path.{◌≡◌, sym, ◌∙◌}
+use mathlib.Core.Path.{sym, ◌∙◌}
 use native.Mathlib.Omega.{arith}
-use Prim.Native.Nat.{ℕ, ◌≤◌, ◌-◌}
-use Rattle.laws.specs.Sum.{count}
-use Rattle.laws.proofs.Sum.{count_none, count-hit, count-miss, count-done, count-le}
-use Rattle.bufmodel.specs.Word.{dirty}
+use Rattle.laws.proofs.Sum.{count_none, count-hit, count-miss, count-le}
 use Rattle.bufcalls.proofs.checkpoint.count_dirty.Goals.{else-is_dirty, then-is_dirty}
 use Rattle.bufcalls.proofs.checkpoint.count_dirty.Invariants.{marked}
 use Rattle.bufcalls.proofs.checkpoint.count_dirty.Goals as goal

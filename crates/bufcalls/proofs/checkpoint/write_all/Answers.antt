@@ -1,13 +1,11 @@
 use borrow.Author.Rules.{rules}
-use lib.ListN.{length}
 use mathlib.Core.List.{List, []}
-use mathlib.Core.Logic.{⊎_elim}
 use mathlib.Core.Path.{◌≡◌, refl, sym, ◌∙◌, ap, subst}
 use native.Mathlib.Omega.{arith}
-use Prim.Native.Nat.{ℕ, ◌≤◌, ◌<◌, ◌-◌}
+use Prim.Native.Nat.{ℕ, ◌<◌}
 use Rattle.bufmodel.specs.declared.control.Control.{Control}
 use Rattle.bufmodel.specs.Memory.{Memory, memory, buffers, with_counts}
-use Rattle.bufmodel.specs.Moves.{write_back, write_up_to}
+use Rattle.bufmodel.specs.Moves.{write_back}
 use Rattle.bufmoves.proofs.BackLaws.{back-clean}
 use Rattle.bufcalls.specs.Checkpoint.{Stored}
 use Rattle.bufcalls.proofs.CheckpointLaws.{UpTo, up_none, up_more, up_to, stored-backed}
@@ -67,13 +65,13 @@ loop-i-preserved c =
     let more = ap (λ (x : Memory). write_back x i) c.loop-i.invariant.1 ∙ up_more (entry-2 c) i in (
       search rules,
       elim c.if-is_dirty.branch [
-        then-is_dirty w ↦
-          let r = w.write_back-after in
-          let o : Memory = memory r.result r.new.states h.names h.pool [] [] [] h.rows r.new.store in
-          same o w.after-is w.states-is w.store-is ∙ r.ensures ∙ more
-      | else-is_dirty w ↦
-          same h w.after-is w.states-is w.store-is
-          ∙ back-clean h.control h.states h.names h.pool h.rows h.store i refl (sym c.is_dirty.ensures ∙ w.if-is_dirty.false)
-          ∙ more
+        | then-is_dirty w ↦
+            let r = w.write_back-after in
+            let o : Memory = memory r.result r.new.states h.names h.pool [] [] [] h.rows r.new.store in
+            same o w.after-is w.states-is w.store-is ∙ r.ensures ∙ more
+        | else-is_dirty w ↦
+            same h w.after-is w.states-is w.store-is
+            ∙ back-clean h.control h.states h.names h.pool h.rows h.store i refl (sym c.is_dirty.ensures ∙ w.if-is_dirty.false)
+            ∙ more
       ],
     )

@@ -1,14 +1,9 @@
 use borrow.Author.Rules.{rules}
-use Prim.Native.Nat.{◌≤◌, ◌-◌}
-use mathlib.Core.Path.{◌≡◌, sym, ap, ◌∙◌}
-use mathlib.Core.Logic.{⊎_elim}
-use mathlib.Core.Bool.{true, not, ◌&&◌}
-use lib.ListN.{length, get_or}
-use Rattle.laws.specs.Every.{all}
+use mathlib.Core.Path.{sym, ap, ◌∙◌}
 use Rattle.laws.proofs.Every.{all_none, all_more, any_found, any-done}
 use Rattle.laws.proofs.Tests.{and-true}
 use Rattle.bufmodel.specs.Word.{pinned}
-use Rattle.bufcalls.specs.File.{held_of, pinned_of}
+use Rattle.bufcalls.specs.File.{pinned_of}
 use Rattle.bufcalls.proofs.file.any_pinned.Goals as goal
 use Rattle.bufcalls.proofs.file.any_pinned.Goals.{then-is_of_file+else-is_pinned, else-is_of_file}
 
@@ -28,9 +23,9 @@ loop-i-preserved c =
       search rules,
       all_more _ _ c.loop-i.invariant.1
           (elim c.if-is_of_file.branch [
-            then-is_of_file+else-is_pinned w ↦
-              rw (sym h ∙ w.if-is_of_file.true, sym (w.is_pinned.ensures ∙ ap pinned w.state_of.ensures) ∙ w.if-is_pinned.false)
-          | else-is_of_file w ↦ rw (sym h ∙ w.if-is_of_file.false)
+            | then-is_of_file+else-is_pinned w ↦
+                rw (sym h ∙ w.if-is_of_file.true, sym (w.is_pinned.ensures ∙ ap pinned w.state_of.ensures) ∙ w.if-is_pinned.false)
+            | else-is_of_file w ↦ rw (sym h ∙ w.if-is_of_file.false)
           ]),
     )
 

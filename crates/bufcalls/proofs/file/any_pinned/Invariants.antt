@@ -1,14 +1,10 @@
-use borrow.Author.Rules.{rules}
 use Prim.Native.Nat.{◌≤◌, ◌-◌}
-use mathlib.Core.Path.{◌≡◌, sym, ap, ◌∙◌}
-use mathlib.Core.Logic.{⊎_elim}
+use mathlib.Core.Path.{◌≡◌}
 use mathlib.Core.Bool.{true, not, ◌&&◌}
 use lib.ListN.{length, get_or}
 use Rattle.laws.specs.Every.{all}
-use Rattle.laws.proofs.Every.{all_none, all_more, any_found, any-done}
-use Rattle.laws.proofs.Tests.{and-true}
 use Rattle.bufmodel.specs.Word.{pinned}
-use Rattle.bufcalls.specs.File.{held_of, pinned_of}
+use Rattle.bufcalls.specs.File.{held_of}
 use Rattle.bufcalls.proofs.file.any_pinned.Given as goal
 
 abbrev pub invariant-loop-i : goal.invariant-loop-i

@@ -1,4 +1,3 @@
-use borrow.Author.Rules.{rules}
 use native.Mathlib.Omega.{arith}
 use Prim.Native.Nat.{ℕ}
 use mathlib.Core.Path.{◌≡◌, sym, ◌∙◌}
@@ -105,12 +104,11 @@ good-4 : (c : goal.After-release_file-arg-5-1) → Good (lent-5 c)
 good-4 c = passed-good (lent-5 c) c.refusal-k.ensures c.if-k-ne0.false
 
 pub release_file-after-requires : goal.release_file-after-requires
-release_file-after-requires c =
-    (
-      good-sized (lent-5 c) (good-4 c),
-      good-sound (lent-5 c) (good-4 c),
-      sym c.any_pinned.ensures ∙ c.if-any_pinned.false,
-    )
+release_file-after-requires c = (
+  good-sized (lent-5 c) (good-4 c),
+  good-sound (lent-5 c) (good-4 c),
+  sym c.any_pinned.ensures ∙ c.if-any_pinned.false,
+)
 
 abbrev rows-2 : goal.After-set_blocks-arg-1 → List ℕ
 rows-2 c = c.args.rows.now

@@ -1,12 +1,7 @@
 use borrow.Author.Rules.{rules}
 use native.Mathlib.Omega.{arith}
-use Prim.Native.Nat.{◌≤◌, ◌-◌}
-use mathlib.Core.Path.{◌≡◌, sym, ◌∙◌, subst}
-use mathlib.Core.Logic.{⊎_elim}
-use lib.ListN.{length}
-use Rattle.laws.proofs.Tests.{at-end}
+use mathlib.Core.Path.{sym, ◌∙◌, subst}
 use Rattle.bufmodel.specs.Memory.{Memory, memory, with_counts}
-use Rattle.bufmodel.specs.Moves.{release_up_to}
 use Rattle.bufmodel.proofs.GoodLaws.{Good, good_of}
 use Rattle.bufcalls.proofs.FileLaws.{Way, way-up-to, file-chained, memory-same}
 use Rattle.bufmoves.proofs.WholeLaws.{release-whole}
@@ -104,14 +99,14 @@ loop-i-preserved c =
     let h = c.is_of_file.ensures in (
       search rules,
       elim c.if-is_of_file.branch [
-        then-is_of_file w ↦
-          let r = w.release_buffer-after in
-          let o : Memory = with_counts d.counts
-          (memory r.result r.new.states r.new.names d.pool r.new.free r.new.heads r.new.chain d.rows d.store) in
-          memory-same o w.after-is w.states-is w.names-is w.free-is w.heads-is w.chain-is
-          ∙ release-whole d i _ _ _ _ _ _ r.ensures ∙ released-hit m f i d e (sym h ∙ w.if-is_of_file.true)
-      | else-is_of_file w ↦
-          memory-same d w.after-is w.states-is w.names-is w.free-is w.heads-is w.chain-is
-          ∙ released-miss m f i d e (sym h ∙ w.if-is_of_file.false)
+        | then-is_of_file w ↦
+            let r = w.release_buffer-after in
+            let o : Memory = with_counts d.counts
+            (memory r.result r.new.states r.new.names d.pool r.new.free r.new.heads r.new.chain d.rows d.store) in
+            memory-same o w.after-is w.states-is w.names-is w.free-is w.heads-is w.chain-is
+            ∙ release-whole d i _ _ _ _ _ _ r.ensures ∙ released-hit m f i d e (sym h ∙ w.if-is_of_file.true)
+        | else-is_of_file w ↦
+            memory-same d w.after-is w.states-is w.names-is w.free-is w.heads-is w.chain-is
+            ∙ released-miss m f i d e (sym h ∙ w.if-is_of_file.false)
       ],
     )

@@ -1,16 +1,7 @@
-use borrow.Author.Rules.{rules}
-use native.Mathlib.Omega.{arith}
 use Prim.Native.Nat.{◌≤◌, ◌-◌}
-use mathlib.Core.Path.{◌≡◌, sym, ◌∙◌, subst}
-use mathlib.Core.Logic.{⊎_elim}
-use lib.ListN.{length}
-use Rattle.laws.proofs.Tests.{at-end}
-use Rattle.bufmodel.specs.Memory.{Memory, memory, with_counts}
+use mathlib.Core.Path.{◌≡◌}
+use Rattle.bufmodel.specs.Memory.{memory, with_counts}
 use Rattle.bufmodel.specs.Moves.{release_up_to}
-use Rattle.bufmodel.proofs.GoodLaws.{Good, good_of}
-use Rattle.bufcalls.proofs.FileLaws.{Way, way-up-to, file-chained, memory-same}
-use Rattle.bufmoves.proofs.WholeLaws.{release-whole}
-use Rattle.bufcalls.proofs.FileLaws.{released-none, released-hit, released-miss}
 use Rattle.bufcalls.proofs.file.release_file.Given as goal
 
 abbrev pub invariant-loop-i : goal.invariant-loop-i

@@ -1,12 +1,8 @@
-use borrow.Author.Rules.{rules}
 use lib.ListN.{length}
-use mathlib.Core.Path.{◌≡◌, sym, ◌∙◌, ap, subst}
+use mathlib.Core.Path.{◌≡◌}
 use Prim.Native.Nat.{◌≤◌, ◌-◌}
-use Rattle.laws.proofs.Tests.{at-end}
-use Rattle.bufmodel.specs.Memory.{Memory}
-use Rattle.bufmodel.specs.Calls.{give_at, give_up_to}
+use Rattle.bufmodel.specs.Calls.{give_up_to}
 use Rattle.bufcalls.specs.Give.{pins_part}
-use Rattle.bufcalls.proofs.GiveLaws.{Way, give-none, give-more, way-up-to, next-asked}
 use Rattle.bufcalls.proofs.give.give_all.Given as goal
 
 abbrev pub invariant-loop-i : goal.invariant-loop-i

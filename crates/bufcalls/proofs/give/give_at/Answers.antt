@@ -1,6 +1,4 @@
-use borrow.Author.Rules.{rules}
 use mathlib.Core.Path.{ap, ◌∙◌}
-use Rattle.bufmodel.specs.Word.{pinned}
 use Rattle.bufmodel.specs.Calls.{given_word}
 use Rattle.bufcalls.proofs.GiveLaws.{gave}
 use Rattle.bufcalls.proofs.give.give_at.Goals as goal

@@ -1,10 +1,9 @@
 use borrow.Author.Rules.{rules}
 use lib.IntN.{pos}
-use lib.ListN.{length, length-set, replicate, length-replicate, get_or-replicate}
-use mathlib.Core.Path.{◌≡◌, sym, ◌∙◌}
-use Prim.Native.Nat.{◌≤◌, ◌-◌}
+use lib.ListN.{length, replicate, length-replicate}
+use mathlib.Core.Path.{sym, ◌∙◌}
 use Rattle.buftag.specs.Link.{none}
-use Rattle.laws.proofs.Fill.{Filled, fill_none, fill_more, fill_done}
+use Rattle.laws.proofs.Fill.{fill_done}
 use Rattle.bufcalls.proofs.set_up.clear_links.Goals as goal
 
 pub returns : goal.returns

@@ -1,10 +1,9 @@
-use borrow.Author.Rules.{rules}
 use lib.IntN.{pos}
-use lib.ListN.{length, length-set, replicate, length-replicate, get_or-replicate}
-use mathlib.Core.Path.{◌≡◌, sym, ◌∙◌}
+use lib.ListN.{length, replicate}
+use mathlib.Core.Path.{◌≡◌}
 use Prim.Native.Nat.{◌≤◌, ◌-◌}
 use Rattle.buftag.specs.Link.{none}
-use Rattle.laws.proofs.Fill.{Filled, fill_none, fill_more, fill_done}
+use Rattle.laws.proofs.Fill.{Filled}
 use Rattle.bufcalls.proofs.set_up.clear_links.Given as goal
 
 abbrev pub invariant-loop-i : goal.invariant-loop-i

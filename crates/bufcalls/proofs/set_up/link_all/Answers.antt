@@ -3,14 +3,14 @@ use lib.IntN.{pos}
 use lib.ListN.{length, length-set, get_or, set}
 use mathlib.Core.Path.{◌≡◌, refl, sym, ◌∙◌, ap, subst}
 use native.Mathlib.Omega.{arith}
-use Prim.Native.Nat.{ℕ, zero, suc, ◌+◌, ◌-◌, ◌<◌, ◌≤◌}
+use Prim.Native.Nat.{ℕ, zero, suc, ◌+◌, ◌-◌, ◌<◌}
 use mir.Syntax.{w32}
 use mir.Val.{to_z}
 use Rattle.buftag.specs.Link.{none}
 use Rattle.buftag.proofs.SignedLaws.{index_back}
 use Rattle.bufmodel.specs.Calls.{free_links}
 use Rattle.bufmodel.proofs.FreshLaws.{length-free_links}
-use Rattle.laws.proofs.Fill.{Filled, fill_none, fill_more, fill_done}
+use Rattle.laws.proofs.Fill.{Filled, fill_more, fill_done}
 use Rattle.bufcalls.proofs.set_up.link_all.Goals as goal
 
 -- a link is the next buffer's number, the last one none

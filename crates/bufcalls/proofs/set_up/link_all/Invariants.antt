@@ -1,16 +1,9 @@
-use borrow.Author.Rules.{rules}
 use lib.IntN.{pos}
-use lib.ListN.{length, length-set, get_or, set}
-use mathlib.Core.Path.{◌≡◌, refl, sym, ◌∙◌, ap, subst}
-use native.Mathlib.Omega.{arith}
-use Prim.Native.Nat.{ℕ, zero, suc, ◌+◌, ◌-◌, ◌<◌, ◌≤◌}
-use mir.Syntax.{w32}
-use mir.Val.{to_z}
-use Rattle.buftag.specs.Link.{none}
-use Rattle.buftag.proofs.SignedLaws.{index_back}
+use lib.ListN.{length}
+use mathlib.Core.Path.{◌≡◌}
+use Prim.Native.Nat.{◌-◌, ◌≤◌}
 use Rattle.bufmodel.specs.Calls.{free_links}
-use Rattle.bufmodel.proofs.FreshLaws.{length-free_links}
-use Rattle.laws.proofs.Fill.{Filled, fill_none, fill_more, fill_done}
+use Rattle.laws.proofs.Fill.{Filled}
 use Rattle.bufcalls.proofs.set_up.link_all.Given as goal
 
 abbrev pub invariant-loop-i : goal.invariant-loop-i

@@ -1,8 +1,7 @@
-use borrow.Author.Rules.{rules}
-use lib.ListN.{length, length-set, get_or}
-use mathlib.Core.Path.{◌≡◌, refl, ◌∙◌}
+use lib.ListN.{length}
+use mathlib.Core.Path.{◌≡◌}
 use Prim.Native.Nat.{◌≤◌, ◌-◌}
-use Rattle.laws.proofs.Fill.{Filled, fill_none, fill_more, fill_done}
+use Rattle.laws.proofs.Fill.{Filled}
 use Rattle.bufmem.proofs.block.copy_bytes.Given as goal
 
 abbrev pub invariant-loop-i : goal.invariant-loop-i

@@ -1,7 +1,5 @@
-use native.Mathlib.Omega.{arith}
 use borrow.Author.Rules.{rules}
-use mathlib.Core.Path.{◌≡◌, refl, ap, ap₂, ◌∙◌}
-use Prim.Native.Nat.{◌≤◌, ◌-◌}
+use mathlib.Core.Path.{refl, ap, ap₂, ◌∙◌}
 use lib.Bits.{bit_xor}
 use Rattle.bufmodel.specs.Checksum.{mix_sum}
 use Rattle.bufmem.specs.Checksum.{fold_all}

@@ -1,11 +1,6 @@
-use native.Mathlib.Omega.{arith}
-use borrow.Author.Rules.{rules}
-use mathlib.Core.Path.{◌≡◌, refl, ap, ap₂, ◌∙◌}
+use mathlib.Core.Path.{◌≡◌}
 use Prim.Native.Nat.{◌≤◌, ◌-◌}
-use lib.Bits.{bit_xor}
-use Rattle.bufmodel.specs.Checksum.{mix_sum}
 use Rattle.bufmem.specs.Checksum.{fold_all}
-use Rattle.bufmem.proofs.ChecksumLaws.{fold_more}
 use Rattle.bufmem.proofs.checksum.fold_sums.Given as goal
 
 abbrev pub invariant-loop-j : goal.invariant-loop-j

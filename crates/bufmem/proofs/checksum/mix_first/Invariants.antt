@@ -1,11 +1,6 @@
-use borrow.Author.Rules.{rules}
-use borrow.Author.Count.{below_more}
-use mathlib.Core.Path.{◌≡◌, refl, ◌∙◌}
-use native.Mathlib.Omega.{arith}
+use mathlib.Core.Path.{◌≡◌}
 use Prim.Native.Nat.{ℕ, ◌-◌, ◌≤◌, ◌<◌}
-use lib.ListN.{length, get_or, set, length-set}
-use lib.Seq.{get_or-set_same, get_or-set_other}
-use Rattle.bufmem.proofs.ChecksumLaws.{mixed-first}
+use lib.ListN.{length, get_or}
 use Rattle.bufmem.proofs.checksum.mix_first.Given as goal
 
 abbrev pub invariant-loop-i : goal.invariant-loop-i

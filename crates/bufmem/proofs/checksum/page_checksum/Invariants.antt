@@ -1,14 +1,6 @@
-use borrow.Author.Rules.{rules}
-use mathlib.Core.Path.{◌≡◌, ap, ◌∙◌}
-use native.Mathlib.Omega.{arith}
-use Prim.Native.Nat.{ℕ, ◌+◌, ◌*◌, ◌/◌, ◌%◌, ◌-◌, ◌≤◌}
-use lib.Bits.{bit_xor}
-use lib.ListN.{length}
-use Rattle.laws.proofs.Tests.{at-end}
-use Rattle.bufmodel.specs.Checksum.{bare, checksum, sums}
+use Prim.Native.Nat.{◌-◌, ◌≤◌}
+use Rattle.bufmodel.specs.Checksum.{bare}
 use Rattle.bufmem.specs.Checksum.{Summed}
-use Rattle.bufmodel.proofs.ChecksumLaws.{length-bare}
-use Rattle.bufmem.proofs.ChecksumLaws.{summed-start, summed-more, mixed-behind, fold_same}
 use Rattle.bufmem.proofs.checksum.page_checksum.Given as goal
 
 abbrev pub invariant-loop-i : goal.invariant-loop-i

@@ -1,4 +1,3 @@
-use borrow.Author.Rules.{rules}
 use Rattle.buftag.proofs.SignedLaws.{bits_back}
 use Rattle.bufmem.specs.Control.{control_read}
 use Rattle.bufmem.proofs.control.read_control.Goals as goal

@@ -1,4 +1,4 @@
-use Rattle.buftag.proofs.SignedLaws.{bits_back, casts}
+use Rattle.buftag.proofs.SignedLaws.{bits_back}
 use Rattle.bufmem.proofs.ControlLaws.{top-negative, top-place}
 use Rattle.bufmem.proofs.control.top_word.Goals as goal
 

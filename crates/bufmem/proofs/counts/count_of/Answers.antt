@@ -1,4 +1,3 @@
-use borrow.Author.Rules.{rules}
 use mathlib.Core.Path.{refl}
 use Rattle.bufmodel.specs.Counts.{count_at}
 use Rattle.bufmem.proofs.counts.count_of.Goals as goal

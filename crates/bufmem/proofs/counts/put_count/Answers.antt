@@ -1,4 +1,3 @@
-use borrow.Author.Rules.{rules}
 use mathlib.Core.Path.{refl}
 use Rattle.bufmodel.specs.Counts.{set_count}
 use Rattle.bufmem.proofs.counts.put_count.Goals as goal

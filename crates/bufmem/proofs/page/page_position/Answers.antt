@@ -1,4 +1,3 @@
-use borrow.Author.Rules.{rules}
 use mathlib.Core.Path.{◌∙◌}
 use Rattle.bufmem.proofs.PositionLaws.{position-block}
 use Rattle.bufmem.proofs.page.page_position.Goals as goal

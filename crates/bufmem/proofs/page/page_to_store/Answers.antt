@@ -6,7 +6,6 @@ use Rattle.laws.specs.Block.{block, put_block}
 use Rattle.bufmodel.specs.Checksum.{sealed}
 use Rattle.laws.proofs.Block.{length-within}
 use Rattle.bufmem.proofs.SealLaws.{put-changed}
-use borrow.Author.Rules.{rules}
 use Rattle.bufmem.proofs.page.page_to_store.Goals as goal
 
 pub returns : goal.returns

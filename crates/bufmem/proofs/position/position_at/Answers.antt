@@ -1,6 +1,5 @@
 use Rattle.bufmem.proofs.PositionLaws.{position-words}
 use native.Mathlib.Omega.{arith}
-use borrow.Author.Rules.{rules}
 use Rattle.bufmem.proofs.position.position_at.Goals as goal
 
 pub returns : goal.returns

@@ -3,7 +3,6 @@ use Rattle.bufhash.specs.Bytes.{word_bytes}
 use Prim.Native.Nat.{◌+◌, ◌/◌, ◌%◌, ◌^◌}
 use mathlib.Core.Path.{◌≡◌, ap, ◌∙◌}
 use lib.Seq.{sets}
-use borrow.Author.Rules.{rules}
 use Rattle.bufmem.proofs.position.put_position.Goals as goal
 
 pub returns : goal.returns

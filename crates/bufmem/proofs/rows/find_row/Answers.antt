@@ -3,10 +3,10 @@ use Rattle.bufmem.specs.Rows.{found_row}
 use Rattle.bufmodel.specs.Rows.{row_of, files, file_at}
 use Rattle.buftag.specs.Name.{same_file}
 use Rattle.laws.proofs.First.{first-none, first_more, first-hit, first-end}
-use Rattle.laws.specs.First.{first, missing}
+use Rattle.laws.specs.First.{first}
 use mathlib.Core.Path.{◌≡◌, sym, ◌∙◌, ap}
 use native.Mathlib.Omega.{arith}
-use Prim.Native.Nat.{ℕ, ◌+◌, ◌≤◌, ◌-◌}
+use Prim.Native.Nat.{ℕ, ◌+◌}
 use Rattle.bufmem.proofs.rows.find_row.Goals as goal
 
 pub loop-row-init : goal.loop-row-init

@@ -1,12 +1,8 @@
-use borrow.Author.Rules.{rules}
-use Rattle.bufmem.specs.Rows.{found_row}
-use Rattle.bufmodel.specs.Rows.{row_of, files, file_at}
+use Rattle.bufmodel.specs.Rows.{file_at}
 use Rattle.buftag.specs.Name.{same_file}
-use Rattle.laws.proofs.First.{first-none, first_more, first-hit, first-end}
 use Rattle.laws.specs.First.{first, missing}
-use mathlib.Core.Path.{◌≡◌, sym, ◌∙◌, ap}
-use native.Mathlib.Omega.{arith}
-use Prim.Native.Nat.{ℕ, ◌+◌, ◌≤◌, ◌-◌}
+use mathlib.Core.Path.{◌≡◌}
+use Prim.Native.Nat.{◌≤◌, ◌-◌}
 use Rattle.bufmem.proofs.rows.find_row.Given as goal
 
 abbrev pub invariant-loop-row : goal.invariant-loop-row

@@ -1,8 +1,5 @@
-use borrow.Author.Rules.{rules}
 use Rattle.bufmem.proofs.RowsLaws.{other-relation}
 use Rattle.bufmodel.specs.Rows.{file_at}
-use Rattle.buftag.specs.Name.{same_file}
-use mathlib.Core.Path.{ap, ◌∙◌}
 use Rattle.bufmem.proofs.rows.is_file.Goals as goal
 
 pub returns-then-rows-row : goal.returns-then-rows-row

@@ -1,9 +1,8 @@
 use borrow.Author.Rules.{rules}
 use Rattle.bufmodel.specs.Rows.{start_of, capacity_at}
-use Rattle.laws.proofs.Sum.{sum-none, sum-one-more, sum_done}
+use Rattle.laws.proofs.Sum.{sum-none, sum-one-more}
 use native.Mathlib.Omega.{arith}
-use mathlib.Core.Path.{◌≡◌, sym}
-use Prim.Native.Nat.{◌≤◌, ◌-◌, ◌*◌}
+use mathlib.Core.Path.{sym}
 use Rattle.bufmem.proofs.rows.start_of.Goals as goal
 
 pub loop-i-init : goal.loop-i-init

@@ -1,8 +1,5 @@
-use borrow.Author.Rules.{rules}
-use Rattle.bufmodel.specs.Rows.{start_of, capacity_at}
-use Rattle.laws.proofs.Sum.{sum-none, sum-one-more, sum_done}
-use native.Mathlib.Omega.{arith}
-use mathlib.Core.Path.{◌≡◌, sym}
+use Rattle.bufmodel.specs.Rows.{start_of}
+use mathlib.Core.Path.{◌≡◌}
 use Prim.Native.Nat.{◌≤◌, ◌-◌, ◌*◌}
 use Rattle.bufmem.proofs.rows.start_of.Given as goal
 

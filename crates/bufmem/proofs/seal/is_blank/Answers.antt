@@ -1,6 +1,3 @@
-use borrow.Author.Rules.{rules}
-use borrow.Author.Tests.{not-true}
-use lib.Seq.{length-take-le}
 use mathlib.Core.Path.{sym, ◌∙◌}
 use Rattle.bufmodel.proofs.ChecksumLaws.{zero-not}
 use Rattle.bufmem.proofs.seal.is_blank.Goals as goal

@@ -4,7 +4,7 @@ use lib.ListN.{length, get_or}
 use mathlib.Core.Bool.{Bool, ◌&&◌}
 use mathlib.Core.Path.{◌≡◌, sym, ap, ◌∙◌}
 use native.Mathlib.Omega.{arith}
-use Prim.Native.Nat.{ℕ, ◌≤◌, ◌-◌}
+use Prim.Native.Nat.{ℕ}
 use Rattle.laws.specs.Every.{all}
 use Rattle.laws.proofs.Every.{all_none, all-one-more}
 use Rattle.bufmodel.proofs.ChecksumLaws.{zero-every}

@@ -1,13 +1,8 @@
-use borrow.Author.Rules.{rules}
 use lib.Dec.{eqb}
 use lib.ListN.{length, get_or}
-use mathlib.Core.Bool.{Bool, ◌&&◌}
-use mathlib.Core.Path.{◌≡◌, sym, ap, ◌∙◌}
-use native.Mathlib.Omega.{arith}
-use Prim.Native.Nat.{ℕ, ◌≤◌, ◌-◌}
+use mathlib.Core.Path.{◌≡◌}
+use Prim.Native.Nat.{◌≤◌, ◌-◌}
 use Rattle.laws.specs.Every.{all}
-use Rattle.laws.proofs.Every.{all_none, all-one-more}
-use Rattle.bufmodel.proofs.ChecksumLaws.{zero-every}
 use Rattle.bufmem.proofs.seal.is_clear.Given as goal
 
 abbrev pub invariant-loop-i : goal.invariant-loop-i

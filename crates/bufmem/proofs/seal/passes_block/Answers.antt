@@ -2,7 +2,6 @@ use native.Mathlib.Nat.{add-sub_cancel_left}
 use Prim.Native.Nat.{◌*◌}
 use mathlib.Core.Path.{◌∙◌}
 use Rattle.laws.specs.Block.{block}
-use borrow.Author.Rules.{rules}
 use Rattle.bufmem.proofs.seal.passes_block.Goals as goal
 
 pub returns : goal.returns

@@ -1,9 +1,7 @@
-use native.Mathlib.Omega.{arith}
 use lib.Dec.{eqb}
 use mathlib.Core.Path.{ap, ◌∙◌}
 use Rattle.bufmodel.specs.Checksum.{sum_in}
 use Rattle.bufmodel.proofs.ChecksumLaws.{passes-unsummed, passes-summed}
-use borrow.Author.Rules.{rules}
 use Rattle.bufmem.proofs.seal.passes_page.Goals as goal
 
 pub returns-then-s-eq0 : goal.returns-then-s-eq0

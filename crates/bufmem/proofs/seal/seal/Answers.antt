@@ -1,12 +1,10 @@
 use native.Mathlib.Omega.{arith}
-use lib.ListN.{length-set}
 use mathlib.Core.Path.{sym, ap, ◌∙◌}
 use Prim.Native.Nat.{ℕ}
 use lib.Seq.{sets}
 use Rattle.bufmodel.specs.Checksum.{checksum, sum_bytes}
 use Rattle.bufmodel.proofs.ChecksumLaws.{checksum-most, sealed-zero, sealed-summed}
 use Rattle.bufmem.proofs.PositionLaws.{sets-paste}
-use borrow.Author.Rules.{rules}
 use Rattle.bufmem.proofs.seal.seal.Goals as goal
 
 pub returns-then-is_blank : goal.returns-then-is_blank

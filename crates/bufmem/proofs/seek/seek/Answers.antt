@@ -1,4 +1,3 @@
-use borrow.Author.Rules.{rules}
 use mathlib.Core.Path.{sym, ◌∙◌, ap}
 use Rattle.bufmem.specs.Seek.{sought_at, sought}
 use Rattle.bufmem.proofs.seek.seek.Goals as goal

@@ -1,4 +1,3 @@
-use borrow.Author.Rules.{rules}
 use Rattle.bufmodel.specs.Word.{pinned}
 use Rattle.bufmem.proofs.word.is_pinned.Goals as goal
 

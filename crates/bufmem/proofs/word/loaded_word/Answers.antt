@@ -1,6 +1,5 @@
 use Rattle.bufmodel.specs.Word.{loaded, pack}
 use mathlib.Core.Path.{refl}
-use borrow.Author.Rules.{rules}
 use Rattle.bufmem.proofs.word.loaded_word.Goals as goal
 
 pub returns : goal.returns

@@ -1,7 +1,6 @@
 use Rattle.bufmem.proofs.WordLaws.{other-flags}
 use Rattle.bufmodel.specs.Word.{make_dirty, dirty_flags}
 use mathlib.Core.Path.{sym}
-use borrow.Author.Rules.{rules}
 use Rattle.bufmem.proofs.word.make_dirty.Goals as goal
 
 pub returns : goal.returns

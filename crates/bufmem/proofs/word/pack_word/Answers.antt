@@ -1,4 +1,3 @@
-use borrow.Author.Rules.{rules}
 use Rattle.bufmodel.specs.Word.{pack}
 use mathlib.Core.Path.{refl}
 use Rattle.bufmem.proofs.word.pack_word.Goals as goal

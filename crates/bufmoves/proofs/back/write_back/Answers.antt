@@ -1,5 +1,3 @@
-use borrow.Author.Rules.{rules}
-use borrow.Author.Tests.{not-true, not-false}
 use mathlib.Core.Path.{sym, ◌∙◌}
 use Rattle.bufmoves.proofs.BackLaws.{back-clean, back-dirty}
 use Rattle.bufmoves.proofs.back.write_back.Goals as goal

@@ -2,13 +2,10 @@ use borrow.Author.Rules.{rules}
 use lib.ListN.{length, length-set}
 use native.Mathlib.Omega.{arith}
 use mathlib.Core.Path.{◌≡◌, refl, sym, ◌∙◌, ap}
-use Prim.Native.Nat.{◌+◌, ◌*◌, ◌≤◌, ◌<◌, ◌-◌}
-use Rattle.bufmodel.specs.Word.{max_cap}
-use Rattle.bufmodel.specs.Sizes.{max_buffers}
 use Rattle.bufmodel.specs.Sweep.{Swept, sweep, sweep_all}
 use Rattle.bufmodel.proofs.SweepLaws.{next-lt}
 use Rattle.bufmoves.specs.Sweep.{victim_of}
-use Rattle.bufmoves.proofs.SweepLaws.{probes-few, sweep-end, sweep-stop, sweep-pass, sweep-take, sweep-lower}
+use Rattle.bufmoves.proofs.SweepLaws.{sweep-end, sweep-stop, sweep-pass, sweep-take, sweep-lower}
 use Rattle.bufmoves.proofs.sweep.sweep.Goals as goal
 
 pub loop-probes-init : goal.loop-probes-init

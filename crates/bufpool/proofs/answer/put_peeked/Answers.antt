@@ -1,4 +1,3 @@
-use borrow.Author.Rules.{rules}
 use mathlib.Core.Path.{sym, ◌∙◌, ap}
 use Rattle.bufmodel.specs.Answer.{peeked_number, peeked_words}
 use Rattle.bufpool.proofs.answer.put_peeked.Goals as goal

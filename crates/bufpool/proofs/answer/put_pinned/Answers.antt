@@ -1,4 +1,3 @@
-use borrow.Author.Rules.{rules}
 use mathlib.Core.Path.{sym, ◌∙◌, ap}
 use Rattle.bufmodel.specs.Answer.{pinned_number, pinned_words}
 use Rattle.bufpool.proofs.AnswerLaws.{pin-words}

@@ -1,4 +1,3 @@
-use borrow.Author.Rules.{rules}
 use borrow.Author.Tests.{eq-eqb, ne_eqb}
 use Rattle.bufpool.specs.Lent.{kept_words}
 use Rattle.bufpool.proofs.control.keep_control.Goals as goal

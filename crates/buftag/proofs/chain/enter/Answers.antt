@@ -2,7 +2,6 @@ use Rattle.buftag.proofs.SignedLaws.{element-back, index_back}
 use Rattle.buftag.specs.Chain.{enter_heads, enter_chain}
 use lib.ListN.{set}
 use mathlib.Core.Path.{ap}
-use borrow.Author.Rules.{rules}
 use Rattle.buftag.proofs.chain.enter.Goals as goal
 
 pub returns : goal.returns

@@ -1,15 +1,11 @@
 use Rattle.buftag.proofs.NameLaws.{bucket-lt}
-use Rattle.buftag.specs.Chain.{enter_heads, enter_chain}
 use lib.ListN.{length}
-use mathlib.Core.Path.{◌∙◌, ap}
 use native.Mathlib.Omega.{arith}
-use borrow.Author.Rules.{rules}
 use Rattle.buftag.proofs.chain.insert.Goals as goal
 
 pub enter-requires : goal.enter-requires
-enter-requires c =
-    (
-      omega (arith, c.bucket-b.ensures, bucket-lt c.args.name (length c.args.heads.now) c.requires.0),
-      c.requires.1,
-      c.requires.2,
-    )
+enter-requires c = (
+  omega (arith, c.bucket-b.ensures, bucket-lt c.args.name (length c.args.heads.now) c.requires.0),
+  c.requires.1,
+  c.requires.2,
+)

@@ -2,7 +2,6 @@ use Rattle.buftag.specs.Chain.{leave_chain}
 use Rattle.buftag.specs.Link.{none}
 use lib.ListN.{set}
 use mathlib.Core.Path.{ap}
-use borrow.Author.Rules.{rules}
 use Rattle.buftag.proofs.chain.leave.Goals as goal
 
 pub returns : goal.returns

@@ -1,11 +1,7 @@
-use borrow.Author.Rules.{rules}
-use Rattle.buftag.proofs.LeaveSteps.{prev-none, prev-other, prev-past, prev-hit, prev-on}
 use Rattle.buftag.specs.Chain.{prev}
-use Rattle.buftag.specs.Link.{is_to}
 use lib.ListN.{length}
-use mathlib.Core.Path.{◌≡◌, sym, ◌∙◌, ap}
+use mathlib.Core.Path.{◌≡◌}
 use Prim.Native.Nat.{◌≤◌}
-use native.Mathlib.Omega.{arith}
 use Rattle.buftag.proofs.chain.prev_of.Given as goal
 
 abbrev pub invariant-loop-left : goal.invariant-loop-left

@@ -1,14 +1,10 @@
 use Rattle.buftag.proofs.NameLaws.{bucket-lt}
-use Rattle.buftag.specs.Chain.{past_heads, leave_chain}
 use lib.ListN.{length}
-use mathlib.Core.Path.{◌∙◌, ap}
 use native.Mathlib.Omega.{arith}
-use borrow.Author.Rules.{rules}
 use Rattle.buftag.proofs.chain.remove.Goals as goal
 
 pub leave-requires : goal.leave-requires
-leave-requires c =
-    (
-      omega (arith, c.bucket-b.ensures, bucket-lt c.args.name (length c.args.heads.now) c.requires.0),
-      c.requires.1,
-    )
+leave-requires c = (
+  omega (arith, c.bucket-b.ensures, bucket-lt c.args.name (length c.args.heads.now) c.requires.0),
+  c.requires.1,
+)

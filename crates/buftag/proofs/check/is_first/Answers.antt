@@ -1,9 +1,4 @@
-use Rattle.buftag.proofs.FirstLaws.{link-other, first-own}
-use Rattle.buftag.proofs.SignedLaws.{bits_back}
-use Rattle.buftag.specs.Check.{is_first}
-use Rattle.buftag.specs.Link.{link_of}
-use mathlib.Core.Path.{◌∙◌, ap}
-use borrow.Author.Rules.{rules}
+use Rattle.buftag.proofs.FirstLaws.{first-own}
 use Rattle.buftag.proofs.check.is_first.Goals as goal
 
 pub returns-then-first-buffer : goal.returns-then-first-buffer

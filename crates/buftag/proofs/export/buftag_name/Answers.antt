@@ -2,9 +2,8 @@ use Rattle.buftag.proofs.NamesLaws.{name-whole}
 use Rattle.buftag.specs.Name.{name_size}
 use Rattle.buftag.specs.Names.{name_words, words_of}
 use lib.ListN.{length}
-use mathlib.Core.Path.{refl, ◌∙◌, ap}
-use borrow.Author.Tests.{eq-eqb, ne_eqb}
-use borrow.Author.Rules.{rules}
+use mathlib.Core.Path.{◌∙◌, ap}
+use borrow.Author.Tests.{eq-eqb}
 use Rattle.buftag.proofs.export.buftag_name.Goals as goal
 
 pub returns-clause-words_after : goal.returns-clause-words_after

@@ -1,16 +1,11 @@
-use Rattle.laws.specs.Sum.{count}
 use Rattle.laws.proofs.Sum.{count_none, count-hit, count-miss, count-done, count-le}
-use Rattle.buftag.specs.Link.{link_at, is_end}
 use Rattle.buftag.specs.Check.{leading}
 use Rattle.buftag.proofs.SignedLaws.{end_test}
-use Prim.Native.Nat.{ℕ, ◌≤◌, ◌-◌}
 use native.Mathlib.Omega.{arith}
-use lib.IntN.{ℤ, pos}
-use lib.ListN.{length, get_or}
-use mathlib.Core.Bool.{Bool, not}
-use mathlib.Core.List.{List}
-use mathlib.Core.Logic.{⊎_elim}
-use mathlib.Core.Path.{◌≡◌, ap, sym, ◌∙◌}
+use lib.IntN.{pos}
+use lib.ListN.{get_or}
+use mathlib.Core.Bool.{not}
+use mathlib.Core.Path.{ap, sym, ◌∙◌}
 use borrow.Author.Rules.{rules}
 use borrow.Author.Tests.{eq-eqb, ne_eqb}
 use Rattle.buftag.proofs.lead.leading.Invariants.{on}
@@ -27,8 +22,8 @@ loop-i-preserved c =
     let told = sym (end_test (get_or links i (pos 0)) (record { sfits = c.t7-1.given })) in (
       search rules,
       elim c.if-links-i.branch [
-        then-links-i w ↦ omega (arith, w.many-is, count-hit (on links) i (ap not (told ∙ ne_eqb _ _ w.if-links-i.true)))
-      | else-links-i w ↦ omega (arith, w.many-is, count-miss (on links) i (ap not (told ∙ eq-eqb _ _ w.if-links-i.false)))
+        | then-links-i w ↦ omega (arith, w.many-is, count-hit (on links) i (ap not (told ∙ ne_eqb _ _ w.if-links-i.true)))
+        | else-links-i w ↦ omega (arith, w.many-is, count-miss (on links) i (ap not (told ∙ eq-eqb _ _ w.if-links-i.false)))
       ],
     )
 
@@ -38,4 +33,3 @@ overflow_add-many c = omega (arith, count-le (on c.args.links.now) c.loop-i.i)
 pub returns : goal.returns
 unfolding leading
 returns c = count-done _ _ _ _ c.loop-i.invariant.0 (search rules) c.loop-i.invariant.1
-

@@ -1,9 +1,6 @@
 use borrow.Author.Rules.{rules}
 use Rattle.buftag.proofs.WalkLaws.{walk_none, walk-other, walk-past, walk-found, walk-next}
-use Rattle.buftag.specs.Lookup.{walk}
-use lib.ListN.{length}
 use mathlib.Core.Path.{◌≡◌, sym, ◌∙◌}
-use Prim.Native.Nat.{◌≤◌}
 use native.Mathlib.Omega.{arith}
 use Rattle.buftag.proofs.lookup.find_from.Goals as goal
 

@@ -1,10 +1,7 @@
-use borrow.Author.Rules.{rules}
-use Rattle.buftag.proofs.WalkLaws.{walk_none, walk-other, walk-past, walk-found, walk-next}
 use Rattle.buftag.specs.Lookup.{walk}
 use lib.ListN.{length}
-use mathlib.Core.Path.{◌≡◌, sym, ◌∙◌}
+use mathlib.Core.Path.{◌≡◌}
 use Prim.Native.Nat.{◌≤◌}
-use native.Mathlib.Omega.{arith}
 use Rattle.buftag.proofs.lookup.find_from.Given as goal
 
 abbrev pub invariant-loop-left : goal.invariant-loop-left

@@ -4,7 +4,6 @@ use Rattle.buftag.specs.Lookup.{walk, look_up}
 use lib.ListN.{length}
 use mathlib.Core.Path.{◌∙◌, ap}
 use native.Mathlib.Omega.{arith}
-use borrow.Author.Rules.{rules}
 use Rattle.buftag.proofs.lookup.look_up.Goals as goal
 
 pub link_at-requires : goal.link_at-requires

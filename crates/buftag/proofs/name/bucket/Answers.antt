@@ -1,7 +1,6 @@
 use Rattle.buftag.specs.Name.{bucket_of}
 use Prim.Native.Nat.{◌%◌}
 use mathlib.Core.Path.{ap}
-use borrow.Author.Rules.{rules}
 use Rattle.buftag.proofs.name.bucket.Goals as goal
 
 pub returns : goal.returns

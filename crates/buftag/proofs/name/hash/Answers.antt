@@ -1,5 +1,4 @@
 use Rattle.buftag.proofs.NameLaws.{hash-mixed}
-use borrow.Author.Rules.{rules}
 use Rattle.buftag.proofs.name.hash.Goals as goal
 
 pub returns : goal.returns

@@ -2,7 +2,6 @@ use Rattle.buftag.proofs.NameLaws.{bytes-put}
 use Rattle.bufhash.specs.Bytes.{word_bytes}
 use lib.Seq.{sets}
 use mathlib.Core.Path.{◌∙◌, ap}
-use borrow.Author.Rules.{rules}
 use Rattle.buftag.proofs.name.put_bytes.Goals as goal
 
 pub returns : goal.returns

@@ -1,4 +1,3 @@
-use borrow.Author.Rules.{rules}
 use lib.ListN.{take}
 use lib.Seq.{take-suc-set}
 use mathlib.Core.List.{List, [], ◌∷◌, ◌++◌, append_assoc}

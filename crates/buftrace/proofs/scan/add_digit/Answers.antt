@@ -1,4 +1,3 @@
-use borrow.Author.Rules.{rules}
 use native.Mathlib.Omega.{arith}
 use Rattle.buftrace.proofs.FeedLaws.{digit-least}
 use Rattle.buftrace.proofs.ReaderLaws.{digit-becomes, digit-spoils}

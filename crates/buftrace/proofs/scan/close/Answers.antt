@@ -1,4 +1,3 @@
-use borrow.Author.Rules.{rules}
 use Rattle.buftrace.proofs.ReaderLaws.{closed-spoils, closed-stays}
 use Rattle.buftrace.proofs.scan.close.Goals as goal
 

@@ -1,4 +1,3 @@
-use borrow.Author.Rules.{rules}
 use native.Mathlib.Omega.{arith}
 use Rattle.buftrace.proofs.ReaderLaws.{becomes-is, head-becomes, buffers-becomes, blocks-becomes}
 use Rattle.buftrace.proofs.scan.end_head.Goals as goal

@@ -1,11 +1,7 @@
-use borrow.Author.Rules.{rules}
-use borrow.Author.Tests.{eqb-true, eqb-false}
-use native.Mathlib.Omega.{arith}
 use Prim.Native.Nat.{◌-◌, ◌≤◌}
-use mathlib.Core.Path.{◌≡◌, refl, sym, ◌∙◌}
+use mathlib.Core.Path.{◌≡◌}
 use lib.ListN.{length, drop}
 use Rattle.buftrace.specs.Scan.{Ready, scan_of, feds}
-use Rattle.buftrace.proofs.FeedLaws.{feds-from, feds-next, feds-late, feds-all}
 use Rattle.buftrace.proofs.scan.feed.Given as goal
 
 abbrev pub invariant-loop-i : goal.invariant-loop-i

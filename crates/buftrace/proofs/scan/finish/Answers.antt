@@ -1,4 +1,3 @@
-use borrow.Author.Rules.{rules}
 use borrow.Author.Tests.{not-true, not-false}
 use mathlib.Core.Path.{sym, ap, ◌∙◌}
 use Rattle.buftrace.specs.Scan.{closed}
@@ -7,9 +6,9 @@ use Rattle.buftrace.proofs.scan.finish.Goals as goal
 
 pub returns-then-s-ne0 : goal.returns-then-s-ne0
 returns-then-s-ne0 c = record {
-      held_after = sym (finished-late _ c.if-s-ne0.true);
-      ready = c.requires;
-    }
+  held_after = sym (finished-late _ c.if-s-ne0.true);
+  ready = c.requires;
+}
 
 pub returns-then-not-s : goal.returns-then-not-s
 returns-then-not-s c =

@@ -5,6 +5,6 @@ use Rattle.buftrace.proofs.scan.spoil.Goals as goal
 
 pub returns : goal.returns
 returns c = record {
-      value = refl;
-      becomes = spoilt-becomes _ (search rules);
-    }
+  value = refl;
+  becomes = spoilt-becomes _ (search rules);
+}

@@ -1,4 +1,3 @@
-use borrow.Author.Rules.{rules}
 use native.Mathlib.Omega.{arith}
 use mathlib.Core.Path.{sym, ◌∙◌}
 use Rattle.buftrace.proofs.FeedLaws.{stepped-past, stepped-end, stepped-digit, stepped-other, digit-none, digit-some}
@@ -13,9 +12,9 @@ returns-then-s-eq-MAX_LINES c =
 
 pub returns-then-b-eq-NEWLINE : goal.returns-then-b-eq-NEWLINE
 returns-then-b-eq-NEWLINE c = record {
-      held_after = c.end_line.ensures.held_after ∙ sym (stepped-end _ _ c.if-s-eq-MAX_LINES.false c.if-b-eq-NEWLINE.true);
-      ready = c.end_line.ensures.ready_2;
-    }
+  held_after = c.end_line.ensures.held_after ∙ sym (stepped-end _ _ c.if-s-eq-MAX_LINES.false c.if-b-eq-NEWLINE.true);
+  ready = c.end_line.ensures.ready_2;
+}
 
 pub returns-then-b : goal.returns-then-b
 returns-then-b c =

@@ -1,8 +1,5 @@
-use borrow.Author.Rules.{rules}
-use native.Mathlib.Numerals.{add-one}
-use mathlib.Core.Path.{refl, ap, ◌∙◌}
-use lib.ListN.{set}
-use Rattle.bufmodel.specs.Word.{pinned, pin_less}
+use mathlib.Core.Path.{ap, ◌∙◌}
+use Rattle.bufmodel.specs.Word.{pinned}
 use Rattle.buftrace.proofs.IdleLaws.{loaded-pinned}
 use Rattle.buftrace.proofs.trace.put_block.Goals as goal
 

@@ -1,6 +1,5 @@
-use borrow.Author.Rules.{rules}
 use native.Mathlib.Omega.{arith}
-use Rattle.buftrace.proofs.TraceLaws.{held-lt, held-use, free-use}
+use Rattle.buftrace.proofs.TraceLaws.{held-use, free-use}
 use Rattle.buftrace.proofs.trace.use_block.Goals as goal
 
 pub returns-then-at-ne0 : goal.returns-then-at-ne0

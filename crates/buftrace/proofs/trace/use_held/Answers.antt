@@ -1,9 +1,7 @@
 use borrow.Author.Rules.{rules}
 use mathlib.Core.Path.{ap, ◌∙◌}
-use lib.ListN.{set}
-use Rattle.bufmodel.specs.Word.{pinned, pin_less}
+use Rattle.bufmodel.specs.Word.{pinned}
 use Rattle.buftrace.proofs.IdleLaws.{more-pinned}
-use Rattle.buftrace.proofs.PlaceLaws.{tally}
 use Rattle.buftrace.proofs.trace.use_held.Goals as goal
 
 pub pin_less-requires : goal.pin_less-requires

@@ -1,14 +1,13 @@
-use borrow.Author.Rules.{rules}
 use Prim.Native.Nat.{◌<◌}
 use native.Mathlib.Omega.{arith}
-use mathlib.Core.Path.{◌≡◌, sym, ap, ◌∙◌}
+use mathlib.Core.Path.{◌≡◌, ap, ◌∙◌}
 use mathlib.Core.List.{◌++◌}
 use lib.ListN.{length, get_or, take, drop, length-set}
 use Rattle.laws.specs.First.{found}
 use Rattle.bufmodel.specs.Sizes.{max_buffers, max_blocks}
 use Rattle.bufmodel.specs.Sweep.{Swept, sweep_all}
 use Rattle.buftrace.specs.Usage.{cap}
-use Rattle.buftrace.proofs.TraceLaws.{front, sweep-asks, victim-at, somebody, few-probes, words-length, victim-lt, victim-use}
+use Rattle.buftrace.proofs.TraceLaws.{victim-at, somebody, few-probes, words-length, victim-lt, victim-use}
 use Rattle.buftrace.proofs.trace.use_victim.Goals as goal
 
 pub returns-in_default : goal.returns-in_default

@@ -1,4 +1,3 @@
-use borrow.Author.Rules.{rules}
 use Rattle.bufmodel.proofs.WordLaws.{pack-fields, pins-lt, usage-lt, flags-lt}
 use Rattle.poolrun.proofs.words.packed.Goals as goal
 
