@@ -60,7 +60,8 @@ repository() { # FOLDER [CRATE..]
         [ -s "crates/$crate/out/rlib/stamp" ] || continue
         mkdir -p "$folder/crates/$crate/out"
         # rt makes such a file anew, and never writes into it
-        cp -al "crates/$crate/out/rlib" "$folder/crates/$crate/out" 2>"$folder/said" || cp -a "crates/$crate/out/rlib" "$folder/crates/$crate/out"
+        cp -al "crates/$crate/out/rlib" "$folder/crates/$crate/out" 2>/dev/null ||
+            cp -a "crates/$crate/out/rlib" "$folder/crates/$crate/out"
     done
 }
 

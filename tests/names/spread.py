@@ -1,5 +1,5 @@
-"""spread.py FOLDER: no name is spread into bytes on the way from its words to its hash and bucket. FOLDER/CRATE is a crate's code, in a form
-that functions.py reads: no comment, no contract, each call by its function's full name, each variable with a type.
+"""spread.py FOLDER: no name is spread into bytes on the way from its words to its hash and bucket. FOLDER/CRATE is a crate's code, in a
+form that functions.py reads: no comment, no contract, each call by its function's full name, each variable with a type.
 
 The functions of the hash are those that take and give numbers and reach one of FNV-1a's steps, and what they call: they have numbers alone.
 What asks them for a hash, with what it calls, makes no array and is lent no bytes. Numbers are cut to bytes in CUTS alone, and a word's
