@@ -38,15 +38,6 @@ refuses() { # STATUS WORDS COMMAND [ARGUMENT..]
     [ "$was" -eq "$status" ] && grep -qF -- "$words" "$room/said"
 }
 
-# Beside rt ci (GATE, see .ci/run) a test waits until these crates are proved, or rt ci has ended.
-proved_first() { # CRATE..
-    local crate
-    [ -n "${GATE:-}" ] || return 0
-    for crate; do
-        until [ -s "target/stamp/$crate" ] || [ -e "$GATE/proved" ]; do sleep 0.5; done
-    done
-}
-
 # The static library of a crate, built unless it is newer than every file of the crates. Without it the run ends here.
 library() { # CRATE
     archive=target/staticlib/lib$1.a
@@ -56,19 +47,21 @@ library() { # CRATE
     fi
 }
 
-# A copy of the repository's crates in which other crates can be added or changed. What was proved here, of the crates named or of all, is
-# not proved again there: rt holds each stamp to the files' sums.
+# A copy of the repository's crates in which other crates can be added or changed. What rt built here, of the crates named or of all, is
+# not proved again there: rt holds it to the files' sums. Of what its checks kept here it begins there with what has not changed.
 repository() { # FOLDER [CRATE..]
     local folder=$1 crate
-    mkdir -p "$folder/target/rlib" "$folder/target/stamp"
-    cp -R crates crates.txt "$folder"
+    mkdir -p "$folder"
+    tar c --exclude='crates/*/out' crates crates.txt | tar x -C "$folder"
     shift
     # shellcheck disable=SC2046
-    [ $# -gt 0 ] || set -- $(ls target/stamp 2>/dev/null)
+    [ $# -gt 0 ] || set -- $(ls crates)
     for crate; do
-        [ -s "target/stamp/$crate" ] && [ -d "target/rlib/$crate.rlib" ] || continue
-        ln -s "$PWD/target/rlib/$crate.rlib" "$folder/target/rlib/"
-        cp "target/stamp/$crate" "$folder/target/stamp/"
+        [ -s "crates/$crate/out/rlib/stamp" ] || continue
+        mkdir -p "$folder/crates/$crate/out"
+        # rt makes such a file anew, and never writes into it
+        cp -al "crates/$crate/out/rlib" "$folder/crates/$crate/out" 2>/dev/null ||
+            cp -a "crates/$crate/out/rlib" "$folder/crates/$crate/out"
     done
 }
 
