@@ -6,11 +6,15 @@
 kit=$(dirname "$(rt doc)") || exit 2
 
 # Proves a crate of a repository, what it stands on first. What it says goes to FOLDER/crates/CRATE/said.
-prove() { # FOLDER CRATE
-    (cd "$1/crates/$2" && python3 "$kit/bin/rtlib.py" check --jobs 1 </dev/null >said 2>&1)
+prove() { # FOLDER CRATE [JOBS]
+    (cd "$1/crates/$2" && python3 "$kit/bin/rtlib.py" check --jobs "${3:-1}" </dev/null >said 2>&1)
 }
+
+# What a check of the prover came to, by its last line; with neither it could not tell.
+proved() { tail -n 1 "$1" | grep -q '^logic=proved '; } # FILE
+not_proved() { [ "$(tail -n 1 "$1")" = logic=not-proved ]; } # FILE
 
 # The errors of a check, one a line, without what only waits for a declaration that was refused.
 errors() { # FILE
-    grep -a ': error' "$1" | grep -av 'declarations\? that depends\? on .*, which was rejected, .* not checked'
+    grep -a ': error' "$1" | grep -av 'declarations\? that depends\? on .*, which was \(rejected\|not admitted\), .* not checked'
 }
