@@ -73,7 +73,8 @@ FUNCTIONS = {
         'fn sum_up': 't: Reader, %s, out: &mut [u8; 64]) -> usize requires { Ready t states.old held.old place.old } ' % LENT
         + 'ensures { IsPrefixLen result out.new } '
         + 'ensures { take result out.new ≡ printed (finished (scan_of t %s)) }' % BEFORE,
-        'fn cost_line': 'out: &mut [u8; 64]) -> usize ensures { IsPrefixLen result out.new } ensures { Wrote (take result out.new) }',
+        'fn cost_line': 'input: &mut Stdin, out: &mut [u8; 64]) -> usize ensures { IsPrefixLen result out.new } '
+        'ensures { Wrote (take result out.new) }',
     },
 }
 # and where the words of these contracts are from, none by another name
