@@ -103,11 +103,11 @@ def enums():
             ('pinned', f'At {buffer} true false 7', [5, 1, 0, 7]), ('pinned', f'At {buffer} false true 0', [5, 0, 1, 0]),
             ('written', 'Pages 6', [6, 0, 0, 0]), ('peeked', 'InPool 1024', [1, 1024, 0, 0]), ('peeked', 'InStore 2048', [0, 2048, 0, 0]),
             ('extended', f'Block {buffer}', [5, 0, 0, 0]), ('accepted', 'Done', [0, 0, 0, 0])]:
-        yield f'{enum}Number', f'({enum}.the-variants.{case})', 0
-        yield f'{enum}Words', f'({enum}.the-variants.{case})', words
+        yield f'{enum}_number', f'({enum}.TheVariants.{case})', 0
+        yield f'{enum}_words', f'({enum}.TheVariants.{case})', words
     for enum in ('pinned', 'written', 'peeked', 'extended', 'accepted'):
-        yield f'{enum}Number', f'({enum}.the-variants.Refused 13)', 13
-        yield f'{enum}Words', f'({enum}.the-variants.Refused 13)', [0, 0, 0, 0]
+        yield f'{enum}_number', f'({enum}.TheVariants.Refused 13)', 13
+        yield f'{enum}_words', f'({enum}.TheVariants.Refused 13)', [0, 0, 0, 0]
 
 
 def sums():

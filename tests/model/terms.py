@@ -53,7 +53,7 @@ def words(values):
 
 
 def name_term(name):
-    return '(' + ' '.join(['nameOf' if len(name) == NAME_WORDS else 'fileOf', *map(str, name)]) + ')'
+    return '(' + ' '.join(['name_of' if len(name) == NAME_WORDS else 'file_of', *map(str, name)]) + ')'
 
 
 def call_term(call):

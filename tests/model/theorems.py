@@ -6,30 +6,30 @@ import shutil
 BELOW = ['laws', 'bufhash', 'buftag', 'bufmodel', 'shelf']
 
 HEAD = '''-- Written by tests/model/vectors.py.
-use Prim.Native.Nat.{ℕ, _+_, _*_}
-use mathlib.Core.Path.{_≡_, refl}
+use Prim.Native.Nat.{ℕ, ◌+◌, ◌*◌}
+use mathlib.Core.Path.{◌≡◌, refl}
 use mathlib.Core.Bool.{true, false}
-use mathlib.Core.List.{List, [], _∷_, _++_}
-use lib.ListN.{length, get_d, replicate}
+use mathlib.Core.List.{List, [], ◌∷◌, ◌++◌}
+use lib.ListN.{length, get_or, replicate}
 use lib.IntN.{ℤ, pos, negsuc}
-use Rattle·laws.specs.First.{found, missing}
-use Rattle·buftag.specs.Name.{file_of, name_of}
-use Rattle·bufmodel.specs.Memory.{Memory}
-use Rattle·bufmodel.specs.Checksum.{checksum, passes}
-use Rattle·bufmodel.specs.Sizes.{sound_rows}
-use Rattle·bufmodel.specs.Calls.{set_up}
-use Rattle·bufmodel.specs.Step.{Call, Pin, Unpin, Read, Write, Flush, GiveBack, Checkpoint, Peek, Extend, Drop, LogInserted, LogFlushed}
-use Rattle·bufmodel.specs.Lent.{Lent}
-use Rattle·bufmodel.specs.declared.answer.Pinned as pinned
-use Rattle·bufmodel.specs.declared.answer.Written as written
-use Rattle·bufmodel.specs.declared.answer.Peeked as peeked
-use Rattle·bufmodel.specs.declared.answer.Extended as extended
-use Rattle·bufmodel.specs.declared.answer.Accepted as accepted
-use Rattle·bufmodel.specs.Answer.{pinned_number, pinned_words, written_number, written_words, peeked_number, peeked_words}
-use Rattle·bufmodel.specs.Answer.{extended_number, extended_words, accepted_number, accepted_words}
-use Rattle·shelf.specs.Shelf.{Shelf}
-use Rattle·shelf.specs.Ledger.{first_ledger}
-use Rattle·model_seen.specs.Observe.{fill, listSeen, lentSeen, setUpSeen, callSeen, judged, refusals}
+use Rattle.laws.specs.First.{found, missing}
+use Rattle.buftag.specs.Name.{file_of, name_of}
+use Rattle.bufmodel.specs.Memory.{Memory}
+use Rattle.bufmodel.specs.Checksum.{checksum, passes}
+use Rattle.bufmodel.specs.Sizes.{sound_rows}
+use Rattle.bufmodel.specs.Calls.{set_up}
+use Rattle.bufmodel.specs.Step.{Call, Pin, Unpin, Read, Write, Flush, GiveBack, Checkpoint, Peek, Extend, Drop, LogInserted, LogFlushed}
+use Rattle.bufmodel.specs.Lent.{Lent}
+use Rattle.bufmodel.specs.declared.answer.Pinned as pinned
+use Rattle.bufmodel.specs.declared.answer.Written as written
+use Rattle.bufmodel.specs.declared.answer.Peeked as peeked
+use Rattle.bufmodel.specs.declared.answer.Extended as extended
+use Rattle.bufmodel.specs.declared.answer.Accepted as accepted
+use Rattle.bufmodel.specs.Answer.{pinned_number, pinned_words, written_number, written_words, peeked_number, peeked_words}
+use Rattle.bufmodel.specs.Answer.{extended_number, extended_words, accepted_number, accepted_words}
+use Rattle.shelf.specs.Shelf.{Shelf}
+use Rattle.shelf.specs.Ledger.{first_ledger}
+use Rattle.model_seen.specs.Observe.{fill, list_seen, lent_seen, set_up_seen, call_seen, judged, refusals}
 '''
 
 
@@ -74,7 +74,7 @@ def unfoldable(folder):
     """The names of a crate's definitions, for a line of unfolding."""
     for file in sorted((folder / 'specs').glob('*.antt')):
         for name in re.findall(r'^\s*unfoldable pub (\S+) :', file.read_text(), re.M):
-            yield f'Rattle·{folder.name}.specs.{file.stem}.{name}'
+            yield f'Rattle.{folder.name}.specs.{file.stem}.{name}'
 
 
 def seen_crate(room):

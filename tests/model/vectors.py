@@ -53,7 +53,7 @@ def define_list(module, seed, count=None):
     start = ' '.join([f'start-{seed}', *map(str, given)])
     module.define(f'start-{seed}', 'Memory', made.memory_term())
     module.define(f'calls-{seed}', 'List Call', calls_term(calls[:count]))
-    return f'listSeen (set_up {start} .after) (first_ledger {start}) calls-{seed}'
+    return f'list_seen (set_up {start}).after (first_ledger {start}) calls-{seed}'
 
 
 def shelf_observed(seed, shelf_class=Shelf, count=None):
@@ -69,7 +69,7 @@ def lent_observed(seed, pool_class=Pool):
 def define_lent(module, seed):
     made, calls = from_sound(seed)
     module.define(f'start-{seed}', 'Lent', made.lent_term(module.shared))
-    return f'lentSeen start-{seed} {calls_term(calls)}'
+    return f'lent_seen start-{seed} {calls_term(calls)}'
 
 
 def happenings(memory, calls):
@@ -127,7 +127,7 @@ def write_apart(room, seed):
     crate, module = Crate(room, 'model_apart', [*BELOW, 'model_seen']), Module('Apart', unfolding)
     module.define('seen', 'List (List (List ℕ))', define_list(module, seed))
     for k, one in enumerate(observed(seed)):
-        module.state(f'part-{k}', f'getD seen {k} []', numbers(one))
+        module.state(f'part-{k}', f'get_or seen {k} []', numbers(one))
     crate.add(module, '; '.join(f'part-{k} {call_term(call)}' for k, call in enumerate(after_set_up(seed)[2])))
 
 
@@ -158,7 +158,7 @@ def state_set_up(module, name, start, given, answer, o):
     module.define(f'{name}-lent', 'List ℕ → Lent', f'λ bytes. {start.lent_term(shared)}')
     every = f'(bytes : List ℕ) → length bytes ≡ {large[0]} → ' if large else '(bytes : List ℕ) → '
     made = ' '.join([f'({name}-lent bytes)', *map(str, given), numbers(answer)])
-    module.state(name, f'{every}setUpSeen {made}', listed(map(words, set_up_seen(o))),
+    module.state(name, f'{every}set_up_seen {made}', listed(map(words, set_up_seen(o))),
                  'λ bytes e. rw e refl' if large and not o.number else 'λ bytes e. refl' if large else 'λ bytes. refl')
 
 
@@ -196,19 +196,19 @@ def state_refusals(module, name, shelf_name, one):
     by_holder = runs([count for holder in range(HOLDERS) for count in counts.get(holder, [0] * len(places))])
     module.define(shelf_name, 'Shelf', f'''record {{
       buffers = {shelf.n}; size = {shelf.page_size}; inserted = {shelf.inserted}; rows = {numbers(start.rows)};
-      bytes = λ g. get_d {numbers([page.bytes() for page in start.store])} g [];
-      counts = λ h g. get_d {by_holder} (h * {len(places)} + g) 0; holds = λ b. get_d {held} b missing; bad = λ g. get_d {spoilt} g false
+      bytes = λ g. get_or {numbers([page.bytes() for page in start.store])} g [];
+      counts = λ h g. get_or {by_holder} (h * {len(places)} + g) 0; holds = λ b. get_or {held} b missing; bad = λ g. get_or {spoilt} g false
     }}''')
     module.state(name, f'refusals {shelf_name} {calls_term(calls)}', numbers(refusals(one)))
 
 
 def write_limits(crate, module):
     for j, rows in enumerate(limits.rows()):
-        module.state(f'rows-{j}', f'soundRows {numbers(rows)}', str(limits.rows_fit(rows)).lower())
+        module.state(f'rows-{j}', f'sound_rows {numbers(rows)}', str(limits.rows_fit(rows)).lower())
     module.define('base', 'Lent', damage.base().lent_term(module.shared))
     for j, (call, answer) in enumerate(limits.answers()):
         o = Pool(damage.base().memory()).call(call, answer)
-        module.state(f'answer-{j}', f'callSeen base ({call_term(call)}) {numbers(answer)}', numbers([o.number, *o.answer, *o.own]))
+        module.state(f'answer-{j}', f'call_seen base ({call_term(call)}) {numbers(answer)}', numbers([o.number, *o.answer, *o.own]))
     for j, one in enumerate(limits.shelves()):
         state_refusals(module, f'refusals-{j}', f'shelf-{j}', one)
     for j, (function, case, has) in enumerate(limits.enums()):
