@@ -15,8 +15,7 @@ use bufmodel::refusal::SIZES;
 use buftag::number::BufferNumber;
 
 // Writes a pinned page back if it is dirty: answers how many were written.
-#[unsafe(no_mangle)]
-pub extern "C" fn bufpool_flush(
+pub fn bufpool_flush(
     control: &mut [u64],
     states: &mut [u32],
     names: &[u32],
@@ -66,8 +65,7 @@ pub extern "C" fn bufpool_flush(
 }
 
 // Writes every dirty page back: answers how many were written.
-#[unsafe(no_mangle)]
-pub extern "C" fn bufpool_checkpoint(
+pub fn bufpool_checkpoint(
     control: &mut [u64],
     states: &mut [u32],
     names: &[u32],

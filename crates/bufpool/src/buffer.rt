@@ -13,8 +13,7 @@ use bufmodel::refusal::SIZES;
 use buftag::number::BufferNumber;
 
 // Gives back one pin.
-#[unsafe(no_mangle)]
-pub extern "C" fn bufpool_unpin(
+pub fn bufpool_unpin(
     control: &[u64],
     states: &mut [u32],
     names: &[u32],
@@ -61,8 +60,7 @@ pub extern "C" fn bufpool_unpin(
 }
 
 // Fills `out` from a pinned page.
-#[unsafe(no_mangle)]
-pub extern "C" fn bufpool_read(
+pub fn bufpool_read(
     control: &[u64],
     states: &[u32],
     names: &[u32],
@@ -113,8 +111,7 @@ pub extern "C" fn bufpool_read(
 }
 
 // Writes bytes into a pinned page, with their log position.
-#[unsafe(no_mangle)]
-pub extern "C" fn bufpool_write(
+pub fn bufpool_write(
     control: &[u64],
     states: &mut [u32],
     names: &[u32],

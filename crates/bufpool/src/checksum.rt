@@ -11,8 +11,7 @@ use bufmodel::refusal::SIZES;
 use buftag::number::BlockNumber;
 
 // The checksum of a page that is block `block` of its file.
-#[unsafe(no_mangle)]
-pub extern "C" fn bufpool_checksum(page: &[u8], block: u32, answer: &mut [u64]) -> u32
+pub fn bufpool_checksum(page: &[u8], block: u32, answer: &mut [u64]) -> u32
     ensures value { result ≡ sum_result page.now answer.old }
     ensures answer_after { answer.new ≡ sum_answer page.now block answer.old }
 {

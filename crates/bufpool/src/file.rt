@@ -14,8 +14,7 @@ use bufmodel::refusal::SIZES;
 use buftag::name::file_name;
 
 // Gives a file its next block, of zeros: answers its number.
-#[unsafe(no_mangle)]
-pub extern "C" fn bufpool_extend(
+pub fn bufpool_extend(
     control: &[u64],
     states: &[u32],
     names: &[u32],
@@ -64,8 +63,7 @@ pub extern "C" fn bufpool_extend(
 }
 
 // Empties a file's buffers and takes its blocks.
-#[unsafe(no_mangle)]
-pub extern "C" fn bufpool_drop(
+pub fn bufpool_drop(
     control: &mut [u64],
     states: &mut [u32],
     names: &mut [u32],

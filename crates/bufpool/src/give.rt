@@ -12,8 +12,7 @@ use bufmodel::holder::Holder;
 use bufmodel::refusal::SIZES;
 
 // Gives back everything that a holder has.
-#[unsafe(no_mangle)]
-pub extern "C" fn bufpool_give_back(
+pub fn bufpool_give_back(
     control: &[u64],
     states: &mut [u32],
     names: &[u32],

@@ -4,8 +4,7 @@ ghost use Rattle.std.specs.Prelude.{◌≡◌};
 ghost use Rattle.bufpool.specs.Interface.{interface};
 
 // The number that include/bufpool_calls.h has.
-#[unsafe(no_mangle)]
-pub extern "C" fn bufpool_interface_4() -> u32
+pub fn bufpool_interface_4() -> u32
     ensures { result ≡ interface }
 {
     4

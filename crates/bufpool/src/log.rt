@@ -12,8 +12,7 @@ use bufmem::control::{ANSWER_WORDS, CONTROL_WORDS, read_control};
 use bufmodel::refusal::SIZES;
 
 // The log is inserted up to a position.
-#[unsafe(no_mangle)]
-pub extern "C" fn bufpool_log_inserted(
+pub fn bufpool_log_inserted(
     control: &mut [u64],
     states: &[u32],
     names: &[u32],
@@ -61,8 +60,7 @@ pub extern "C" fn bufpool_log_inserted(
 }
 
 // The log is flushed up to a position.
-#[unsafe(no_mangle)]
-pub extern "C" fn bufpool_log_flushed(
+pub fn bufpool_log_flushed(
     control: &mut [u64],
     states: &[u32],
     names: &[u32],

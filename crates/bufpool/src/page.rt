@@ -17,8 +17,7 @@ use bufpin::pin::pin_page;
 use buftag::name::page_name;
 
 // Pins a page: answers its buffer, hit or loaded, whether a page was written back, and the probes.
-#[unsafe(no_mangle)]
-pub extern "C" fn bufpool_pin(
+pub fn bufpool_pin(
     control: &mut [u64],
     states: &mut [u32],
     names: &mut [u32],
@@ -73,8 +72,7 @@ pub extern "C" fn bufpool_pin(
 }
 
 // Where a page lies: 1 for the pool or 0 for the store, and a byte offset.
-#[unsafe(no_mangle)]
-pub extern "C" fn bufpool_peek(
+pub fn bufpool_peek(
     control: &[u64],
     states: &[u32],
     names: &[u32],

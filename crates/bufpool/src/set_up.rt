@@ -12,8 +12,7 @@ use bufmem::control::{ANSWER_WORDS, CONTROL_WORDS, read_control};
 use bufmodel::refusal::SIZES;
 
 // Sets up an empty pool.
-#[unsafe(no_mangle)]
-pub extern "C" fn bufpool_set_up(
+pub fn bufpool_set_up(
     control: &mut [u64],
     states: &mut [u32],
     names: &mut [u32],
