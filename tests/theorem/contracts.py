@@ -1,11 +1,12 @@
-"""contracts.py CRATES: the contracts of the exports of CRATES/bufpool, of the hash of CRATES/buftag and CRATES/buftag_c and of the functions of
-CRATES/buftrace and CRATES/bufcost that make a line of costs, as theorems and documents speak of them, and of the other crates' exports that
-they ask nothing. The names of clauses say nothing. Prints what differs; status 1 if anything does."""
+"""contracts.py CRATES: the contracts of the exports of CRATES/bufpool_c and of what they call in CRATES/bufpool, of the hash of CRATES/buftag and
+CRATES/buftag_c and of the functions of CRATES/buftrace and CRATES/bufcost that make a line of costs, as theorems and documents speak of them,
+and of the other crates' exports that they ask nothing. The names of clauses say nothing. Prints what differs; status 1 if anything does."""
 import glob
 import re
 import sys
 
 EXPORT = re.compile(r'#\[unsafe\(no_mangle\)\]\npub extern "C" fn (\w+)\((.*?)\) -> u32\n(.*?)\n\{\n', re.S)
+CALLED = re.compile(r'^pub fn (bufpool_\w+)\((.*?)\) -> u32\n(.*?)\n\{\n', re.S | re.M)
 SLICES = ['control', 'states', 'names', 'pool', 'free', 'heads', 'chain', 'rows', 'store', 'counts']
 # each call with its arguments, as the equations of Made.antt.in have it, and the caller's own bytes
 CALLS = {
@@ -130,9 +131,9 @@ def wanted(name, parameters):
         old[own] if own else '[]')
 
 
-def exports(crates, crate):
+def exports(crates, crate, form=EXPORT):
     for path in sorted(glob.glob('%s/%s/src/*.rt' % (crates, crate))):
-        yield from EXPORT.findall(open(path, encoding='utf8').read())
+        yield from form.findall(open(path, encoding='utf8').read())
 
 
 def functions(crates, crate):
@@ -153,18 +154,22 @@ def functions(crates, crate):
 
 def main(crates):
     found, wrong = {}, [text for crate in FUNCTIONS for text in functions(crates, crate)]
-    for crate in ('buftag_c', 'bufbooks_c', 'bufpool'):
+    for crate in ('buftag_c', 'bufbooks_c', 'bufpool_c'):
         for name, parameters, contract in exports(crates, crate):
             found[name] = crate
             said = clauses(contract)
             if 'requires' in said:
                 wrong.append('%s asks something of its caller' % name)
-            if crate == 'bufpool' and said != wanted(name, parameters):
+            if crate == 'bufpool_c' and said != wanted(name, parameters):
                 wrong.append('%s says: %s' % (name, said))
+    called = {name: (parameters, clauses(contract)) for name, parameters, contract in exports(crates, 'bufpool', CALLED)}
+    wrong += ['%s says: %s' % (name, said) for name, (parameters, said) in called.items() if said != wanted(name, parameters)]
+    wrong += ['%s asks something of its caller' % name for name, (_, said) in called.items() if 'requires' in said]
+    wrong += ['%s is not in bufpool' % name for name in (*CALLS, *OTHERS) if name not in called]
     for name, lines in DEFINITIONS.items():
         text = open('%s/bufpool/specs/%s' % (crates, name), encoding='utf8').read().split('\n')
         wrong += ['%s does not have: %s' % (name, line) for line in lines if line not in text]
-    wrong += ['%s is not exported by bufpool' % name for name in (*CALLS, *OTHERS) if found.get(name) != 'bufpool']
+    wrong += ['%s is not exported by bufpool_c' % name for name in (*CALLS, *OTHERS) if found.get(name) != 'bufpool_c']
     if len(found) != len(CALLS) + len(OTHERS) + 4:
         wrong.append('%d exports were read' % len(found))
     print('\n'.join(wrong))
