@@ -1,5 +1,5 @@
-"""definitions.py FOLDER CRATE..: copies crates of this repository, with all that they stand on, as types, constants and definitions alone,
-without functions and proofs, into a new folder, which is then a repository of its own."""
+"""definitions.py FOLDER CRATE..: copies crates of this repository as types, constants and definitions alone, without functions and proofs, into
+a new folder, which is then a repository of its own. What they stand on has to be among them."""
 import glob
 import os
 import re
