@@ -1,12 +1,12 @@
-"""definitions.py FOLDER CRATE..: copies crates of this repository, with all that they stand on, as types, constants and definitions alone,
-without functions and proofs, into a new folder, which is then a repository of its own."""
+"""definitions.py FOLDER CRATE..: copies crates of this repository as types, constants and definitions alone, without functions and proofs, into
+a new folder, which is then a repository of its own. What they stand on has to be among them."""
 import glob
 import os
 import re
 import shutil
 import sys
 
-FUNCTION = re.compile(r'^(?:#\[.*\]\n)*(?:pub )?(?:extern "C" )?fn .*?^\}\n', re.M | re.S)
+FUNCTION = re.compile(r'^(?:#\[(?:[^\[\]]|\[[^\[\]]*\])*\]\n)*(?:pub )?(?:extern "C" )?fn .*?^\}\n', re.M | re.S)
 GHOST_USE = re.compile(r'^ghost use .*?;\n', re.M | re.S)
 USE = re.compile(r'^((?:pub )?use [\w:]+::)(\{[^}]*\}|\w+);\n', re.M)
 
