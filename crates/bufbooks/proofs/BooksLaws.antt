@@ -1,13 +1,12 @@
 -- The check of the books as the code makes it, with that of the private counts, is the test of the definition.
-use mathlib.Core.Path.{◌≡◌, refl, sym, ap, ◌∙◌}
+use mathlib.Core.Path.{◌≡◌, refl, ap, ◌∙◌}
 use mathlib.Core.Bool.{Bool, true, false, not, cond, ◌&&◌}
 use mathlib.Core.Logic.{⊎_elim}
-use mathlib.Core.List.{[]}
 use Prim.Native.Nat.{ℕ, ◌+◌, ◌≤◌, ◌<◌}
 use native.Mathlib.Omega.{arith}
 use lib.Dec.{eqb, leb}
 use lib.ListN.{length}
-use borrow.Author.Tests.{eqb-true, eq-eqb, leb-true, le-leb, le-ltb, lt-leb, lt-ltb}
+use borrow.Author.Tests.{eqb-true, eq-eqb, leb-true}
 use Rattle.laws.specs.Every.{all}
 use Rattle.laws.specs.First.{found}
 use Rattle.laws.specs.Says.{Says}
@@ -30,10 +29,11 @@ use Rattle.buftag.proofs.TestLaws.{chains-say}
 use Rattle.bufmodel.specs.Word.{pins, empty, dirty, bit, max_cap, sound_cap, sound_word}
 use Rattle.bufmodel.specs.Position.{position}
 use Rattle.bufmodel.specs.Rows.{place_of}
-use Rattle.bufmodel.specs.Memory.{Memory, buffers, cap_of, word_of, name_of, page_of, with_free}
+use Rattle.bufmodel.specs.Memory.{Memory, buffers, cap_of, word_of, name_of, page_of}
 use Rattle.bufmodel.specs.Counts.{holders_of}
 use Rattle.bufmodel.specs.Books.{empty_at, sound_counts, sound, BooksSound}
 use Rattle.bufmodel.proofs.BooksLaws.{says-off, says-found, books-say}
+use Rattle.bufbooks.proofs.TurnsLaws.{tests}
 use Rattle.bufbooks.specs.Words.{fine, fine_at, counts_of}
 use Rattle.bufbooks.specs.Lists.{lists_test}
 use Rattle.bufbooks.specs.Buffers.{Fitting, low_test, held_test, buffer_test}
@@ -267,48 +267,9 @@ module _ (m : Memory) where
         let k = (books-say m).holds h in
         and-true (tested-says.shown (sound-tested k)) (counted-says.shown k.counts))
 
--- the test of a buffer does not look at the free links
-buffer-free : (m : Memory) (i : ℕ) → buffer_test (with_free [] m) i ≡ buffer_test m i
-unfolding buffer_test empty_at
-buffer-free m i = refl
-
 -- a sound cap is few uses
-pub cap-few : (cap : ℕ) → sound_cap cap ≡ true → cap ≤ max_cap
+pub cap_few : (cap : ℕ) → sound_cap cap ≡ true → cap ≤ max_cap
 unfolding sound_cap
-cap-few cap h = leb-true cap max_cap (and_right (leb 1 cap) (leb cap max_cap) h)
+cap_few cap h = leb-true cap max_cap (and_right (leb 1 cap) (leb cap max_cap) h)
 
--- ---- the tests, in the order in which the code makes them
-module _ (m : Memory) where
-  pub books-cap : sound_cap (cap_of m) ≡ false → false ≡ books_test m
-  unfolding books_test
-  books-cap h = rw h
-
-  module _ (cap : sound_cap (cap_of m) ≡ true) where
-    pub books-hand : buffers m ≤ m.control.hand → false ≡ books_test m
-    unfolding books_test
-    books-hand h = rw (cap, le-ltb m.control.hand (buffers m) h)
-
-    module _ (hand : m.control.hand < buffers m) where
-      pub books-log : m.control.inserted < m.control.flushed → false ≡ books_test m
-      unfolding books_test
-      books-log h = rw (cap, lt-ltb m.control.hand (buffers m) hand, lt-leb m.control.flushed m.control.inserted h)
-
-      module _ (log : m.control.flushed ≤ m.control.inserted) where
-        abbrev lists : Bool
-        lists = lists_test (cap_of m) m.control.top m.states m.free m.heads m.chain
-
-        books-rest : (lists && all (buffers m) (buffer_test m)) ≡ books_test m
-        unfolding books_test
-        books-rest = rw (cap, lt-ltb m.control.hand (buffers m) hand, le-leb m.control.flushed m.control.inserted log)
-
-        pub books-lists : lists ≡ false → false ≡ books_test m
-        books-lists h = rw (← books-rest, h)
-
-        buffers-free : all (buffers m) (buffer_test (with_free [] m)) ≡ all (buffers m) (buffer_test m)
-        buffers-free =
-            same_tests _ _
-            (λ h. all_of (buffer_test m) (buffers m) (λ i l. sym (buffer-free m i) ∙ all-at (buffer_test (with_free [] m)) (buffers m) h i l))
-            (λ h. all_of (buffer_test (with_free [] m)) (buffers m) (λ i l. buffer-free m i ∙ all-at (buffer_test m) (buffers m) h i l))
-
-        pub books-buffers : lists ≡ true → all (buffers m) (buffer_test (with_free [] m)) ≡ books_test m
-        books-buffers h = rw (← books-rest, h) buffers-free
+pub ruleset books = (tests, cap_few)

@@ -7,7 +7,7 @@ use lib.ListN.{set}
 use Rattle.bufmodel.specs.Rows.{file_at}
 use Rattle.bufbooks.specs.Guesses.{slot_of, guesses_of}
 
-pub guesses-more : (rows table : List ℕ) (n : ℕ)
+pub guesses_more : (rows table : List ℕ) (n : ℕ)
     → guesses_of rows (n + 1) table ≡ set (guesses_of rows n table) (slot_of (file_at rows n)) n
 unfolding guesses_of
-guesses-more rows table n = rw add-one
+guesses_more rows table n = rw add-one

@@ -9,18 +9,16 @@ use lib.Dec.{eqb, ltb}
 use lib.IntN.{ℤ, negsuc, pos}
 use lib.ListN.{length, get_or}
 use borrow.Author.Tests.{eq-eqb, ne_eqb, ltb-false}
-use Rattle.laws.specs.Every.{all}
 use Rattle.laws.proofs.Tests.{never, true-or-false}
 use Rattle.buftag.specs.declared.link.Link.{Link}
 use Rattle.buftag.specs.declared.link.Link.TheVariants.{To, Bad}
 use Rattle.buftag.specs.Link as link
 use Rattle.buftag.specs.Link.{link_of, Links, step}
 use Rattle.bufmodel.specs.declared.control.Control.{Control}
-use Rattle.bufmodel.specs.Memory.{Memory, memory, buffers, size, word_of, with_top, with_store, with_counts}
+use Rattle.bufmodel.specs.Memory.{Memory, memory, buffers, size, with_top, with_counts}
 use Rattle.bufmodel.specs.Sizes.{sized, sized_for}
-use Rattle.bufmodel.specs.Word.{pins}
-use Rattle.bufmodel.specs.Counts.{max_holders, holders_of}
-use Rattle.bufmodel.specs.Books.{empty_at, sound_counts, sound}
+use Rattle.bufmodel.specs.Counts.{max_holders}
+use Rattle.bufmodel.specs.Books.{sound_counts, sound}
 use Rattle.bufmodel.specs.Outcome.{Outcome, place, refusal_of, checked, done, zeros}
 use Rattle.bufmodel.specs.Lent.{Lent, one_bits, control_words, answer_words, top_of, control_of, opened, ended, called}
 use Rattle.bufmodel.proofs.SizesLaws.{rows-say, sizes-say, sized-page}
@@ -28,16 +26,16 @@ use Rattle.bufmodel.proofs.BooksLaws.{books-say}
 use Rattle.bufmodel.proofs.GoodLaws.{Good, good-sized, good-sound}
 use Rattle.bufmodel.proofs.OutcomeLaws.{refusal-past, refusal-at, refusal-none, outcome-number}
 use Rattle.bufmem.specs.Control.{top_read, control_read}
-use Rattle.bufbooks.specs.Buffers.{Fitting, buffer_test}
+use Rattle.bufbooks.specs.Buffers.{Fitting}
 use Rattle.bufbooks.specs.Books.{books_test}
 use Rattle.bufbooks.specs.Lent.{check}
 use Rattle.bufbooks.proofs.BooksLaws.{books-is}
 
 -- ---- the two places
 module _ (m : Memory) where
-  pub checked-sizes : sized m ≡ false → 1 ≡ checked m []
+  pub checked_sizes : sized m ≡ false → 1 ≡ checked m []
   unfolding checked
-  checked-sizes s = sym (refusal-at 1 (place 2 (not (sound m)) ∷ []) (ap not s))
+  checked_sizes s = sym (refusal-at 1 (place 2 (not (sound m)) ∷ []) (ap not s))
 
   module _ (s : sized m ≡ true) where
     checked-past : checked m [] ≡ refusal_of (place 2 (not (sound m)) ∷ [])
@@ -55,14 +53,11 @@ checked-same : (a b : Memory) → sized a ≡ sized b → (sized b ≡ true → 
 checked-same a b e alike =
     ⊎_elim
     (λ s. checked-past a (e ∙ s) ∙ ap (λ (t : Bool). refusal_of (place 2 (not t) ∷ [])) (alike s) ∙ sym (checked-past b s))
-    (λ s. sym (checked-sizes a (e ∙ s)) ∙ checked-sizes b s)
+    (λ s. sym (checked_sizes a (e ∙ s)) ∙ checked_sizes b s)
     (true-or-false (sized b))
 
--- ---- sizes that fit: the books are checked without the store, and but for the last rule without the counts
-abbrev pub bare : Memory → Memory
-bare m = with_counts [] (with_store [] m)
-
-fits : (m : Memory) → sized m ≡ true → Fitting m
+-- ---- sizes that fit: the books are checked, but for the last rule, without the counts
+pub fits : (m : Memory) → sized m ≡ true → Fitting m
 unfolding sized
 fits m h =
     let s = (sizes-say (size m) m).holds h in
@@ -78,40 +73,13 @@ fits m h =
       rows = (rows-say m.rows).shown s.rows;
     }
 
-books-bare : (m : Memory) → books_test (bare m) ≡ books_test m
-unfolding books_test buffer_test empty_at
-books-bare m = refl
-
 module _ (m : Memory) (s : sized m ≡ true) where
   pub counts-fit : buffers m * max_holders ≤ length m.counts
   unfolding sized
   counts-fit = omega (arith, ((sizes-say (size m) m).holds s).counts)
 
-  pub bare-fits : Fitting (bare m)
-  bare-fits =
-      let f = fits m s in
-      record {
-        page = f.page;
-        buckets = f.buckets;
-        few = f.few;
-        narrow = f.narrow;
-        names = f.names;
-        pool = f.pool;
-        free = f.free;
-        chain = f.chain;
-        rows = f.rows;
-      }
-
-  sound-both : (books_test (bare m) && sound_counts m) ≡ sound m
-  sound-both = rw (books-bare m) (books-is m (fits m s))
-
-  pub sound-not : books_test (bare m) ≡ false → sound m ≡ false
-  sound-not h = sym (rw h at sound-both)
-
-  -- once the other rules hold, the counts decide
-  pub sound-last : books_test (bare m) ≡ true → all (buffers m) (λ i. eqb (pins (word_of m i)) (holders_of m.counts i)) ≡ sound m
-  unfolding sound_counts
-  sound-last h = rw h at sound-both
+  pub sound_both : (books_test m && sound_counts m) ≡ sound m
+  sound_both = books-is m (fits m s)
 
 -- ---- the top of the free list: a word that no link can be, read in two ways, makes the books unsound
 links-to : {ls : List ℤ} {w : ℕ} {xs : List ℕ} → Links ls (To w) xs → w < length ls
@@ -238,3 +206,5 @@ module _ (m : Lent) (answer : List ℕ) where
         (with_counts m.counts (memory r m.states m.names m.pool m.free m.heads m.chain m.rows m.store)) []
         ≡ (called check m [] answer).result
     called-read h e = rw e (read_opened m ∙ sym (called-checked h))
+
+pub ruleset calls = (called-answer, called-control, called-read)

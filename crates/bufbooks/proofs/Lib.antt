@@ -1,3 +1,5 @@
+pub mod TurnsLaws
+pub mod CountsLaws
 pub mod SizesLaws
 pub mod GuessesLaws
 pub mod RowsLaws

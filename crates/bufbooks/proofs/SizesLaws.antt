@@ -1,67 +1,37 @@
--- The lent lengths: what the tests of the code show, put together.
-use Prim.Native.Nat.{ℕ, ◌*◌, ◌≤◌}
-use mathlib.Core.Path.{◌≡◌, refl, sym}
-use mathlib.Core.Bool.{Bool, true, false, ◌&&◌}
-use lib.Dec.{eqb, leb}
+-- The lent lengths: what their tests say of products, which 64 bits hold.
+use Prim.Native.Nat.{ℕ, ◌*◌, ◌/◌, ◌^◌, ◌≤◌, ◌<◌}
+use native.Mathlib.Omega.{arith}
+use mathlib.Core.Path.{◌≡◌, refl}
+use mathlib.Core.Bool.{true}
+use mathlib.Core.List.{List}
 use lib.ListN.{length}
-use borrow.Author.Tests.{eq-eqb, le-leb, not-true}
-use Rattle.laws.specs.Says.{Says}
-use Rattle.laws.proofs.Says.{says-le, says-and, says-not}
-use Rattle.buftag.specs.Names.{name_words}
-use Rattle.bufmodel.specs.Memory.{Memory, buffers, size}
-use Rattle.bufmodel.specs.Rows.{store_blocks}
-use Rattle.bufmodel.specs.Counts.{max_holders}
-use Rattle.bufmodel.specs.Sizes.{permitted, max_buffers, max_buckets, sound_rows, sized, sized_for, SizedFor}
-use Rattle.bufmodel.proofs.SizesLaws.{sizes-say}
+use Rattle.laws.proofs.Numbers.{below}
+use Rattle.bufmodel.specs.Rows.{row_words, files, store_blocks, start_of}
+use Rattle.bufmodel.specs.Sizes.{permitted, max_buffers, max_files, sound_rows}
+use Rattle.bufmodel.proofs.SizesLaws.{rows-say, permitted-fits}
+use Rattle.bufbooks.proofs.TurnsLaws.{tests}
 
-pub says-false : {b : Bool} {P : Type 0} → Says b P → (P → ⊥) → false ≡ b
-says-false {b} s f = sym (not-true b ((says-not s).shown f))
+-- few buffers, and few blocks, of a permitted size
+pub pool_fits : (n p : ℕ) → n ≤ max_buffers → permitted p ≡ true → n * p < 2 ^ 64
+pool_fits n p few h = below 32 (omega arith) (omega (arith, (permitted-fits h).1))
 
--- ---- the tests together
--- so many buffers and buckets
-abbrev pub buckets_test : ℕ → ℕ → Bool
-buckets_test n h = leb 1 n && leb n max_buffers && leb n h && leb h max_buckets
+pub store_fits : (rows : List ℕ) (p : ℕ) → sound_rows rows ≡ true → permitted p ≡ true → start_of rows (length rows / row_words) * p < 2 ^ 64
+unfolding files store_blocks
+store_fits rows p s h = below 32 (omega (arith, ((rows-say rows).holds s).room)) (omega (arith, (permitted-fits h).1))
 
-pub buckets-say : (n h : ℕ) → Says (buckets_test n h) ((((1 ≤ n) × (n ≤ max_buffers)) × (n ≤ h)) × (h ≤ max_buckets))
-buckets-say n h = says-and (says-and (says-and (says-le _ _) (says-le _ _)) (says-le _ _)) (says-le _ _)
+pub rows_few : (rows : List ℕ) → sound_rows rows ≡ true → length rows / row_words ≤ max_files
+unfolding files
+rows_few rows s = ((rows-say rows).holds s).few
 
-pub buckets-sized : {p : ℕ} {m : Memory} → SizedFor p m
-    → buckets_test (buffers m) (length m.heads) ≡ true
-buckets-sized s = (buckets-say _ _).shown (((s.least, s.most), s.wide), s.heads)
+-- the rows, counted as the code does
+pub files_is : (rows : List ℕ) → length rows / row_words ≡ files rows
+unfolding files
+files_is rows = refl
 
-also-true : (b : Bool) → b ≡ (b && true)
-also-true true = refl
-also-true false = refl
+pub blocks_is : (rows : List ℕ) → start_of rows (length rows / row_words) ≡ store_blocks rows
+unfolding files store_blocks
+blocks_is rows = refl
 
-module _ (m : Memory) where
-  pub not-sized : (SizedFor (size m) m → ⊥) → false ≡ sized m
-  unfolding sized
-  not-sized f = says-false (sizes-say (size m) m) f
+pub ruleset rows = (tests, files_is, blocks_is)
 
-  -- once the other lengths are right, the store's decides
-  pub sized-store : permitted (size m) ≡ true
-      → buckets_test (buffers m) (length m.heads) ≡ true
-      → length m.names ≡ name_words * buffers m
-      → length m.pool ≡ buffers m * size m
-      → length m.free ≡ buffers m
-      → length m.chain ≡ buffers m
-      → length m.counts ≡ buffers m * max_holders
-      → sound_rows m.rows ≡ true
-      → eqb (length m.store) (store_blocks m.rows * size m) ≡ sized m
-  unfolding sized sized_for
-  sized-store h k names pool free chain counts rows =
-      let s = (buckets-say (buffers m) (length m.heads)).holds k in
-      rw (
-        h,
-        le-leb _ _ s.0.0.0,
-        le-leb _ _ s.0.0.1,
-        le-leb _ _ s.0.1,
-        le-leb _ _ s.1,
-        eq-eqb _ _ names,
-        eq-eqb _ _ pool,
-        eq-eqb _ _ free,
-        eq-eqb _ _ chain,
-        rows,
-        eq-eqb _ _ counts,
-      )
-      (also-true _)
+pub ruleset sizes = (tests, pool_fits, store_fits, rows_few, blocks_is)

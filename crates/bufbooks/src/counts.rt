@@ -10,35 +10,31 @@ use bufmem::word::pins_of;
 use buftag::number::BufferNumber;
 
 // How many holders have a pin on a buffer: a sum as narrow as the counts, and a loop without an exit, of which the compiler makes vectors.
+#[tactic(auto, using(crate::proofs::TurnsLaws::turns_count), unfolding(bufmodel::specs::Counts::holders_of))]
 fn holders_of(counts: &[u16], buffer: BufferNumber) -> u16
     requires { buffer.0 * max_holders + max_holders ≤ length counts.now }
     ensures { result ≡ holders_of counts.now buffer.0 }
 {
     let at = buffer.0 * MAX_HOLDERS;
-    let mut n = 0u16;
-    let mut h = 0;
-    while h < MAX_HOLDERS {
-        if counts[at + h] != 0 {
-            n += 1;
-        }
-        h += 1;
+    let mut n = 0;
+    for &count in &counts[at..at + MAX_HOLDERS] {
+        n += u16::from(count != 0);
     }
     n
 }
 
 // Whether each word counts the holders of its buffer.
+#[tactic(auto, using(crate::proofs::TurnsLaws::turns_all))]
 pub fn counts_ok(states: &[u32], counts: &[u16]) -> bool
     requires { length states.now * max_holders ≤ length counts.now }
     ensures { result
         ≡ all (length states.now)
         (λ i. eqb (pins (get_or states.now i 0)) (holders_of counts.now i)) }
 {
-    let mut i = 0;
-    while i < states.len() {
-        if pins_of(states[i]) != holders_of(counts, BufferNumber(i)) as u32 {
+    for (i, &w) in states.iter().enumerate() {
+        if pins_of(w) != u32::from(holders_of(counts, BufferNumber(i))) {
             return false;
         }
-        i += 1;
     }
     true
 }

@@ -6,9 +6,11 @@ ghost use Rattle.bufbooks.specs.Lent.{check};
 
 use crate::lent::refusal;
 use bufmem::control::{ANSWER_WORDS, CONTROL_WORDS, read_control};
-use bufmodel::refusal::SIZES;
+use bufmodel::refusal::Refusal;
+use bufmodel::view::PoolView;
 
 // 0, or the number of the first place that refuses: 1 sizes and rows, 2 the books.
+#[tactic(auto, using(crate::proofs::LentLaws::calls))]
 pub fn bufbooks_check(
     control: &[u64],
     states: &[u32],
@@ -39,13 +41,13 @@ pub fn bufbooks_check(
         [] answer.now).result }
 {
     if answer.len() != ANSWER_WORDS {
-        return SIZES;
+        return u32::from(Refusal::Sizes);
     }
     if control.len() != CONTROL_WORDS {
-        return SIZES;
+        return u32::from(Refusal::Sizes);
     }
-    refusal(
-        read_control(control),
+    let lent = PoolView {
+        control: read_control(control),
         states,
         names,
         pool,
@@ -55,5 +57,9 @@ pub fn bufbooks_check(
         rows,
         store,
         counts,
-    )
+    };
+    match refusal(&lent) {
+        Ok(()) => 0,
+        Err(why) => u32::from(why),
+    }
 }

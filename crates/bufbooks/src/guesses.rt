@@ -8,27 +8,27 @@ ghost use Rattle.bufbooks.specs.Guesses.{slot_of, guesses_of};
 use bufmem::rows::{ROW_WORDS, file_at};
 use buftag::name::FileName;
 
+pub const SLOTS: usize = 256;
+
 // Where a table of 256 places has a file's. The product spreads files whose relations have neighbouring numbers, or numbers 64 apart: of 64
 // such files some five share a slot.
 pub fn slot_of(file: FileName) -> usize
     ensures { result ≡ slot_of file }
 {
-    let key = (file.relation as u64 * 4 + file.fork as u64) % 4294967296;
-    (key * 2654435761 % 4294967296 / 16777216) as usize
+    let key = file.relation.wrapping_mul(4).wrapping_add(file.fork);
+    (key.wrapping_mul(2654435761) >> 24) as usize
 }
 
 // Of the files that share a slot, the last one has it.
-pub fn guess_rows(rows: &[u32], guesses: &mut [u8; 256])
+#[tactic(auto, using(crate::proofs::GuessesLaws::guesses_more), unfolding(bufmodel::specs::Rows::files, crate::specs::Guesses::guesses_of))]
+pub fn guess_rows(rows: &[u32], before: [u8; SLOTS]) -> [u8; SLOTS]
     requires { files rows.now ≤ max_files }
-    ensures { guesses.new ≡ guesses_of rows.now (files rows.now) guesses.old }
+    ensures { result ≡ guesses_of rows.now (files rows.now) before }
 {
-    // as a slice, whose length a proof knows; that of an array behind a reference it does not
-    let all = &mut guesses[..];
+    let mut guesses = before;
     let n = rows.len() / ROW_WORDS;
-    let mut row = 0;
-    while row < n {
-        let slot = slot_of(file_at(rows, row));
-        all[slot] = row as u8;
-        row += 1;
+    for row in 0..n {
+        guesses[slot_of(file_at(rows, row))] = row as u8;
     }
+    guesses
 }

@@ -4,22 +4,21 @@ ghost use Rattle.std.specs.Prelude.{◌≡◌, true};
 ghost use Rattle.bufmodel.specs.Sizes.{sound_rows};
 ghost use Rattle.bufbooks.specs.Hashes.{Hashed};
 
+use crate::sound_rows::MAX_FILES;
 use bufmem::rows::{ROW_WORDS, file_at};
 use buftag::name::{hash_database, hash_within};
 
 // Files of one database stand together, mostly: its eight bytes are hashed where it is another than the row before has.
-pub fn hash_rows(rows: &[u32], hashes: &mut [u32; 64])
+pub fn hash_rows(rows: &[u32], hashes: &mut [u32; MAX_FILES])
     requires { sound_rows rows.now ≡ true }
     ensures { Hashed rows.now hashes.new }
 {
-    // as a slice, whose length a proof knows; that of an array behind a reference it does not
+    // Lent, as nothing that asks for a hash makes an array; as a slice, whose length a proof knows.
     let all = &mut hashes[..];
-    let n = rows.len() / ROW_WORDS;
-    let mut tablespace = 0u32;
-    let mut database = 0u32;
+    let mut tablespace = 0;
+    let mut database = 0;
     let mut start = hash_database(0, 0);
-    let mut row = 0;
-    while row < n {
+    for row in 0..rows.len() / ROW_WORDS {
         let file = file_at(rows, row);
         if (file.tablespace != tablespace) | (file.database != database) {
             tablespace = file.tablespace;
@@ -27,6 +26,5 @@ pub fn hash_rows(rows: &[u32], hashes: &mut [u32; 64])
             start = hash_database(tablespace, database);
         }
         all[row] = hash_within(start, file);
-        row += 1;
     }
 }

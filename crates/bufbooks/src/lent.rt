@@ -1,44 +1,26 @@
 // The memory as it is lent: whether a call may go on.
 
 ghost use Rattle.std.specs.Prelude.{◌≡◌, []};
-ghost use Rattle.bufmodel.specs.Memory.{memory, with_counts};
+ghost use Rattle.bufmodel.specs.View.{memory_of};
 ghost use Rattle.bufmodel.specs.Outcome.{checked};
+ghost use Rattle.bufmodel.specs.Answer.{accepted_number};
 
 use crate::books::books_ok;
 use crate::counts::counts_ok;
 use crate::sizes::sizes_ok;
-use bufmodel::control::Control;
-use bufmodel::refusal::{BOOKS, SIZES};
+use bufmodel::refusal::Refusal;
+use bufmodel::view::PoolView;
 
-// The places 1 and 2 of every call but set up: 0 if neither refuses.
-pub fn refusal(
-    control: Control,
-    states: &[u32],
-    names: &[u32],
-    pool: &[u8],
-    free: &[i32],
-    heads: &[i32],
-    chain: &[i32],
-    rows: &[u32],
-    store: &[u8],
-    counts: &[u16],
-) -> u32
-    ensures { result
-        ≡ checked
-        (with_counts counts.now
-        (memory control states.now names.now pool.now free.now heads.now
-        chain.now rows.now store.now)) [] }
+// The places 1 and 2 of every call but set up.
+#[tactic(auto, using(crate::proofs::LentLaws::checked_sizes))]
+pub fn refusal(lent: &PoolView<'_>) -> Result<(), Refusal>
+    ensures { accepted_number result ≡ checked (memory_of lent.now) [] }
 {
-    if !sizes_ok(
-        control, states, names, pool, free, heads, chain, rows, store, counts,
-    ) {
-        return SIZES;
+    if !sizes_ok(lent) {
+        return Err(Refusal::Sizes);
     }
-    if !books_ok(control, states, names, pool, free, heads, chain, rows) {
-        return BOOKS;
+    if !(books_ok(lent) && counts_ok(lent.states, lent.counts)) {
+        return Err(Refusal::Books);
     }
-    if !counts_ok(states, counts) {
-        return BOOKS;
-    }
-    0
+    Ok(())
 }

@@ -20,26 +20,17 @@ fn is_fine(cap: u32, w: u32, free: i32, chain: i32) -> bool
     ((w == 0) & (chain == NONE)) | (is_full(cap, w) & (free == OFF))
 }
 
+#[tactic(auto, using(crate::proofs::WordsLaws::words), unfolding(crate::specs::Words::counts_of, crate::specs::Words::fine_at))]
 pub fn count_words(cap: u32, states: &[u32], free: &[i32], chain: &[i32]) -> Counts
     requires { (length free.now ≡ length states.now) × (length chain.now ≡ length states.now)
         × (length states.now < 2 ^ 32) }
     ensures { result ≡ counts_of cap states.now free.now chain.now }
 {
-    let mut fine = 0u32;
-    let mut empty = 0u32;
-    let mut i = 0;
-    while i < states.len() {
-        let w = states[i];
-        if is_fine(cap, w, free[i], chain[i]) {
-            fine += 1;
-        }
-        if w == 0 {
-            empty += 1;
-        }
-        i += 1;
+    let mut fine = 0;
+    let mut empty = 0;
+    for (i, &w) in states.iter().enumerate() {
+        fine += u32::from(is_fine(cap, w, free[i], chain[i]));
+        empty += u32::from(w == 0);
     }
-    Counts {
-        fine: fine,
-        empty: empty,
-    }
+    Counts { fine, empty }
 }

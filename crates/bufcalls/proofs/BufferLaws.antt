@@ -10,7 +10,9 @@ use lib.ListN.{length, set, take, drop}
 use borrow.Author.Tests.{eq-eqb, ne_eqb, eqb-false, lt-leb, le-leb, lt-ltb, le-ltb, leb-false, ltb-false, not-true, not-false}
 use Rattle.laws.specs.Block.{put_block}
 use Rattle.laws.proofs.Tests.{or-neither}
-use Rattle.bufmodel.specs.declared.answer.Accepted as accepted
+use Rattle.std.specs.Prelude.{Ok, Err}
+use Rattle.bufmodel.specs.declared.refusal.Refusal.{Refusal}
+use Rattle.bufmodel.specs.Refusal.{refusal_number}
 use Rattle.bufmodel.specs.Word.{pinned, make_dirty}
 use Rattle.bufmodel.specs.Position.{position, written}
 use Rattle.bufmodel.specs.Memory.{Memory, buffers, size, word_of, page_of, with_states, with_pool, with_counts}
@@ -18,7 +20,6 @@ use Rattle.bufmodel.specs.Counts.{max_holders, count_at, set_count, has_pin}
 use Rattle.bufmodel.specs.Books.{sound}
 use Rattle.bufmodel.specs.Sizes.{sized}
 use Rattle.bufmodel.specs.Outcome.{Place, place, refusal_of, checked, done, zeros}
-use Rattle.bufmodel.specs.Answer.{accepted_of}
 use Rattle.bufmodel.specs.Pin.{holder_place}
 use Rattle.bufmodel.specs.Calls.{buffer_places, less_word, unpin_at, unpin, read, write_places, write_to, write}
 use Rattle.bufmodel.proofs.OutcomeLaws.{refusal-past, refusal-at, refusal-none, refusal-passed, refusal-first, outcome-done}
@@ -26,7 +27,7 @@ use Rattle.bufmodel.proofs.WordLaws.{pins-pinned}
 use Rattle.bufmodel.proofs.CountLaws.{pin-some}
 use Rattle.bufmodel.proofs.SizesLaws.{sized-page}
 use Rattle.bufmodel.proofs.GoodLaws.{Good, checked-good, checked-passed}
-use Rattle.bufmodel.proofs.AnswerLaws.{end-at, accepted-refused, bytes-refused, accepted-done}
+use Rattle.bufmodel.proofs.AnswerLaws.{AcceptedEnds, accepted-refused, accepted-done, refused-at, bytes-refused}
 use Rattle.bufmoves.proofs.WholeLaws.{page-in}
 
 -- ---- the places
@@ -128,15 +129,14 @@ module _ (m : Memory) (h i : ℕ) (k : Held m h i) where
 
 -- ---- unpin
 module _ (m : Memory) (h i : ℕ) where
-  pub unpin-refused : {k : ℕ} → k ≡ checked m (buffer_places m h i []) → k ≢ 0
-      → (accepted.TheVariants.Refused k ≡ accepted_of (unpin m h i)) × (m ≡ (unpin m h i).after)
+  pub unpin-refused : (r : Refusal) → refusal_number r ≡ checked m (buffer_places m h i []) → AcceptedEnds (Err r) m (unpin m h i)
   unfolding unpin
-  unpin-refused e n = accepted-refused n (end-at [] m _ e n)
+  unpin-refused r e = accepted-refused r (refused-at m _ [] _ r e)
 
   pub unpin-done : Held m h i → {c w : ℕ} {states counts : List ℕ} → c ≡ count_at m.counts i h → w ≡ less_word c (word_of m i)
       → states ≡ set m.states i w
       → counts ≡ set_count m.counts i h (c - 1)
-      → (accepted.TheVariants.Done ≡ accepted_of (unpin m h i)) × (with_counts counts (with_states states m) ≡ (unpin m h i).after)
+      → AcceptedEnds (Ok (tt {0})) (with_counts counts (with_states states m)) (unpin m h i)
   unfolding unpin unpin_at
   unpin-done k c w s t =
       let z = buffer-later m h i k [] ∙ refusal-none in
@@ -147,22 +147,24 @@ module _ (m : Memory) (h i from : ℕ) (bytes : List ℕ) where
   abbrev read_places : List Place
   read_places = place 9 (ltb (size m) (from + length bytes)) ∷ []
 
-  pub read-refused : {k : ℕ} → k ≡ checked m (buffer_places m h i read_places) → k ≢ 0
-      → (accepted.TheVariants.Refused k ≡ accepted_of (read m h i from bytes)) × (bytes ≡ (read m h i from bytes).bytes)
+  pub read-refused : (r : Refusal) → refusal_number r ≡ checked m (buffer_places m h i read_places)
+      → AcceptedEnds (Err r) m (read m h i from bytes) × (bytes ≡ (read m h i from bytes).bytes)
   unfolding read
-  read-refused e n = let r = end-at bytes m _ e n in ((accepted-refused n r).0, bytes-refused n r)
+  read-refused r e =
+      let q = refused-at m (buffer_places m h i read_places) bytes _ r e in
+      (accepted-refused r q, bytes-refused q)
 
   pub read-outside : Held m h i → size m < from + length bytes → 9 ≡ checked m (buffer_places m h i read_places)
   read-outside k l = sym (buffer-later m h i k read_places ∙ refusal-at 9 [] (lt-ltb _ _ l))
 
   pub read_done : Held m h i → from + length bytes ≤ size m → {xs : List ℕ} → xs ≡ take (length bytes) (drop from (page_of m i))
-      → (accepted.TheVariants.Done ≡ accepted_of (read m h i from bytes)) × (xs ≡ (read m h i from bytes).bytes)
+      → AcceptedEnds (Ok (tt {0})) m (read m h i from bytes) × (xs ≡ (read m h i from bytes).bytes)
   unfolding read
   read_done k l e =
       let o = done zeros (take (length bytes) (drop from (page_of m i))) m in
       let z = buffer-later m h i k read_places ∙ refusal-past 9 [] (le-ltb _ _ l) ∙ refusal-none in
       let d = outcome-done bytes m o z in
-      ((accepted-done d).0, rw (e, d))
+      (accepted-done d, rw (e, d))
 
 -- ---- write
 module _ (m : Memory) (h i from : ℕ) (bytes : List ℕ) (at : ℕ) where
@@ -188,18 +190,17 @@ module _ (m : Memory) (h i from : ℕ) (bytes : List ℕ) (at : ℕ) where
       let t = (refusal-passed 9 range_test bytes_places (omega arith) (sym e ∙ z)).0 in
       ltb-false (size m) (from + length bytes) (or-neither (ltb (size m) (from + length bytes)) (ltb from 8) t).0
 
-  pub write-refused : {k : ℕ} → k ≡ checked m (write_places m h i from bytes at) → k ≢ 0
-      → (accepted.TheVariants.Refused k ≡ accepted_of (write m h i from bytes at)) × (m ≡ (write m h i from bytes at).after)
+  pub write-refused : (r : Refusal) → refusal_number r ≡ checked m (write_places m h i from bytes at)
+      → AcceptedEnds (Err r) m (write m h i from bytes at)
   unfolding write
-  write-refused e n = accepted-refused n (end-at bytes m _ e n)
+  write-refused r e = accepted-refused r (refused-at m _ bytes _ r e)
 
-  pub write_done : {k : ℕ} → k ≡ checked m (write_places m h i from bytes at) → k ≡ 0 → {pool states : List ℕ} {w : ℕ}
+  pub write_done : 0 ≡ checked m (write_places m h i from bytes at) → {pool states : List ℕ} {w : ℕ}
       → pool ≡ put_block (size m) i (written at from bytes (page_of m i)) m.pool
       → w ≡ make_dirty (word_of m i)
       → states ≡ set m.states i w
-      → (accepted.TheVariants.Done ≡ accepted_of (write m h i from bytes at))
-      × (with_pool pool (with_states states m) ≡ (write m h i from bytes at).after)
+      → AcceptedEnds (Ok (tt {0})) (with_pool pool (with_states states m)) (write m h i from bytes at)
   unfolding write write_to
-  write_done e z p q s =
+  write_done e p q s =
       let o = done zeros bytes (write_to m i from bytes at) in
-      rw (p, s, q) (accepted-done (outcome-done bytes m o (sym e ∙ z)))
+      rw (p, s, q) (accepted-done (outcome-done bytes m o (sym e)))

@@ -15,8 +15,11 @@ use Rattle.laws.proofs.Tests.{eq-or-ne, true-or-false}
 use Rattle.buftag.specs.declared.name.FileName.{FileName}
 use Rattle.buftag.proofs.UnchainLaws.{length-unchain-heads}
 use Rattle.bufmodel.specs.declared.control.Control.{Control}
-use Rattle.bufmodel.specs.declared.answer.Extended as extended
-use Rattle.bufmodel.specs.declared.answer.Accepted as accepted
+use Rattle.std.specs.Prelude.{Result, Ok, Err}
+use Rattle.bufmodel.specs.declared.refusal.Refusal.{Refusal}
+use Rattle.bufmodel.specs.declared.refusal.Refusal.TheVariants.{NoFile, FileFull, FilePinned}
+use Rattle.bufmodel.specs.Refusal.{refusal_number}
+use Rattle.buftag.specs.declared.number.BlockNumber.{BlockNumber}
 use Rattle.bufmodel.specs.Word.{pins}
 use Rattle.bufmodel.specs.Memory.{Memory, memory, buffers, size, word_of, with_rows, with_counts}
 use Rattle.bufmodel.specs.Books.{empty_at}
@@ -25,10 +28,10 @@ use Rattle.bufmodel.specs.Outcome.{Outcome, Place, place, checked, refused, outc
 use Rattle.bufmodel.specs.Moves.{release, of_file, release_if, release_up_to}
 use Rattle.bufmodel.specs.Pin.{no_row}
 use Rattle.bufmodel.specs.Calls.{file_full, extend_at, extend, file_pinned, drop_at, drop_file}
-use Rattle.bufmodel.specs.Answer.{extended_at, accepted_at, extended_of, accepted_of}
+use Rattle.bufmodel.specs.Answer.{extend_words, extended_at}
 use Rattle.bufmodel.proofs.OutcomeLaws.{refusal-past, refusal-at, refusal-none}
 use Rattle.bufmodel.proofs.GoodLaws.{Good}
-use Rattle.bufmodel.proofs.AnswerLaws.{end-first, end-own, end-done}
+use Rattle.bufmodel.proofs.AnswerLaws.{Ends, AcceptedEnds, refused-first, refused-own, end-done, refused-all, done-all, accepted-refused, accepted-done}
 use Rattle.bufmodel.proofs.RowsLaws.{row-found, start-in}
 use Rattle.bufmodel.proofs.WordLaws.{unpinned-none}
 use Rattle.bufmodel.proofs.ReleaseLaws.{release-buffers, release-own, release-word, release-name, release-good}
@@ -38,43 +41,47 @@ use Rattle.bufcalls.specs.File.{held_of, pinned_of}
 use Rattle.bufmoves.proofs.WholeLaws.{good-chained}
 
 -- ---- a call with the place 3 for a row, and one more
-module _ (m : Memory) (g : Good m) (r : Found) (k : ℕ) (t : Bool) (o : Outcome) where
+module _ (m : Memory) (g : Good m) (r : Found) (why : Refusal) (t : Bool) (o : Outcome) where
   abbrev places : List Place
-  places = place 3 (no_row r) ∷ place k t ∷ []
+  places = place 3 (no_row r) ∷ place (refusal_number why) t ∷ []
 
   call-missing : r ≡ missing → outcome (checked m places) [] m o ≡ refused 3 [] m
   unfolding no_row
-  call-missing e = end-own m places [] o g (refusal-at 3 (place k t ∷ []) (ap no_row e)) (λ z. absurd (omega arith))
+  call-missing e = refused-own m places [] o NoFile g (refusal-at 3 (place (refusal_number why) t ∷ []) (ap no_row e))
 
-  call-refused : {s : ℕ} → r ≡ found s → k ≢ 0 → t ≡ true → outcome (checked m places) [] m o ≡ refused k [] m
+  call-refused : {s : ℕ} → r ≡ found s → t ≡ true → outcome (checked m places) [] m o ≡ refused (refusal_number why) [] m
   unfolding no_row
-  call-refused e h f = end-own m places [] o g (refusal-past 3 (place k t ∷ []) (ap no_row e) ∙ refusal-at k [] f) h
+  call-refused e f =
+      refused-own m places [] o why g (refusal-past 3 (place (refusal_number why) t ∷ []) (ap no_row e) ∙ refusal-at (refusal_number why) [] f)
 
   call-done : {s : ℕ} → r ≡ found s → t ≡ false → outcome (checked m places) [] m o ≡ o
   unfolding no_row
-  call-done e f = end-done m places [] o g (refusal-past 3 (place k t ∷ []) (ap no_row e) ∙ refusal-past k [] f ∙ refusal-none)
+  call-done e f = end-done m places [] o g (refusal-past 3 (place (refusal_number why) t ∷ []) (ap no_row e) ∙ refusal-past (refusal_number why) [] f ∙ refusal-none)
 
 -- ---- extend
+abbrev pub ExtendedEnds : Result BlockNumber Refusal → Memory → Outcome → Type 0
+ExtendedEnds = Ends extend_words extended_at
+
 module _ (m : Memory) (f : FileName) where
-  pub extend-early : {n : ℕ} → n ≡ checked m [] → n ≢ 0 → extend m f ≡ refused n [] m
+  pub extend-early : (r : Refusal) → refusal_number r ≡ checked m [] → ExtendedEnds (Err r) m (extend m f)
   unfolding extend
-  extend-early e h = end-first m _ [] _ e h
+  extend-early r e = refused-all extend_words extended_at r (refused-first m _ [] _ r e)
 
   module _ (g : Good m) where
-    pub extend-missing : row_of m.rows f ≡ missing → extend m f ≡ refused 3 [] m
+    pub extend-missing : row_of m.rows f ≡ missing → ExtendedEnds (Err NoFile) m (extend m f)
     unfolding extend
-    extend-missing e = call-missing m g (row_of m.rows f) 13 _ _ e
+    extend-missing e = refused-all extend_words extended_at NoFile (call-missing m g (row_of m.rows f) FileFull _ _ e)
 
     module _ {r : ℕ} (e : row_of m.rows f ≡ found r) where
-      pub extend-full : blocks_at m.rows r ≡ capacity_at m.rows r → extend m f ≡ refused 13 [] m
+      pub extend-full : blocks_at m.rows r ≡ capacity_at m.rows r → ExtendedEnds (Err FileFull) m (extend m f)
       unfolding extend file_full
       extend-full q =
-          call-refused m g (row_of m.rows f) 13 _ _ e (λ z. absurd (omega arith)) (rw e (eq-eqb _ _ q))
+          refused-all extend_words extended_at FileFull (call-refused m g (row_of m.rows f) FileFull _ _ e (rw e (eq-eqb _ _ q)))
 
       extend-done : blocks_at m.rows r ≢ capacity_at m.rows r → extend m f ≡ extend_at m (found r)
       unfolding extend file_full
       extend-done q =
-          call-done m g (row_of m.rows f) 13 _ _ e (rw e (ne_eqb _ _ q)) ∙ ap (extend_at m) e
+          call-done m g (row_of m.rows f) FileFull _ _ e (rw e (ne_eqb _ _ q)) ∙ ap (extend_at m) e
 
       -- the next block is within the capacity, so within the store
       pub next-less : blocks_at m.rows r ≢ capacity_at m.rows r → blocks_at m.rows r < capacity_at m.rows r
@@ -87,38 +94,36 @@ module _ (m : Memory) (f : FileName) where
       pub extended-more : blocks_at m.rows r ≢ capacity_at m.rows r → {b : ℕ} {rows store : List ℕ} → b ≡ blocks_at m.rows r
           → rows ≡ set_blocks m.rows r (b + 1)
           → store ≡ put_block (size m) (start_of m.rows r + b) (replicate (size m) 0) m.store
-          → (extended.TheVariants.Block (record { 0 = b }) ≡ extended_of (extend m f))
-          × (with_counts m.counts
-          (memory m.control m.states m.names m.pool m.free m.heads m.chain rows store)
-          ≡ (extend m f).after)
-      unfolding extend_at extended_at
-      extended-more q b x y = rw (extend-done q, x, y, b, add-one) (refl, refl)
+          → ExtendedEnds (Ok (record { 0 = b }))
+          (with_counts m.counts (memory m.control m.states m.names m.pool m.free m.heads m.chain rows store)) (extend m f)
+      unfolding extend_at
+      extended-more q b x y = rw (x, y, b, add-one) (done-all extend_words extended_at (extend-done q) refl refl)
 
 -- ---- drop
 module _ (m : Memory) (f : FileName) where
-  pub drop-early : {n : ℕ} → n ≡ checked m [] → n ≢ 0 → drop_file m f ≡ refused n [] m
+  pub drop-early : (r : Refusal) → refusal_number r ≡ checked m [] → AcceptedEnds (Err r) m (drop_file m f)
   unfolding drop_file
-  drop-early e h = end-first m _ [] _ e h
+  drop-early r e = accepted-refused r (refused-first m _ [] _ r e)
 
   module _ (g : Good m) where
-    pub drop-missing : row_of m.rows f ≡ missing → drop_file m f ≡ refused 3 [] m
+    pub drop-missing : row_of m.rows f ≡ missing → AcceptedEnds (Err NoFile) m (drop_file m f)
     unfolding drop_file
-    drop-missing e = call-missing m g (row_of m.rows f) 14 _ _ e
+    drop-missing e = accepted-refused NoFile (call-missing m g (row_of m.rows f) FilePinned _ _ e)
 
     module _ {r : ℕ} (e : row_of m.rows f ≡ found r) where
-      pub drop-pinned : pinned_of m.states m.names f ≡ true → drop_file m f ≡ refused 14 [] m
+      pub drop-pinned : pinned_of m.states m.names f ≡ true → AcceptedEnds (Err FilePinned) m (drop_file m f)
       unfolding drop_file file_pinned pinned_of of_file held_of empty_at
-      drop-pinned q = call-refused m g (row_of m.rows f) 14 _ _ e (λ z. absurd (omega arith)) q
+      drop-pinned q = accepted-refused FilePinned (call-refused m g (row_of m.rows f) FilePinned _ _ e q)
 
       drop-done : pinned_of m.states m.names f ≡ false → drop_file m f ≡ drop_at m f (found r)
       unfolding drop_file file_pinned pinned_of of_file held_of empty_at
-      drop-done q = call-done m g (row_of m.rows f) 14 _ _ e q ∙ ap (drop_at m f) e
+      drop-done q = call-done m g (row_of m.rows f) FilePinned _ _ e q ∙ ap (drop_at m f) e
 
       pub dropped : pinned_of m.states m.names f ≡ false → {d : Memory} {rows : List ℕ} → d ≡ release_up_to f (buffers m) m
           → rows ≡ set_blocks m.rows r 0
-          → (accepted.TheVariants.Done ≡ accepted_of (drop_file m f)) × (with_rows rows d ≡ (drop_file m f).after)
-      unfolding drop_at accepted_at
-      dropped q x y = rw (drop-done q, x, y) (refl, refl)
+          → AcceptedEnds (Ok (tt {0})) (with_rows rows d) (drop_file m f)
+      unfolding drop_at
+      dropped q x y = rw (x, y) (accepted-done (drop-done q))
 
 -- ---- the release of a file's buffers
 -- a memory with parts that are equal to those of another

@@ -9,19 +9,21 @@ use mathlib.Core.List.{List, [], ◌∷◌}
 use lib.ListN.{length, length-set, get_or, set}
 use lib.Seq.{get_or-set_other}
 use borrow.Author.Tests.{le-leb, lt-leb}
-use Rattle.bufmodel.specs.declared.answer.Accepted as accepted
+use Rattle.std.specs.Prelude.{Ok, Err}
+use Rattle.bufmodel.specs.declared.refusal.Refusal.{Refusal}
+use Rattle.bufmodel.specs.declared.refusal.Refusal.TheVariants.{NoHolder}
+use Rattle.bufmodel.specs.Refusal.{refusal_number}
 use Rattle.bufmodel.specs.Word.{pinned}
 use Rattle.bufmodel.specs.Memory.{Memory, buffers, word_of, with_states, with_counts}
 use Rattle.bufmodel.specs.Counts.{max_holders, count_place, count_at, set_count}
 use Rattle.bufmodel.specs.Outcome.{checked, done, zeros}
-use Rattle.bufmodel.specs.Answer.{accepted_of}
 use Rattle.bufmodel.specs.Pin.{holder_place}
 use Rattle.bufmodel.specs.Calls.{given_word, give_at, give_up_to, give_back}
 use Rattle.bufmodel.proofs.WordLaws.{pins-pinned}
 use Rattle.bufmodel.proofs.CountLaws.{length-set_count, count-other, pin-some}
 use Rattle.bufmodel.proofs.OutcomeLaws.{refusal-at, refusal-past, refusal-none}
 use Rattle.bufmodel.proofs.GoodLaws.{Good}
-use Rattle.bufmodel.proofs.AnswerLaws.{end-first, end-own, end-done, accepted-refused, accepted-done}
+use Rattle.bufmodel.proofs.AnswerLaws.{AcceptedEnds, refused-first, refused-own, end-done, accepted-refused, accepted-done}
 use Rattle.bufcalls.specs.Give.{pins_part, Counted}
 
 -- ---- one buffer
@@ -103,22 +105,19 @@ good-counted m h g few =
 
 -- ---- the call
 module _ (m : Memory) (h : ℕ) where
-  pub give-early : {k : ℕ} → k ≡ checked m [] → k ≢ 0
-      → (accepted.TheVariants.Refused k ≡ accepted_of (give_back m h)) × (m ≡ (give_back m h).after)
+  pub give-early : (r : Refusal) → refusal_number r ≡ checked m [] → AcceptedEnds (Err r) m (give_back m h)
   unfolding give_back
-  give-early e n = accepted-refused n (end-first m _ [] _ e n)
+  give-early r e = accepted-refused r (refused-first m _ [] _ r e)
 
   module _ (g : Good m) where
-    pub give-nobody : max_holders ≤ h → (accepted.TheVariants.Refused 19 ≡ accepted_of (give_back m h)) × (m ≡ (give_back m h).after)
+    pub give-nobody : max_holders ≤ h → AcceptedEnds (Err NoHolder) m (give_back m h)
     unfolding give_back holder_place
-    give-nobody l =
-        accepted-refused (λ z. absurd (omega arith))
-        (end-own m _ [] _ g (refusal-at 19 [] (le-leb max_holders h l)) (λ z. absurd (omega arith)))
+    give-nobody l = accepted-refused NoHolder (refused-own m _ [] _ NoHolder g (refusal-at 19 [] (le-leb max_holders h l)))
 
     pub give-done : h < max_holders → {states counts : List ℕ} → pins_part states counts ≡ give_up_to h (buffers m) (part m)
-        → (accepted.TheVariants.Done ≡ accepted_of (give_back m h)) × (with_counts counts (with_states states m) ≡ (give_back m h).after)
+        → AcceptedEnds (Ok (tt {0})) (with_counts counts (with_states states m)) (give_back m h)
     unfolding give_back holder_place
     give-done few e =
         let o = done zeros [] (give_up_to h (buffers m) m) in
         let end = accepted-done (end-done m (holder_place h ∷ []) [] o g (refusal-past 19 [] (lt-leb max_holders h few) ∙ refusal-none)) in
-        (end.0, ap (onto m) e ∙ sym (up-onto m h (buffers m)) ∙ end.1)
+        (end.0, end.1, end.2, ap (onto m) e ∙ sym (up-onto m h (buffers m)) ∙ end.3)

@@ -5,6 +5,7 @@ ghost use Rattle.laws.specs.Block.{block};
 ghost use Rattle.bufmodel.specs.Word.{pinned};
 ghost use Rattle.bufmodel.specs.Position.{position as page_position};
 ghost use Rattle.bufmodel.specs.Memory.{memory, with_counts};
+ghost use Rattle.bufmodel.specs.View.{memory_of};
 ghost use Rattle.bufmodel.specs.Outcome.{place, refusal_of, checked};
 ghost use Rattle.bufmodel.specs.Answer.{accepted_number, accepted_words, accepted_of};
 ghost use Rattle.bufmodel.specs.Calls.{buffer_places, less_word, unpin, read, write};
@@ -14,53 +15,32 @@ use bufmem::counts::{count_of, is_holder, put_count};
 use bufmem::page::{page_position, read_page, write_page};
 use bufmem::state::{is_buffer, put_state, state_of};
 use bufmem::word::{make_dirty, pin_less};
-use bufmodel::answer::Accepted;
 use bufmodel::control::Control;
 use bufmodel::holder::Holder;
-use bufmodel::refusal::{EARLIER, NO_BUFFER, NO_BYTES, NO_HOLDER, NOT_INSERTED, NOT_PINNED, RANGE};
+use bufmodel::refusal::Refusal;
+use bufmodel::view::PoolView;
 use buftag::number::BufferNumber;
 
-// The places 1, 2, 19, 7 and 8: 0 if none refuses.
+// The places 1, 2, 19, 7 and 8.
 pub fn buffer_refusal(
-    control: Control,
-    states: &[u32],
-    names: &[u32],
-    pool: &[u8],
-    free: &[i32],
-    heads: &[i32],
-    chain: &[i32],
-    rows: &[u32],
-    store: &[u8],
-    counts: &[u16],
+    lent: &PoolView<'_>,
     holder: Holder,
     buffer: BufferNumber,
-) -> u32
-    ensures { result
-        ≡ checked
-        (with_counts counts.now
-        (memory control states.now names.now pool.now free.now heads.now
-        chain.now rows.now store.now))
-        (buffer_places
-        (with_counts counts.now
-        (memory control states.now names.now pool.now free.now heads.now
-        chain.now rows.now store.now)) holder.0 buffer.0 []) }
+) -> Result<(), Refusal>
+    ensures { accepted_number result
+        ≡ checked (memory_of lent.now) (buffer_places (memory_of lent.now) holder.0 buffer.0 []) }
 {
-    let k = refusal(
-        control, states, names, pool, free, heads, chain, rows, store, counts,
-    );
-    if k != 0 {
-        return k;
-    }
+    refusal(lent)?;
     if !is_holder(holder) {
-        return NO_HOLDER;
+        return Err(Refusal::NoHolder);
     }
-    if !is_buffer(states, buffer) {
-        return NO_BUFFER;
+    if !is_buffer(lent.states, buffer) {
+        return Err(Refusal::NoBuffer);
     }
-    if count_of(counts, holder, buffer) == 0 {
-        return NOT_PINNED;
+    if count_of(lent.counts, holder, buffer) == 0 {
+        return Err(Refusal::NotPinned);
     }
-    0
+    Ok(())
 }
 
 // The word of a buffer on which a holder had so many pins and unpins one: pin count - 1 with its last one.
@@ -68,10 +48,7 @@ fn less_word(count: u16, w: u32) -> u32
     requires { pinned w ≡ true }
     ensures { result ≡ less_word count w }
 {
-    if count == 1 {
-        return pin_less(w);
-    }
-    w
+    if count == 1 { pin_less(w) } else { w }
 }
 
 // The holder's count - 1, and with its last pin the word's.
@@ -88,19 +65,19 @@ pub fn unpin_buffer(
     counts: &mut [u16],
     holder: Holder,
     buffer: BufferNumber,
-) -> Accepted
+) -> Result<(), Refusal>
     ensures value { result
         ≡ accepted_of
         (unpin
         (with_counts counts.old
         (memory control states.old names.now pool.now free.now heads.now
         chain.now rows.now store.now)) holder.0 buffer.0) }
-    ensures result_value { accepted_number result
+    ensures number { accepted_number result
         ≡ (unpin
         (with_counts counts.old
         (memory control states.old names.now pool.now free.now heads.now
         chain.now rows.now store.now)) holder.0 buffer.0).refusal }
-    ensures result_value_2 { accepted_words result
+    ensures words { accepted_words result
         ≡ (unpin
         (with_counts counts.old
         (memory control states.old names.now pool.now free.now heads.now
@@ -113,82 +90,56 @@ pub fn unpin_buffer(
         (memory control states.old names.now pool.now free.now heads.now
         chain.now rows.now store.now)) holder.0 buffer.0).after }
 {
-    let k = buffer_refusal(
-        control, states, names, pool, free, heads, chain, rows, store, counts, holder, buffer,
-    );
-    if k != 0 {
-        return Accepted::Refused(k);
-    }
+    let lent = PoolView {
+        control,
+        states,
+        names,
+        pool,
+        free,
+        heads,
+        chain,
+        rows,
+        store,
+        counts,
+    };
+    buffer_refusal(&lent, holder, buffer)?;
     let count = count_of(counts, holder, buffer);
     let word = less_word(count, state_of(states, buffer));
     put_state(states, buffer, word);
     put_count(counts, holder, buffer, count - 1);
-    Accepted::Done
+    Ok(())
 }
 
 // Whether a read's or a write's bytes lie within a page: the sum is not made, since it need not fit.
 fn range_ok(size: usize, from: usize, length: usize) -> bool
     ensures { result ≡ leb (from + length) size }
 {
-    if from > size {
-        return false;
-    }
-    length <= size - from
+    from <= size && length <= size - from
 }
 
 // Fills `out` from the page.
 pub fn read_buffer(
-    control: Control,
-    states: &[u32],
-    names: &[u32],
-    pool: &[u8],
-    free: &[i32],
-    heads: &[i32],
-    chain: &[i32],
-    rows: &[u32],
-    store: &[u8],
-    counts: &[u16],
+    lent: &PoolView<'_>,
     holder: Holder,
     buffer: BufferNumber,
     from: usize,
     out: &mut [u8],
-) -> Accepted
-    ensures value { result
-        ≡ accepted_of
-        (read
-        (with_counts counts.now
-        (memory control states.now names.now pool.now free.now heads.now
-        chain.now rows.now store.now)) holder.0 buffer.0 from out.old) }
-    ensures result_value { accepted_number result
-        ≡ (read
-        (with_counts counts.now
-        (memory control states.now names.now pool.now free.now heads.now
-        chain.now rows.now store.now)) holder.0 buffer.0 from out.old).refusal }
-    ensures result_value_2 { accepted_words result
-        ≡ (read
-        (with_counts counts.now
-        (memory control states.now names.now pool.now free.now heads.now
-        chain.now rows.now store.now)) holder.0 buffer.0 from out.old).answer }
-    ensures out_after { out.new
-        ≡ (read
-        (with_counts counts.now
-        (memory control states.now names.now pool.now free.now heads.now
-        chain.now rows.now store.now)) holder.0 buffer.0 from out.old).bytes }
+) -> Result<(), Refusal>
+    ensures value { result ≡ accepted_of (read (memory_of lent.now) holder.0 buffer.0 from out.old) }
+    ensures number { accepted_number result ≡ (read (memory_of lent.now) holder.0 buffer.0 from out.old).refusal }
+    ensures words { accepted_words result ≡ (read (memory_of lent.now) holder.0 buffer.0 from out.old).answer }
+    ensures out_after { out.new ≡ (read (memory_of lent.now) holder.0 buffer.0 from out.old).bytes }
 {
-    let k = buffer_refusal(
-        control, states, names, pool, free, heads, chain, rows, store, counts, holder, buffer,
-    );
-    if k != 0 {
-        return Accepted::Refused(k);
+    buffer_refusal(lent, holder, buffer)?;
+    let size = lent.control.size;
+    if !range_ok(size, from, out.len()) {
+        return Err(Refusal::Range);
     }
-    if !range_ok(control.size, from, out.len()) {
-        return Accepted::Refused(RANGE);
-    }
-    read_page(pool, control.size, buffer, from, out);
-    Accepted::Done
+    read_page(lent.pool, size, buffer, from, out);
+    Ok(())
 }
 
-// The places 9 to 12 of a write, for a buffer that is there: 0 if none refuses.
+// The places 9 to 12 of a write, for a buffer that is there.
 fn write_refusal(
     control: Control,
     pool: &[u8],
@@ -196,9 +147,9 @@ fn write_refusal(
     from: usize,
     bytes: &[u8],
     position: u64,
-) -> u32
+) -> Result<(), Refusal>
     requires { (8 ≤ control.size) × (buffer.0 * control.size + control.size ≤ length pool.now) }
-    ensures { result
+    ensures { accepted_number result
         ≡ refusal_of
         (place 9 (ltb control.size (from + length bytes.now) || ltb from 8)
         ∷ place 10 (eqb (length bytes.now) 0)
@@ -207,21 +158,21 @@ fn write_refusal(
         ∷ []) }
 {
     if !range_ok(control.size, from, bytes.len()) {
-        return RANGE;
+        return Err(Refusal::Range);
     }
     if from < 8 {
-        return RANGE;
+        return Err(Refusal::Range);
     }
-    if bytes.len() == 0 {
-        return NO_BYTES;
+    if bytes.is_empty() {
+        return Err(Refusal::NoBytes);
     }
     if position > control.inserted {
-        return NOT_INSERTED;
+        return Err(Refusal::NotInserted);
     }
     if position < page_position(pool, control.size, buffer) {
-        return EARLIER;
+        return Err(Refusal::Earlier);
     }
-    0
+    Ok(())
 }
 
 // Copies bytes into the page, sets its log position, and makes it dirty.
@@ -241,20 +192,20 @@ pub fn write_buffer(
     from: usize,
     bytes: &[u8],
     position: u64,
-) -> Accepted
+) -> Result<(), Refusal>
     ensures value { result
         ≡ accepted_of
         (write
         (with_counts counts.now
         (memory control states.old names.now pool.old free.now heads.now
         chain.now rows.now store.now)) holder.0 buffer.0 from bytes.now position) }
-    ensures result_value { accepted_number result
+    ensures number { accepted_number result
         ≡ (write
         (with_counts counts.now
         (memory control states.old names.now pool.old free.now heads.now
         chain.now rows.now store.now)) holder.0 buffer.0 from bytes.now
         position).refusal }
-    ensures result_value_2 { accepted_words result
+    ensures words { accepted_words result
         ≡ (write
         (with_counts counts.now
         (memory control states.old names.now pool.old free.now heads.now
@@ -269,18 +220,22 @@ pub fn write_buffer(
         chain.now rows.now store.now)) holder.0 buffer.0 from bytes.now
         position).after }
 {
-    let k = buffer_refusal(
-        control, states, names, pool, free, heads, chain, rows, store, counts, holder, buffer,
-    );
-    if k != 0 {
-        return Accepted::Refused(k);
-    }
-    let later = write_refusal(control, pool, buffer, from, bytes, position);
-    if later != 0 {
-        return Accepted::Refused(later);
-    }
+    let lent = PoolView {
+        control,
+        states,
+        names,
+        pool,
+        free,
+        heads,
+        chain,
+        rows,
+        store,
+        counts,
+    };
+    buffer_refusal(&lent, holder, buffer)?;
+    write_refusal(control, pool, buffer, from, bytes, position)?;
     write_page(pool, control.size, buffer, from, bytes, position);
     let word = make_dirty(state_of(states, buffer));
     put_state(states, buffer, word);
-    Accepted::Done
+    Ok(())
 }

@@ -5,15 +5,16 @@ ghost use Rattle.laws.specs.Sum.{count};
 ghost use Rattle.bufmodel.specs.Word.{dirty};
 ghost use Rattle.bufmodel.specs.Memory.{memory, with_counts};
 ghost use Rattle.bufmodel.specs.Moves.{write_up_to};
-ghost use Rattle.bufmodel.specs.Answer.{written_number, written_words, written_of};
+ghost use Rattle.bufmodel.specs.Answer.{written_number, written_words, written_of, answer_of, control_of};
 ghost use Rattle.bufmodel.specs.Calls.{checkpoint};
 ghost use Rattle.bufcalls.specs.Checkpoint.{Stored};
 
-use crate::ends::WrittenEnd;
 use bufbooks::lent::refusal;
 use bufmem::word::is_dirty;
-use bufmodel::answer::Written;
+use bufmodel::answer::Ended;
 use bufmodel::control::Control;
+use bufmodel::refusal::Refusal;
+use bufmodel::view::PoolView;
 use bufmoves::back::write_back;
 use buftag::number::BufferNumber;
 
@@ -21,12 +22,10 @@ fn count_dirty(states: &[u32]) -> u64
     ensures { result ≡ count (length states.now) (λ i. dirty (get_or states.now i 0)) }
 {
     let mut n = 0u64;
-    let mut i = 0;
-    while i < states.len() {
-        if is_dirty(states[i]) {
+    for &w in states {
+        if is_dirty(w) {
             n += 1;
         }
-        i += 1;
     }
     n
 }
@@ -45,14 +44,11 @@ fn write_all(
         (memory control states.old names.now pool.now [] [] [] rows.now
         store.old) }
 {
-    let n = states.len();
     let mut after = control;
-    let mut i = 0;
-    while i < n {
+    for i in 0..states.len() {
         if is_dirty(states[i]) {
             after = write_back(after, states, names, pool, rows, store, BufferNumber(i));
         }
-        i += 1;
     }
     after
 }
@@ -68,44 +64,45 @@ pub fn checkpoint_pool(
     rows: &[u32],
     store: &mut [u8],
     counts: &[u16],
-) -> WrittenEnd
-    ensures answer_value { result.answer
+) -> Result<Ended<u64>, Refusal>
+    ensures value { answer_of result
         ≡ written_of
         (checkpoint
         (with_counts counts.now
         (memory control states.old names.now pool.now free.now heads.now
         chain.now rows.now store.old))) }
-    ensures answer_value_2 { written_number result.answer
+    ensures number { written_number (answer_of result)
         ≡ (checkpoint
         (with_counts counts.now
         (memory control states.old names.now pool.now free.now heads.now
         chain.now rows.now store.old))).refusal }
-    ensures answer_value_3 { written_words result.answer
+    ensures words { written_words (answer_of result)
         ≡ (checkpoint
         (with_counts counts.now
         (memory control states.old names.now pool.now free.now heads.now
         chain.now rows.now store.old))).answer }
     ensures store_after { with_counts counts.now
-        (memory result.control states.new names.now pool.now free.now
+        (memory (control_of control result) states.new names.now pool.now free.now
         heads.now chain.now rows.now store.new)
         ≡ (checkpoint
         (with_counts counts.now
         (memory control states.old names.now pool.now free.now heads.now
         chain.now rows.now store.old))).after }
 {
-    let k = refusal(
-        control, states, names, pool, free, heads, chain, rows, store, counts,
-    );
-    if k != 0 {
-        return WrittenEnd {
-            control: control,
-            answer: Written::Refused(k),
-        };
-    }
-    let n = count_dirty(states);
-    let after = write_all(control, states, names, pool, rows, store);
-    WrittenEnd {
-        control: after,
-        answer: Written::Pages(n),
-    }
+    let lent = PoolView {
+        control,
+        states,
+        names,
+        pool,
+        free,
+        heads,
+        chain,
+        rows,
+        store,
+        counts,
+    };
+    refusal(&lent)?;
+    let answer = count_dirty(states);
+    let control = write_all(control, states, names, pool, rows, store);
+    Ok(Ended { control, answer })
 }

@@ -5,20 +5,19 @@ ghost use Rattle.bufmodel.specs.Memory.{memory, with_counts};
 ghost use Rattle.bufmodel.specs.Sizes.{sized};
 ghost use Rattle.bufmodel.specs.Books.{sound};
 ghost use Rattle.bufmodel.specs.Moves.{release_up_to};
-ghost use Rattle.bufmodel.specs.Answer.{extended_number, extended_words, extended_of, accepted_number, accepted_words, accepted_of};
+ghost use Rattle.bufmodel.specs.Answer.{extended_number, extended_words, extended_of, accepted_number, accepted_words, accepted_of, done_of, record_of};
 ghost use Rattle.bufmodel.specs.Calls.{extend, drop_file};
 ghost use Rattle.buftag.specs.Names.{name_words};
 ghost use Rattle.bufcalls.specs.File.{held_of, pinned_of};
 
-use crate::ends::{AcceptedEnd, refused};
 use bufbooks::lent::refusal;
 use bufmem::block::clear_block;
-use bufmem::rows::{Row, block_place, blocks_at, capacity_at, find_row, set_blocks};
+use bufmem::rows::{block_place, blocks_at, capacity_at, find_row, set_blocks};
 use bufmem::state::state_of;
 use bufmem::word::{is_empty, is_pinned};
-use bufmodel::answer::{Accepted, Extended};
 use bufmodel::control::Control;
-use bufmodel::refusal::{FILE_FULL, FILE_PINNED, NO_FILE};
+use bufmodel::refusal::Refusal;
+use bufmodel::view::PoolView;
 use bufmoves::exchange::release_buffer;
 use buftag::name::{FileName, same_file};
 use buftag::names::stored;
@@ -37,19 +36,19 @@ pub fn extend_file(
     store: &mut [u8],
     counts: &[u16],
     file: FileName,
-) -> Extended
+) -> Result<BlockNumber, Refusal>
     ensures value { result
         ≡ extended_of
         (extend
         (with_counts counts.now
         (memory control states.now names.now pool.now free.now heads.now
         chain.now rows.old store.old)) file) }
-    ensures result_value { extended_number result
+    ensures number { extended_number result
         ≡ (extend
         (with_counts counts.now
         (memory control states.now names.now pool.now free.now heads.now
         chain.now rows.old store.old)) file).refusal }
-    ensures result_value_2 { extended_words result
+    ensures words { extended_words result
         ≡ (extend
         (with_counts counts.now
         (memory control states.now names.now pool.now free.now heads.now
@@ -62,26 +61,28 @@ pub fn extend_file(
         (memory control states.now names.now pool.now free.now heads.now
         chain.now rows.old store.old)) file).after }
 {
-    let k = refusal(
-        control, states, names, pool, free, heads, chain, rows, store, counts,
-    );
-    if k != 0 {
-        return Extended::Refused(k);
-    }
-    let Row::At(row) = find_row(rows, file) else {
-        return Extended::Refused(NO_FILE);
+    let lent = PoolView {
+        control,
+        states,
+        names,
+        pool,
+        free,
+        heads,
+        chain,
+        rows,
+        store,
+        counts,
     };
+    refusal(&lent)?;
+    let row = find_row(rows, file).ok_or(Refusal::NoFile)?;
     let blocks = blocks_at(rows, row);
     if blocks == capacity_at(rows, row) {
-        return Extended::Refused(FILE_FULL);
+        return Err(Refusal::FileFull);
     }
-    clear_block(
-        store,
-        block_place(rows, row, BlockNumber(blocks)),
-        control.size,
-    );
+    let block = BlockNumber(blocks);
+    clear_block(store, block_place(rows, row, block), control.size);
     set_blocks(rows, row, blocks + 1);
-    Extended::Block(BlockNumber(blocks))
+    Ok(block)
 }
 
 // Whether a buffer holds a page of a file.
@@ -89,12 +90,7 @@ fn is_of_file(states: &[u32], names: &[u32], file: FileName, buffer: BufferNumbe
     requires { (buffer.0 < length states.now) × (length names.now ≡ name_words * length states.now) }
     ensures { result ≡ held_of states.now names.now file buffer.0 }
 {
-    if is_empty(state_of(states, buffer)) {
-        return false;
-    }
-    let name = stored(names, buffer);
-    let own = name.file;
-    same_file(own, file)
+    !is_empty(state_of(states, buffer)) && same_file(stored(names, buffer).file, file)
 }
 
 // Whether one of a file's pages is pinned.
@@ -102,14 +98,11 @@ fn any_pinned(states: &[u32], names: &[u32], file: FileName) -> bool
     requires { length names.now ≡ name_words * length states.now }
     ensures { result ≡ pinned_of states.now names.now file }
 {
-    let mut i = 0;
-    while i < states.len() {
-        if is_of_file(states, names, file, BufferNumber(i)) {
-            if is_pinned(state_of(states, BufferNumber(i))) {
-                return true;
-            }
+    for i in 0..states.len() {
+        let buffer = BufferNumber(i);
+        if is_of_file(states, names, file, buffer) && is_pinned(state_of(states, buffer)) {
+            return true;
         }
-        i += 1;
     }
     false
 }
@@ -143,14 +136,12 @@ fn release_file(
         (memory control states.old names.old pool.now free.old heads.old
         chain.old rows.now store.now)) }
 {
-    let n = states.len();
     let mut after = control;
-    let mut i = 0;
-    while i < n {
-        if is_of_file(states, names, file, BufferNumber(i)) {
-            after = release_buffer(after, states, names, free, heads, chain, BufferNumber(i));
+    for i in 0..states.len() {
+        let buffer = BufferNumber(i);
+        if is_of_file(states, names, file, buffer) {
+            after = release_buffer(after, states, names, free, heads, chain, buffer);
         }
-        i += 1;
     }
     after
 }
@@ -168,49 +159,51 @@ pub fn drop_file(
     store: &[u8],
     counts: &[u16],
     file: FileName,
-) -> AcceptedEnd
-    ensures answer_value { result.answer
+) -> Result<Control, Refusal>
+    ensures value { done_of result
         ≡ accepted_of
         (drop_file
         (with_counts counts.now
         (memory control states.old names.old pool.now free.old heads.old
         chain.old rows.old store.now)) file) }
-    ensures answer_value_2 { accepted_number result.answer
+    ensures number { accepted_number (done_of result)
         ≡ (drop_file
         (with_counts counts.now
         (memory control states.old names.old pool.now free.old heads.old
         chain.old rows.old store.now)) file).refusal }
-    ensures answer_value_3 { accepted_words result.answer
+    ensures words { accepted_words (done_of result)
         ≡ (drop_file
         (with_counts counts.now
         (memory control states.old names.old pool.now free.old heads.old
         chain.old rows.old store.now)) file).answer }
     ensures store_after { with_counts counts.now
-        (memory result.control states.new names.new pool.now free.new
+        (memory (record_of control result) states.new names.new pool.now free.new
         heads.new chain.new rows.new store.now)
         ≡ (drop_file
         (with_counts counts.now
         (memory control states.old names.old pool.now free.old heads.old
         chain.old rows.old store.now)) file).after }
 {
-    let k = refusal(
-        control, states, names, pool, free, heads, chain, rows, store, counts,
-    );
-    if k != 0 {
-        return refused(control, k);
-    }
-    let Row::At(row) = find_row(rows, file) else {
-        return refused(control, NO_FILE);
+    let lent = PoolView {
+        control,
+        states,
+        names,
+        pool,
+        free,
+        heads,
+        chain,
+        rows,
+        store,
+        counts,
     };
+    refusal(&lent)?;
+    let row = find_row(rows, file).ok_or(Refusal::NoFile)?;
     if any_pinned(states, names, file) {
-        return refused(control, FILE_PINNED);
+        return Err(Refusal::FilePinned);
     }
     let after = release_file(
         control, states, names, pool, free, heads, chain, rows, store, counts, file,
     );
     set_blocks(rows, row, 0);
-    AcceptedEnd {
-        control: after,
-        answer: Accepted::Done,
-    }
+    Ok(after)
 }

@@ -2,17 +2,18 @@
 
 ghost use Rattle.std.specs.Prelude.{◌≡◌};
 ghost use Rattle.bufmodel.specs.Memory.{memory, with_counts};
-ghost use Rattle.bufmodel.specs.Answer.{written_number, written_words, written_of};
+ghost use Rattle.bufmodel.specs.Answer.{written_number, written_words, written_of, answer_of, control_of};
 ghost use Rattle.bufmodel.specs.Calls.{flush};
 
 use crate::buffer::buffer_refusal;
-use crate::ends::WrittenEnd;
 use bufmem::flag::one_if;
 use bufmem::state::state_of;
 use bufmem::word::is_dirty;
-use bufmodel::answer::Written;
+use bufmodel::answer::Ended;
 use bufmodel::control::Control;
 use bufmodel::holder::Holder;
+use bufmodel::refusal::Refusal;
+use bufmodel::view::PoolView;
 use bufmoves::back::write_back;
 use buftag::number::BufferNumber;
 
@@ -30,44 +31,45 @@ pub fn flush_buffer(
     counts: &[u16],
     holder: Holder,
     buffer: BufferNumber,
-) -> WrittenEnd
-    ensures answer_value { result.answer
+) -> Result<Ended<u64>, Refusal>
+    ensures value { answer_of result
         ≡ written_of
         (flush
         (with_counts counts.now
         (memory control states.old names.now pool.now free.now heads.now
         chain.now rows.now store.old)) holder.0 buffer.0) }
-    ensures answer_value_2 { written_number result.answer
+    ensures number { written_number (answer_of result)
         ≡ (flush
         (with_counts counts.now
         (memory control states.old names.now pool.now free.now heads.now
         chain.now rows.now store.old)) holder.0 buffer.0).refusal }
-    ensures answer_value_3 { written_words result.answer
+    ensures words { written_words (answer_of result)
         ≡ (flush
         (with_counts counts.now
         (memory control states.old names.now pool.now free.now heads.now
         chain.now rows.now store.old)) holder.0 buffer.0).answer }
     ensures store_after { with_counts counts.now
-        (memory result.control states.new names.now pool.now free.now
+        (memory (control_of control result) states.new names.now pool.now free.now
         heads.now chain.now rows.now store.new)
         ≡ (flush
         (with_counts counts.now
         (memory control states.old names.now pool.now free.now heads.now
         chain.now rows.now store.old)) holder.0 buffer.0).after }
 {
-    let k = buffer_refusal(
-        control, states, names, pool, free, heads, chain, rows, store, counts, holder, buffer,
-    );
-    if k != 0 {
-        return WrittenEnd {
-            control: control,
-            answer: Written::Refused(k),
-        };
-    }
-    let n = one_if(is_dirty(state_of(states, buffer)));
-    let after = write_back(control, states, names, pool, rows, store, buffer);
-    WrittenEnd {
-        control: after,
-        answer: Written::Pages(n),
-    }
+    let lent = PoolView {
+        control,
+        states,
+        names,
+        pool,
+        free,
+        heads,
+        chain,
+        rows,
+        store,
+        counts,
+    };
+    buffer_refusal(&lent, holder, buffer)?;
+    let answer = one_if(is_dirty(state_of(states, buffer)));
+    let control = write_back(control, states, names, pool, rows, store, buffer);
+    Ok(Ended { control, answer })
 }

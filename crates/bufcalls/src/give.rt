@@ -12,10 +12,10 @@ use bufbooks::lent::refusal;
 use bufmem::counts::{count_of, is_holder, put_count};
 use bufmem::state::{put_state, state_of};
 use bufmem::word::pin_less;
-use bufmodel::answer::Accepted;
 use bufmodel::control::Control;
 use bufmodel::holder::Holder;
-use bufmodel::refusal::NO_HOLDER;
+use bufmodel::refusal::Refusal;
+use bufmodel::view::PoolView;
 use buftag::number::BufferNumber;
 
 // The word of a buffer on which a holder had so many pins and has none now.
@@ -23,10 +23,7 @@ fn given_word(count: u16, w: u32) -> u32
     requires { count ≢ 0 → pinned w ≡ true }
     ensures { result ≡ given_word count w }
 {
-    if count == 0 {
-        return w;
-    }
-    pin_less(w)
+    if count == 0 { w } else { pin_less(w) }
 }
 
 // What a holder has of one buffer.
@@ -48,11 +45,8 @@ fn give_all(states: &mut [u32], counts: &mut [u16], holder: Holder)
     ensures { pins_part states.new counts.new
         ≡ give_up_to holder.0 (length states.old) (pins_part states.old counts.old) }
 {
-    let n = states.len();
-    let mut i = 0;
-    while i < n {
+    for i in 0..states.len() {
         give_at(states, counts, holder, BufferNumber(i));
-        i += 1;
     }
 }
 
@@ -69,19 +63,19 @@ pub fn give_back(
     store: &[u8],
     counts: &mut [u16],
     holder: Holder,
-) -> Accepted
+) -> Result<(), Refusal>
     ensures value { result
         ≡ accepted_of
         (give_back
         (with_counts counts.old
         (memory control states.old names.now pool.now free.now heads.now
         chain.now rows.now store.now)) holder.0) }
-    ensures result_value { accepted_number result
+    ensures number { accepted_number result
         ≡ (give_back
         (with_counts counts.old
         (memory control states.old names.now pool.now free.now heads.now
         chain.now rows.now store.now)) holder.0).refusal }
-    ensures result_value_2 { accepted_words result
+    ensures words { accepted_words result
         ≡ (give_back
         (with_counts counts.old
         (memory control states.old names.now pool.now free.now heads.now
@@ -94,15 +88,22 @@ pub fn give_back(
         (memory control states.old names.now pool.now free.now heads.now
         chain.now rows.now store.now)) holder.0).after }
 {
-    let k = refusal(
-        control, states, names, pool, free, heads, chain, rows, store, counts,
-    );
-    if k != 0 {
-        return Accepted::Refused(k);
-    }
+    let lent = PoolView {
+        control,
+        states,
+        names,
+        pool,
+        free,
+        heads,
+        chain,
+        rows,
+        store,
+        counts,
+    };
+    refusal(&lent)?;
     if !is_holder(holder) {
-        return Accepted::Refused(NO_HOLDER);
+        return Err(Refusal::NoHolder);
     }
     give_all(states, counts, holder);
-    Accepted::Done
+    Ok(())
 }

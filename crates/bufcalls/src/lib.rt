@@ -4,7 +4,6 @@
 
 pub mod buffer;
 pub mod checkpoint;
-pub mod ends;
 pub mod file;
 pub mod flush;
 pub mod give;

@@ -3,46 +3,15 @@
 ghost use Rattle.std.specs.Prelude.{◌≡◌, ◌<◌, ◌^◌, length, replicate};
 ghost use Rattle.buftag.specs.Link.{none};
 ghost use Rattle.bufmodel.specs.Memory.{memory, with_counts};
-ghost use Rattle.bufmodel.specs.Answer.{accepted_number, accepted_words, accepted_of};
+ghost use Rattle.bufmodel.specs.Answer.{accepted_number, accepted_words, accepted_of, done_of, record_of};
 ghost use Rattle.bufmodel.specs.Calls.{free_links, set_up};
 
-use crate::ends::{AcceptedEnd, refused};
 use bufbooks::sizes::sizes_ok;
 use bufmem::word::cap_ok;
-use bufmodel::answer::Accepted;
 use bufmodel::control::Control;
-use bufmodel::refusal::{CAP, SIZES};
+use bufmodel::refusal::Refusal;
+use bufmodel::view::PoolView;
 use buftag::link::NONE;
-
-fn clear_words(words: &mut [u32])
-    ensures { words.new ≡ replicate (length words.old) 0 }
-{
-    let mut i = 0;
-    while i < words.len() {
-        words[i] = 0;
-        i += 1;
-    }
-}
-
-fn clear_counts(counts: &mut [u16])
-    ensures { counts.new ≡ replicate (length counts.old) 0 }
-{
-    let mut i = 0;
-    while i < counts.len() {
-        counts[i] = 0;
-        i += 1;
-    }
-}
-
-fn clear_links(links: &mut [i32])
-    ensures { links.new ≡ replicate (length links.old) none }
-{
-    let mut i = 0;
-    while i < links.len() {
-        links[i] = NONE;
-        i += 1;
-    }
-}
 
 // Every buffer leads to the next, the last one to the end.
 fn link_all(links: &mut [i32])
@@ -50,11 +19,8 @@ fn link_all(links: &mut [i32])
     ensures { links.new ≡ free_links 0 (length links.old) }
 {
     let last = links.len() - 1;
-    let mut i = 0;
-    while i < last {
-        let next = (i + 1) as i32;
-        links[i] = next;
-        i += 1;
+    for i in 0..last {
+        links[i] = (i + 1) as i32;
     }
     links[last] = NONE;
 }
@@ -73,25 +39,25 @@ pub fn set_up_pool(
     size: usize,
     position: u64,
     cap: usize,
-) -> AcceptedEnd
-    ensures answer_value { result.answer
+) -> Result<Control, Refusal>
+    ensures value { done_of result
         ≡ accepted_of
         (set_up
         (with_counts counts.old
         (memory control states.old names.old pool.now free.old heads.old
         chain.old rows.now store.now)) size position cap) }
-    ensures answer_value_2 { accepted_number result.answer
+    ensures number { accepted_number (done_of result)
         ≡ (set_up
         (with_counts counts.old
         (memory control states.old names.old pool.now free.old heads.old
         chain.old rows.now store.now)) size position cap).refusal }
-    ensures answer_value_3 { accepted_words result.answer
+    ensures words { accepted_words (done_of result)
         ≡ (set_up
         (with_counts counts.old
         (memory control states.old names.old pool.now free.old heads.old
         chain.old rows.now store.now)) size position cap).answer }
     ensures store_after { with_counts counts.new
-        (memory result.control states.new names.new pool.now free.new
+        (memory (record_of control result) states.new names.new pool.now free.new
         heads.new chain.new rows.now store.now)
         ≡ (set_up
         (with_counts counts.old
@@ -99,29 +65,36 @@ pub fn set_up_pool(
         chain.old rows.now store.now)) size position cap).after }
 {
     let fresh = Control {
-        size: size,
+        size,
         hand: 0,
         top: 0,
         inserted: position,
         flushed: position,
-        cap: cap,
+        cap,
     };
-    if !sizes_ok(
-        fresh, states, names, pool, free, heads, chain, rows, store, counts,
-    ) {
-        return refused(control, SIZES);
+    let lent = PoolView {
+        control: fresh,
+        states,
+        names,
+        pool,
+        free,
+        heads,
+        chain,
+        rows,
+        store,
+        counts,
+    };
+    if !sizes_ok(&lent) {
+        return Err(Refusal::Sizes);
     }
     if !cap_ok(cap) {
-        return refused(control, CAP);
+        return Err(Refusal::Cap);
     }
-    clear_words(states);
-    clear_words(names);
+    states.fill(0);
+    names.fill(0);
     link_all(free);
-    clear_links(heads);
-    clear_links(chain);
-    clear_counts(counts);
-    AcceptedEnd {
-        control: fresh,
-        answer: Accepted::Done,
-    }
+    heads.fill(NONE);
+    chain.fill(NONE);
+    counts.fill(0);
+    Ok(fresh)
 }

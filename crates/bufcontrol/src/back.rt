@@ -5,11 +5,12 @@ ghost use Rattle.bufmodel.specs.Memory.{memory, with_counts};
 ghost use Rattle.bufmodel.specs.Answer.{written_number, written_words, written_of};
 ghost use Rattle.bufmodel.specs.Calls.{flush, checkpoint};
 
+use crate::store::store_back;
 use bufcalls::checkpoint::checkpoint_pool;
 use bufcalls::flush::flush_buffer;
-use bufmodel::answer::Written;
 use bufmodel::control::Control;
 use bufmodel::holder::Holder;
+use bufmodel::refusal::Refusal;
 use buftag::number::BufferNumber;
 
 // Writes a pinned page back if it is dirty.
@@ -26,19 +27,19 @@ pub fn flush(
     counts: &[u16],
     holder: Holder,
     buffer: BufferNumber,
-) -> Written
+) -> Result<u64, Refusal>
     ensures value { result
         ≡ written_of
         (flush
         (with_counts counts.now
         (memory control.old states.old names.now pool.now free.now
         heads.now chain.now rows.now store.old)) holder.0 buffer.0) }
-    ensures result_value { written_number result
+    ensures number { written_number result
         ≡ (flush
         (with_counts counts.now
         (memory control.old states.old names.now pool.now free.now
         heads.now chain.now rows.now store.old)) holder.0 buffer.0).refusal }
-    ensures result_value_2 { written_words result
+    ensures words { written_words result
         ≡ (flush
         (with_counts counts.now
         (memory control.old states.old names.now pool.now free.now
@@ -53,12 +54,9 @@ pub fn flush(
 {
     let end = flush_buffer(
         *control, states, names, pool, free, heads, chain, rows, store, counts, holder, buffer,
-    );
-    control.hand = end.control.hand;
-    control.top = end.control.top;
-    control.inserted = end.control.inserted;
-    control.flushed = end.control.flushed;
-    end.answer
+    )?;
+    store_back(control, end.control);
+    Ok(end.answer)
 }
 
 // Writes every dirty page back, rising.
@@ -73,19 +71,19 @@ pub fn checkpoint(
     rows: &[u32],
     store: &mut [u8],
     counts: &[u16],
-) -> Written
+) -> Result<u64, Refusal>
     ensures value { result
         ≡ written_of
         (checkpoint
         (with_counts counts.now
         (memory control.old states.old names.now pool.now free.now
         heads.now chain.now rows.now store.old))) }
-    ensures result_value { written_number result
+    ensures number { written_number result
         ≡ (checkpoint
         (with_counts counts.now
         (memory control.old states.old names.now pool.now free.now
         heads.now chain.now rows.now store.old))).refusal }
-    ensures result_value_2 { written_words result
+    ensures words { written_words result
         ≡ (checkpoint
         (with_counts counts.now
         (memory control.old states.old names.now pool.now free.now
@@ -98,12 +96,9 @@ pub fn checkpoint(
         (memory control.old states.old names.now pool.now free.now
         heads.now chain.now rows.now store.old))).after }
 {
-    let end = checkpoint_pool(
+    let written = checkpoint_pool(
         *control, states, names, pool, free, heads, chain, rows, store, counts,
-    );
-    control.hand = end.control.hand;
-    control.top = end.control.top;
-    control.inserted = end.control.inserted;
-    control.flushed = end.control.flushed;
-    end.answer
+    )?;
+    store_back(control, written.control);
+    Ok(written.answer)
 }

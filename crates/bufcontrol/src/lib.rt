@@ -5,3 +5,4 @@
 pub mod back;
 pub mod log;
 pub mod pin;
+mod store;

@@ -5,9 +5,11 @@ ghost use Rattle.bufmodel.specs.Memory.{memory, with_counts};
 ghost use Rattle.bufmodel.specs.Answer.{accepted_number, accepted_words, accepted_of};
 ghost use Rattle.bufmodel.specs.Calls.{log_inserted, log_flushed};
 
+use crate::store::store_back;
 use bufcalls::log::{log_flushed, log_inserted};
-use bufmodel::answer::Accepted;
 use bufmodel::control::Control;
+use bufmodel::refusal::Refusal;
+use bufmodel::view::PoolView;
 
 // The log is inserted up to a position.
 pub fn log_inserted_to(
@@ -22,19 +24,19 @@ pub fn log_inserted_to(
     store: &[u8],
     counts: &[u16],
     position: u64,
-) -> Accepted
+) -> Result<(), Refusal>
     ensures value { result
         ≡ accepted_of
         (log_inserted
         (with_counts counts.now
         (memory control.old states.now names.now pool.now free.now
         heads.now chain.now rows.now store.now)) position) }
-    ensures result_value { accepted_number result
+    ensures number { accepted_number result
         ≡ (log_inserted
         (with_counts counts.now
         (memory control.old states.now names.now pool.now free.now
         heads.now chain.now rows.now store.now)) position).refusal }
-    ensures result_value_2 { accepted_words result
+    ensures words { accepted_words result
         ≡ (log_inserted
         (with_counts counts.now
         (memory control.old states.now names.now pool.now free.now
@@ -47,14 +49,21 @@ pub fn log_inserted_to(
         (memory control.old states.now names.now pool.now free.now
         heads.now chain.now rows.now store.now)) position).after }
 {
-    let end = log_inserted(
-        *control, states, names, pool, free, heads, chain, rows, store, counts, position,
-    );
-    control.hand = end.control.hand;
-    control.top = end.control.top;
-    control.inserted = end.control.inserted;
-    control.flushed = end.control.flushed;
-    end.answer
+    let lent = PoolView {
+        control: *control,
+        states,
+        names,
+        pool,
+        free,
+        heads,
+        chain,
+        rows,
+        store,
+        counts,
+    };
+    let after = log_inserted(&lent, position)?;
+    store_back(control, after);
+    Ok(())
 }
 
 // The log is flushed up to a position, or further.
@@ -70,19 +79,19 @@ pub fn log_flushed_to(
     store: &[u8],
     counts: &[u16],
     position: u64,
-) -> Accepted
+) -> Result<(), Refusal>
     ensures value { result
         ≡ accepted_of
         (log_flushed
         (with_counts counts.now
         (memory control.old states.now names.now pool.now free.now
         heads.now chain.now rows.now store.now)) position) }
-    ensures result_value { accepted_number result
+    ensures number { accepted_number result
         ≡ (log_flushed
         (with_counts counts.now
         (memory control.old states.now names.now pool.now free.now
         heads.now chain.now rows.now store.now)) position).refusal }
-    ensures result_value_2 { accepted_words result
+    ensures words { accepted_words result
         ≡ (log_flushed
         (with_counts counts.now
         (memory control.old states.now names.now pool.now free.now
@@ -95,22 +104,29 @@ pub fn log_flushed_to(
         (memory control.old states.now names.now pool.now free.now
         heads.now chain.now rows.now store.now)) position).after }
 {
-    let end = log_flushed(
-        *control, states, names, pool, free, heads, chain, rows, store, counts, position,
-    );
-    control.hand = end.control.hand;
-    control.top = end.control.top;
-    control.inserted = end.control.inserted;
-    control.flushed = end.control.flushed;
-    end.answer
+    let lent = PoolView {
+        control: *control,
+        states,
+        names,
+        pool,
+        free,
+        heads,
+        chain,
+        rows,
+        store,
+        counts,
+    };
+    let after = log_flushed(&lent, position)?;
+    store_back(control, after);
+    Ok(())
 }
 
 // What both calls leave: the control record, and each answer.
 #[derive(Clone, Copy)]
 pub struct LogEnd {
     pub control: Control,
-    pub inserted: Accepted,
-    pub flushed: Accepted,
+    pub inserted: Result<(), Refusal>,
+    pub flushed: Result<(), Refusal>,
 }
 
 // The log is inserted and then flushed up to a position: one control record is lent to both calls. Whoever has the record by value
@@ -181,7 +197,7 @@ pub fn log_through(
     );
     LogEnd {
         control: lent,
-        inserted: inserted,
-        flushed: flushed,
+        inserted,
+        flushed,
     }
 }

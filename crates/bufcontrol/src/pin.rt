@@ -5,9 +5,11 @@ ghost use Rattle.bufmodel.specs.Memory.{memory, with_counts};
 ghost use Rattle.bufmodel.specs.Answer.{pinned_number, pinned_words, pinned_of};
 ghost use Rattle.bufmodel.specs.Pin.{pin};
 
+use crate::store::store_back;
 use bufmodel::answer::Pinned;
 use bufmodel::control::Control;
 use bufmodel::holder::Holder;
+use bufmodel::refusal::Refusal;
 use bufpin::pin::pin_page;
 use buftag::name::PageName;
 
@@ -25,19 +27,19 @@ pub fn pin(
     counts: &mut [u16],
     holder: Holder,
     name: PageName,
-) -> Pinned
+) -> Result<Pinned, Refusal>
     ensures value { result
         ≡ pinned_of
         (pin
         (with_counts counts.old
         (memory control.old states.old names.old pool.old free.old
         heads.old chain.old rows.now store.old)) holder.0 name) }
-    ensures result_value { pinned_number result
+    ensures number { pinned_number result
         ≡ (pin
         (with_counts counts.old
         (memory control.old states.old names.old pool.old free.old
         heads.old chain.old rows.now store.old)) holder.0 name).refusal }
-    ensures result_value_2 { pinned_words result
+    ensures words { pinned_words result
         ≡ (pin
         (with_counts counts.old
         (memory control.old states.old names.old pool.old free.old
@@ -52,10 +54,7 @@ pub fn pin(
 {
     let end = pin_page(
         *control, states, names, pool, free, heads, chain, rows, store, counts, holder, name,
-    );
-    control.hand = end.control.hand;
-    control.top = end.control.top;
-    control.inserted = end.control.inserted;
-    control.flushed = end.control.flushed;
-    end.answer
+    )?;
+    store_back(control, end.control);
+    Ok(end.answer)
 }

@@ -2,7 +2,7 @@
 
 #![tactic(auto)]
 
-ghost use Rattle.std.specs.Prelude.{◌≡◌, not, ◌&&◌, length, take, eqb};
+ghost use Rattle.std.specs.Prelude.{◌≡◌, not, ◌&&◌, length, take, eqb, is_none};
 ghost use Rattle.io.specs.Counts.{IsPrefixLen};
 ghost use Rattle.buftrace.specs.Scan.{Ready, Fed, scan_of, feds, finished};
 ghost use Rattle.buftrace.specs.Report.{Wrote, printed};
@@ -30,12 +30,12 @@ fn take_piece(
     ensures ready { Ready result.reader states.new held.new place.new }
     ensures held_after { scan_of result.reader states.new held.new
         ≡ feds (scan_of s states.old held.old) bytes.now }
-    ensures more_value { result.more ≡ (not (eqb (length bytes.now) 0) && eqb result.reader.bad 0) }
+    ensures more_value { result.more ≡ (not (eqb (length bytes.now) 0) && is_none result.reader.bad) }
 {
-    let t = feed(s, states, held, place, bytes);
+    let reader = feed(s, states, held, place, bytes);
     Piece {
-        reader: t,
-        more: (bytes.len() != 0) & (t.bad == 0),
+        reader,
+        more: !bytes.is_empty() && reader.bad.is_none(),
     }
 }
 
@@ -53,17 +53,16 @@ fn read_piece(
 {
     let mut buf = [0u8; 65536];
     let Ok(n) = input.read(&mut buf) else {
-        let end = break_off(s);
         return Piece {
-            reader: end,
+            reader: break_off(s),
             more: false,
         };
     };
     take_piece(s, states, held, place, &buf[..n])
 }
 
-// All pieces. A proved loop has to end, and nothing says that the input does: it counts its turns down, from a number that no run uses up.
-// Should one, it has not read all, and the line begun is bad.
+// All pieces. A proved loop has to end, and nothing says that the input does: it has so many turns that no run uses them up. Should one, it
+// has not read all, and the line begun is bad.
 fn read_all(
     input: &mut Stdin,
     s: Reader,
@@ -75,19 +74,15 @@ fn read_all(
     ensures ready { Ready result states.new held.new place.new }
     ensures fed { Fed (scan_of s states.old held.old) (scan_of result states.new held.new) }
 {
-    let mut turns = u64::MAX;
     let mut t = s;
-    let mut more = true;
-    while turns > 0 && more {
-        let p = read_piece(input, t, states, held, place);
-        t = p.reader;
-        more = p.more;
-        turns -= 1;
+    for _ in 0..u64::MAX {
+        let piece = read_piece(input, t, states, held, place);
+        t = piece.reader;
+        if !piece.more {
+            return t;
+        }
     }
-    if more {
-        return break_off(t);
-    }
-    t
+    break_off(t)
 }
 
 // The input is at its end: puts its line at the start of out, and answers the line's length.
@@ -122,5 +117,5 @@ fn cost_line(input: &mut Stdin, out: &mut [u8; 64]) -> usize
 fn main(rt: HostRuntime) {
     let mut out = [0u8; 64];
     let k = cost_line(&mut rt.stdin(), &mut out);
-    let _written = rt.stdout().write_all(&out[..k]);
+    let _ = rt.stdout().write_all(&out[..k]);
 }

@@ -7,12 +7,13 @@ use lib.Dec.{ltb}
 use Rattle.laws.specs.First.{Found, found, missing}
 use Rattle.buftag.specs.declared.name.PageName.{PageName}
 use Rattle.bufmodel.specs.Rows.{blocks_at, row_of, place_in, place_of}
-use Rattle.bufmem.specs.declared.place.Place.{Place}
-use Rattle.bufmem.specs.declared.place.Place.TheVariants.{At, NoFile, NoBlock}
+use Rattle.std.specs.Prelude.{Result, Ok, Err}
+use Rattle.bufmem.specs.declared.place.NoPlace.{NoPlace}
+use Rattle.bufmem.specs.declared.place.NoPlace.TheVariants.{NoBlock}
 use Rattle.bufmem.specs.Place.{placed_in, placed, found_place}
 
 -- of a block that the file has, or has not
-has-or-not : (t : Bool) (g : ℕ) → found_place (cond t (At g) NoBlock) ≡ cond t (found g) missing
+has-or-not : (t : Bool) (g : ℕ) → found_place (cond t (Ok g) (Err NoBlock)) ≡ cond t (found g) missing
 unfolding found_place
 has-or-not true g = refl
 has-or-not false g = refl
@@ -26,9 +27,8 @@ pub found-placed : (rows : List ℕ) (n : PageName) → found_place (placed rows
 unfolding placed place_of
 found-placed rows n = found_in rows n.block.0 (row_of rows n.file)
 
--- an answer of which a match says that it is no `At`
-pub found-other : (p : Place) → ((g : ℕ) → p ≡ At g → ⊥) → found_place p ≡ missing
+-- an answer of which a match says that it is no `Ok`
+pub found-other : (p : Result ℕ NoPlace) → ((g : ℕ) → p ≡ Ok g → ⊥) → found_place p ≡ missing
 unfolding found_place
-found-other (At g) h = absurd (h g refl)
-found-other NoFile h = refl
-found-other NoBlock h = refl
+found-other (Ok g) h = absurd (h g refl)
+found-other (Err why) h = refl

@@ -1,33 +1,22 @@
 -- What the code of the rows shows, put together.
 use Prim.Native.Nat.{ℕ, ◌+◌, ◌*◌, ◌%◌, ◌≤◌, ◌<◌}
 use native.Mathlib.Omega.{arith}
-use mathlib.Core.Path.{◌≡◌, refl, sym, ap, ◌∙◌}
-use mathlib.Core.Bool.{Bool, true, false, ◌&&◌}
+use mathlib.Core.Path.{◌≡◌, sym, ap, ◌∙◌}
+use mathlib.Core.Bool.{true, false}
 use mathlib.Core.List.{List}
 use mathlib.Core.Logic.{◌≢◌}
-use lib.Dec.{eqb}
 use lib.ListN.{length}
 use borrow.Author.Tests.{eq-eqb, ne_eqb, le-leb, lt-leb}
 use Rattle.buftag.specs.declared.name.FileName.{FileName}
 use Rattle.laws.specs.Every.{all}
 use Rattle.laws.specs.First.{found, missing}
-use Rattle.buftag.specs.Name.{same_file, is_fork}
+use Rattle.buftag.specs.Name.{is_fork}
 use Rattle.bufmodel.specs.Rows.{row_words, files, file_at, blocks_at, capacity_at, row_of, start_of, store_blocks}
 use Rattle.bufmodel.specs.Sizes.{max_files, max_blocks, new_file, sound_row, sound_rows}
 use Rattle.bufmodel.proofs.RowsLaws.{row-found, start-grows}
 use Rattle.bufmodel.proofs.SizesLaws.{rows-say}
-use Rattle.bufmem.specs.declared.rows.Row.{Row}
-use Rattle.bufmem.specs.declared.rows.Row.TheVariants.{At, Missing}
+use Rattle.std.specs.Prelude.{Option, Some, None}
 use Rattle.bufmem.specs.Rows.{found_row}
-
-other-middle : (a b c : Bool) → b ≡ false → false ≡ ((a && b) && c)
-other-middle true b c h = rw h
-other-middle false b c h = refl
-
--- another relation number makes another file
-pub other-relation : (a b : FileName) → a.relation ≢ b.relation → false ≡ same_file a b
-other-relation a b h =
-    other-middle (eqb a.tablespace b.tablespace && eqb a.database b.database) _ _ (ne_eqb a.relation b.relation h)
 
 -- a row's three rules, in the order in which the code looks at them
 module _ (rows : List ℕ) (r : ℕ) where
@@ -65,13 +54,11 @@ module _ (rows : List ℕ) where
         rw (eq-eqb (length rows % row_words) 0 whole, le-leb (files rows) max_files few, le-leb (start_of rows (files rows)) max_blocks h)
 
 -- a search that found a row
-pub row_at : (rows : List ℕ) (f : FileName) {s : Row} {r : ℕ} → found_row s ≡ row_of rows f → s ≡ At r → row_of rows f ≡ found r
-unfolding found_row
+pub row_at : (rows : List ℕ) (f : FileName) {s : Option ℕ} {r : ℕ} → found_row s ≡ row_of rows f → s ≡ Some r → row_of rows f ≡ found r
 row_at rows f h e = sym h ∙ ap found_row e
 
 -- a search that found none
-pub row-none : (rows : List ℕ) (f : FileName) {s : Row} → found_row s ≡ row_of rows f → s ≡ Missing → row_of rows f ≡ missing
-unfolding found_row
+pub row-none : (rows : List ℕ) (f : FileName) {s : Option ℕ} → found_row s ≡ row_of rows f → s ≡ None → row_of rows f ≡ missing
 row-none rows f h e = sym h ∙ ap found_row e
 
 -- a row that was found is one of the rows, and the store has room before it

@@ -3,15 +3,15 @@ use Prim.Native.Nat.{ℕ}
 use native.Mathlib.Omega.{arith}
 use mathlib.Core.Path.{◌≡◌, refl, ap, ◌∙◌}
 use mathlib.Core.Bool.{true, false, not}
-use mathlib.Core.Logic.{◌≢◌, ⊎_elim}
+use mathlib.Core.Logic.{⊎_elim}
 use mathlib.Core.List.{List, ◌∷◌}
 use lib.Dec.{ltb}
 use borrow.Author.Tests.{ltb-false, lt-leb, ltb-true, le-leb}
 use Rattle.laws.specs.First.{Found, found, missing}
 use Rattle.laws.specs.Block.{block}
 use Rattle.laws.proofs.Tests.{true-or-false}
-use Rattle.buftag.specs.declared.lookup.Held.{Held}
-use Rattle.buftag.specs.declared.lookup.Held.TheVariants.{At, Nowhere}
+use Rattle.buftag.specs.Lookup.{Held}
+use Rattle.std.specs.Prelude.{Some, None, Result, Ok, Err}
 use Rattle.buftag.specs.declared.name.PageName.{PageName}
 use Rattle.buftag.specs.declared.number.BufferNumber.{BufferNumber}
 use Rattle.buftag.specs.Lookup.{look_up}
@@ -23,34 +23,35 @@ use Rattle.bufmodel.specs.Outcome.{Place, place, refusal_of}
 use Rattle.bufmodel.specs.Pin.{no_row, no_block, held_in, name_places, sum_differs, page_places}
 use Rattle.bufmodel.proofs.OutcomeLaws.{refusal-past, refusal-at}
 use Rattle.bufmodel.proofs.GoodLaws.{Good}
-use Rattle.bufmem.specs.declared.seek.Sought as name
+use Rattle.bufmodel.specs.declared.refusal.Refusal.{Refusal}
+use Rattle.bufmodel.specs.Refusal.{refusal_number}
+use Rattle.bufmodel.specs.declared.refusal.Refusal.TheVariants.{NoFile, NoBlock}
 use Rattle.bufmem.specs.Place.{placed_in, placed}
 use Rattle.bufmem.specs.Seek.{sought_at, sought}
 
 -- ---- the places 3 and 4
-at-found : {g h : ℕ} → name.TheVariants.At g ≡ name.TheVariants.At h → found g ≡ found h
+at-found : {g h : ℕ} → ◌≡◌ {A = Result ℕ Refusal} (Ok g) (Ok h) → found g ≡ found h
 at-found {g} {h} e = let q : g ≡ h = cc in ap found q
 
 module _ (rows : List ℕ) (b : ℕ) (later : List Place) where
   abbrev places : Found → List Place
   places f = place 3 (no_row f) ∷ place 4 (no_block rows b f) ∷ later
 
-  sought-refused : (f : Found) (k : ℕ) → sought_at (placed_in rows b f) ≡ name.TheVariants.Refused k
-      → (k ≢ 0) × (refusal_of (places f) ≡ k)
-  unfolding sought_at placed_in no_row no_block refusal_of
-  sought-refused missing k e = let q : 3 ≡ k = cc in (omega arith, q)
-  sought-refused (found r) k e =
+  sought-refused : (f : Found) (r : Refusal) → sought_at (placed_in rows b f) ≡ Err r → refusal_of (places f) ≡ refusal_number r
+  unfolding placed_in no_row no_block refusal_of
+  sought-refused missing r e = let q : ◌≡◌ {A = Refusal} NoFile r = cc in ap refusal_number q
+  sought-refused (found i) r e =
       ⊎_elim
       (λ t. let d = rw t at e in let z : ◌≡◌ {A = ℕ} 0 1 = cc in absurd (omega arith))
       (λ t.
       let d = rw t at e in
-      let q : 4 ≡ k = cc in
-      (omega arith, rw (le-leb (blocks_at rows r) b (ltb-false b (blocks_at rows r) t)) q))
-      (true-or-false (ltb b (blocks_at rows r)))
+      let q : ◌≡◌ {A = Refusal} NoBlock r = cc in
+      rw (le-leb (blocks_at rows i) b (ltb-false b (blocks_at rows i) t)) (ap refusal_number q))
+      (true-or-false (ltb b (blocks_at rows i)))
 
-  sought-at : (f : Found) (g : ℕ) → sought_at (placed_in rows b f) ≡ name.TheVariants.At g
+  sought-at : (f : Found) (g : ℕ) → sought_at (placed_in rows b f) ≡ Ok g
       → (place_in rows b f ≡ found g) × (refusal_of (places f) ≡ refusal_of later)
-  unfolding sought_at placed_in place_in no_row no_block refusal_of
+  unfolding placed_in place_in no_row no_block refusal_of
   sought-at missing g e = let z : ◌≡◌ {A = ℕ} 0 1 = cc in absurd (omega arith)
   sought-at (found r) g e =
       ⊎_elim
@@ -59,23 +60,23 @@ module _ (rows : List ℕ) (b : ℕ) (later : List Place) where
       (true-or-false (ltb b (blocks_at rows r)))
 
 module _ (rows : List ℕ) (n : PageName) where
-  pub name-refused : (later : List Place) {k : ℕ} → sought rows n ≡ name.TheVariants.Refused k
-      → (k ≢ 0) × (refusal_of (name_places rows n later) ≡ k)
+  pub name-refused : (later : List Place) {r : Refusal} → sought rows n ≡ Err r
+      → refusal_of (name_places rows n later) ≡ refusal_number r
   unfolding sought placed name_places
-  name-refused later {k} e = sought-refused rows n.block.0 later (row_of rows n.file) k e
+  name-refused later {r} e = sought-refused rows n.block.0 later (row_of rows n.file) r e
 
-  pub name-at : (later : List Place) {g : ℕ} → sought rows n ≡ name.TheVariants.At g
+  pub name-at : (later : List Place) {g : ℕ} → sought rows n ≡ Ok g
       → (place_of rows n ≡ found g) × (refusal_of (name_places rows n later) ≡ refusal_of later)
   unfolding sought placed name_places place_of
   name-at later {g} e = sought-at rows n.block.0 later (row_of rows n.file) g e
 
 -- ---- the place 17, behind these two
 module _ (m : Memory) (n : PageName) (later : List Place) where
-  pub page-refused : {k : ℕ} → sought m.rows n ≡ name.TheVariants.Refused k → (k ≢ 0) × (refusal_of (page_places m n later) ≡ k)
+  pub page-refused : {r : Refusal} → sought m.rows n ≡ Err r → refusal_of (page_places m n later) ≡ refusal_number r
   unfolding page_places
   page-refused e = name-refused m.rows n _ e
 
-  module _ {g : ℕ} (at : sought m.rows n ≡ name.TheVariants.At g) where
+  module _ {g : ℕ} (at : sought m.rows n ≡ Ok g) where
     sum-at : (h : Held) → held_in m n ≡ h → refusal_of (page_places m n later) ≡ refusal_of (place 17 (sum_differs m n (found g) h) ∷ later)
     unfolding page_places
     sum-at h e =
@@ -83,20 +84,20 @@ module _ (m : Memory) (n : PageName) (later : List Place) where
         w.1 ∙ rw (w.0, e)
 
     -- a page that is held is not verified
-    pub page-held : {b : BufferNumber} → held_in m n ≡ At b → refusal_of (page_places m n later) ≡ refusal_of later
+    pub page-held : {b : BufferNumber} → held_in m n ≡ Some b → refusal_of (page_places m n later) ≡ refusal_of later
     unfolding sum_differs
     page-held e = sum-at _ e ∙ refusal-past 17 later refl
 
     -- another passes, or its checksum differs
-    pub page-passes : held_in m n ≡ Nowhere → passes n.block.0 (block (size m) g m.store) ≡ true
+    pub page-passes : held_in m n ≡ None → passes n.block.0 (block (size m) g m.store) ≡ true
         → refusal_of (page_places m n later) ≡ refusal_of later
     unfolding sum_differs
-    page-passes e t = sum-at Nowhere e ∙ refusal-past 17 later (ap not t)
+    page-passes e t = sum-at None e ∙ refusal-past 17 later (ap not t)
 
-    pub page-differs : held_in m n ≡ Nowhere → passes n.block.0 (block (size m) g m.store) ≡ false
+    pub page-differs : held_in m n ≡ None → passes n.block.0 (block (size m) g m.store) ≡ false
         → refusal_of (page_places m n later) ≡ 17
     unfolding sum_differs
-    page-differs e t = sum-at Nowhere e ∙ refusal-at 17 later (ap not t)
+    page-differs e t = sum-at None e ∙ refusal-at 17 later (ap not t)
 
 -- ---- the look-up
 pub looked-up : (m : Memory) → Good m → (n : PageName) → look_up m.heads m.chain m.names n ≡ held_in m n

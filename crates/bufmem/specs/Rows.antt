@@ -1,8 +1,7 @@
 -- What a search among the rows answers.
+use Rattle.std.specs.Prelude.{ℕ, Option, Some, None}
 use Rattle.laws.specs.First.{Found, found, missing}
-use Rattle.bufmem.specs.declared.rows.Row.{Row}
-use Rattle.bufmem.specs.declared.rows.Row.TheVariants.{At, Missing}
 
-unfoldable pub found_row : Row → Found
-found_row (At r) = found r
-found_row Missing = missing
+abbrev pub found_row : Option ℕ → Found
+found_row (Some r) = found r
+found_row None = missing

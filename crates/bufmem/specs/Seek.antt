@@ -1,15 +1,13 @@
--- A page's place in the store, or the number that refuses its name.
-use Rattle.std.specs.Prelude.{ℕ, List}
+-- A page's place in the store, or what refuses its name.
+use Rattle.std.specs.Prelude.{ℕ, List, Result, Ok, Err}
 use Rattle.buftag.specs.declared.name.PageName.{PageName}
-use Rattle.bufmem.specs.declared.place.Place as place
-use Rattle.bufmem.specs.Place.{placed}
-use Rattle.bufmem.specs.declared.seek.Sought.{Sought}
-use Rattle.bufmem.specs.declared.seek.Sought.TheVariants.{At, Refused}
+use Rattle.bufmodel.specs.declared.refusal.Refusal.{Refusal}
+use Rattle.bufmem.specs.declared.place.NoPlace.{NoPlace}
+use Rattle.bufmem.specs.Place.{placed, place_refusal}
 
-unfoldable pub sought_at : place.Place → Sought
-sought_at (place.TheVariants.At g) = At g
-sought_at place.TheVariants.NoFile = Refused 3
-sought_at place.TheVariants.NoBlock = Refused 4
+abbrev pub sought_at : Result ℕ NoPlace → Result ℕ Refusal
+sought_at (Ok g) = Ok g
+sought_at (Err why) = Err (place_refusal why)
 
-unfoldable pub sought : List ℕ → PageName → Sought
+unfoldable pub sought : List ℕ → PageName → Result ℕ Refusal
 sought rows n = sought_at (placed rows n)

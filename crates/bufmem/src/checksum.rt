@@ -8,6 +8,11 @@ use bufhash::bytes::word_at;
 use bufhash::fnv::wrapping_mul;
 use buftag::number::BlockNumber;
 
+// The bytes of a row: a word for each sum.
+const ROW_SIZE: usize = 128;
+
+const FNV_PRIME: u32 = 16777619;
+
 // The words that the sums start from.
 const STARTS: [u32; 32] = [
     0x5B1F36E9, 0xB8525960, 0x02AB50AA, 0x1DE66D2A, 0x79FF467A, 0x9BB9F8A3, 0x217E7CD2, 0x83E13D2C,
@@ -17,11 +22,12 @@ const STARTS: [u32; 32] = [
 ];
 
 // One round: a word on top of a sum.
+#[tactic(auto, unfolding(bufmodel::specs::Checksum::mix_sum))]
 fn mix_sum(v: u32, s: u32) -> u32
     ensures { result ≡ mix_sum v s }
 {
     let t = v ^ s;
-    wrapping_mul(t, 16777619) ^ (t / 131072)
+    wrapping_mul(t, FNV_PRIME) ^ (t >> 17)
 }
 
 // A row of words on top of the sums.
@@ -29,12 +35,8 @@ fn mix_row(sums: &mut [u32; 32], bytes: &[u8], at: usize)
     requires { at + 128 ≤ length bytes.now }
     ensures { Mixed bytes.now at sums.old sums.new }
 {
-    let all = &mut sums[..];
-    let mut j = 0;
-    while j < 32 {
-        let s = all[j];
-        all[j] = mix_sum(word_at(bytes, at + j * 4) as u32, s);
-        j += 1;
+    for j in 0..32 {
+        sums[j] = mix_sum(word_at(bytes, at + j * 4) as u32, sums[j]);
     }
 }
 
@@ -43,27 +45,21 @@ fn mix_first(sums: &mut [u32; 32], page: &[u8])
     requires { 128 ≤ length page.now }
     ensures { Mixed (bare page.now) 0 sums.old sums.new }
 {
-    let mut row = [0u8; 128];
-    let mut i = 0;
-    while i < 128 {
-        row[i] = page[i];
-        i += 1;
-    }
+    let mut row = [0; ROW_SIZE];
+    row.copy_from_slice(&page[..ROW_SIZE]);
     row[8] = 0;
     row[9] = 0;
-    mix_row(sums, &row[..], 0);
+    mix_row(sums, &row, 0);
 }
 
 // Two rounds of zeros for each sum, and all exclusive-ored together.
+#[tactic(auto, unfolding(crate::specs::Checksum::fold_all))]
 fn fold_sums(sums: [u32; 32]) -> u32
     ensures { result ≡ fold_all sums 32 }
 {
     let mut r = 0;
-    let mut j = 0;
-    while j < 32 {
-        let s = sums[j];
-        r = r ^ mix_sum(0, mix_sum(0, s));
-        j += 1;
+    for s in sums {
+        r ^= mix_sum(0, mix_sum(0, s));
     }
     r
 }
@@ -75,11 +71,8 @@ pub fn page_checksum(page: &[u8], number: BlockNumber) -> u32
 {
     let mut sums = STARTS;
     mix_first(&mut sums, page);
-    let rows = page.len() / 128;
-    let mut i = 1;
-    while i < rows {
-        mix_row(&mut sums, page, i * 128);
-        i += 1;
+    for row in 1..page.len() / ROW_SIZE {
+        mix_row(&mut sums, page, row * ROW_SIZE);
     }
     (fold_sums(sums) ^ number.0) % 65535 + 1
 }

@@ -13,22 +13,24 @@ pub const CONTROL_WORDS: usize = 6;
 pub const ANSWER_WORDS: usize = 4;
 
 // -1 as a control word: 64 one bits.
-const ONE_BITS: u64 = 18446744073709551615;
+const ONE_BITS: u64 = u64::MAX;
+
+// A number that is no link.
+const NO_LINK: i32 = -3;
 
 // The top of the free list. A word that is no link is made a number that is none.
+#[tactic(auto, unfolding(crate::specs::Control::top_read))]
 fn read_top(w: u64) -> i32
     ensures { result ≡ top_read w }
 {
     if w == ONE_BITS {
         return NONE;
     }
-    if w >= 2147483648 {
-        return -3;
-    }
-    w as i32
+    i32::try_from(w).unwrap_or(NO_LINK)
 }
 
 // The control record of its six words.
+#[tactic(auto, unfolding(crate::specs::Control::control_read))]
 pub fn read_control(words: &[u64]) -> Control
     requires { length words.now ≡ control_words }
     ensures { result ≡ control_read words.now }
@@ -43,24 +45,25 @@ pub fn read_control(words: &[u64]) -> Control
     }
 }
 
+#[tactic(auto, unfolding(bufmodel::specs::Lent::top_word))]
 fn top_word(top: i32) -> u64
     ensures { result ≡ top_word top }
 {
-    if top < 0 {
-        return ONE_BITS;
-    }
-    top as u64
+    u64::try_from(top).unwrap_or(ONE_BITS)
 }
 
 // Stores the control record in its words.
+#[tactic(auto, unfolding(bufmodel::specs::Lent::words_of))]
 pub fn write_control(words: &mut [u64], control: Control)
     requires { length words.old ≡ control_words }
     ensures { words.new ≡ words_of control }
 {
-    words[0] = control.size as u64;
-    words[1] = control.hand as u64;
-    words[2] = top_word(control.top);
-    words[3] = control.inserted;
-    words[4] = control.flushed;
-    words[5] = control.cap as u64;
+    words.copy_from_slice(&[
+        control.size as u64,
+        control.hand as u64,
+        top_word(control.top),
+        control.inserted,
+        control.flushed,
+        control.cap as u64,
+    ]);
 }

@@ -9,7 +9,7 @@ use buftag::number::BufferNumber;
 pub const MAX_HOLDERS: usize = 64;
 
 // The greatest private count.
-pub const MAX_COUNT: u16 = 65535;
+pub const MAX_COUNT: u16 = u16::MAX;
 
 // Whether there is such a holder.
 pub fn is_holder(holder: Holder) -> bool
@@ -19,6 +19,7 @@ pub fn is_holder(holder: Holder) -> bool
 }
 
 // How many pins a holder has on a buffer.
+#[tactic(auto, unfolding(bufmodel::specs::Counts::count_at))]
 pub fn count_of(counts: &[u16], holder: Holder, buffer: BufferNumber) -> u16
     requires { count_place buffer.0 holder.0 < length counts.now }
     ensures { result ≡ count_at counts.now buffer.0 holder.0 }
@@ -26,10 +27,10 @@ pub fn count_of(counts: &[u16], holder: Holder, buffer: BufferNumber) -> u16
     counts[buffer.0 * MAX_HOLDERS + holder.0]
 }
 
+#[tactic(auto, unfolding(bufmodel::specs::Counts::set_count))]
 pub fn put_count(counts: &mut [u16], holder: Holder, buffer: BufferNumber, count: u16)
     requires { count_place buffer.0 holder.0 < length counts.old }
     ensures { counts.new ≡ set_count counts.old buffer.0 holder.0 count }
 {
-    let at = buffer.0 * MAX_HOLDERS + holder.0;
-    counts[at] = count;
+    counts[buffer.0 * MAX_HOLDERS + holder.0] = count;
 }

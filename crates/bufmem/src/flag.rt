@@ -7,8 +7,5 @@ ghost use Rattle.laws.specs.Sum.{ind};
 pub fn one_if(t: bool) -> u64
     ensures { result ≡ ind t }
 {
-    if t {
-        return 1;
-    }
-    0
+    u64::from(t)
 }

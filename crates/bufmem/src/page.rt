@@ -32,8 +32,7 @@ pub fn read_page(pool: &[u8], size: usize, buffer: BufferNumber, from: usize, ou
     ensures { out.new ≡ take (length out.old) (drop from (block size buffer.0 pool.now)) }
 {
     let a = buffer.0 * size + from;
-    let e = a + out.len();
-    copy_page(out, &pool[a..e]);
+    copy_page(out, &pool[a..a + out.len()]);
 }
 
 // Bytes copied into a page and its log position set.
@@ -41,12 +40,12 @@ fn write_bytes(page: &mut [u8], from: usize, bytes: &[u8], position: u64)
     requires { (8 ≤ length page.old) × (from + length bytes.now ≤ length page.old) }
     ensures { page.new ≡ written position from bytes.now page.old }
 {
-    let e = from + bytes.len();
-    copy_page(&mut page[from..e], bytes);
+    copy_page(&mut page[from..from + bytes.len()], bytes);
     put_position(page, 0, position);
 }
 
 // The same in the page of a buffer.
+#[tactic(auto, unfolding(laws::specs::Block::block, laws::specs::Block::put_block))]
 pub fn write_page(
     pool: &mut [u8],
     size: usize,
@@ -61,11 +60,11 @@ pub fn write_page(
         pool.old }
 {
     let a = buffer.0 * size;
-    let e = a + size;
-    write_bytes(&mut pool[a..e], from, bytes, position);
+    write_bytes(&mut pool[a..a + size], from, bytes, position);
 }
 
 // A page goes to place `g` of the store with the checksum of block `number` of its file.
+#[tactic(auto, unfolding(laws::specs::Block::block, laws::specs::Block::put_block))]
 pub fn page_to_store(
     store: &mut [u8],
     g: usize,
@@ -81,18 +80,16 @@ pub fn page_to_store(
 {
     copy_block(store, g, pool, buffer.0, size);
     let a = g * size;
-    let e = a + size;
-    seal(&mut store[a..e], number);
+    seal(&mut store[a..a + size], number);
 }
 
 // A page comes from place `g` of the store: its part of the pool is lent on and filled.
+#[tactic(auto, unfolding(laws::specs::Block::block, laws::specs::Block::put_block))]
 pub fn page_from_store(pool: &mut [u8], buffer: BufferNumber, store: &[u8], g: usize, size: usize)
     requires { (buffer.0 * size + size ≤ length pool.old) × (g * size + size ≤ length store.now) }
     ensures { pool.new ≡ put_block size buffer.0 (block size g store.now) pool.old }
 {
     let a = buffer.0 * size;
-    let e = a + size;
     let b = g * size;
-    let f = b + size;
-    copy_page(&mut pool[a..e], &store[b..f]);
+    copy_page(&mut pool[a..a + size], &store[b..b + size]);
 }

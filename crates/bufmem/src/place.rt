@@ -2,28 +2,40 @@
 
 ghost use Rattle.std.specs.Prelude.{◌≡◌, true};
 ghost use Rattle.bufmodel.specs.Sizes.{sound_rows};
-ghost use Rattle.bufmem.specs.Place.{placed};
+ghost use Rattle.bufmem.specs.Place.{placed, place_refusal};
 
-use crate::rows::{Row, block_place, find_row, has_block};
+use crate::rows::{block_place, find_row, has_block};
+use bufmodel::refusal::Refusal;
 use buftag::name::PageName;
 
-// A page's place, or what there is none of: a row of its file, or such a block in its file.
-#[derive(Clone, Copy)]
-pub enum Place {
-    At(usize),
+// Why a page has no place.
+#[derive(Clone, Copy, Debug, PartialEq, Eq)]
+pub enum NoPlace {
+    // There is no row of its file.
     NoFile,
+    // Its file has no such block.
     NoBlock,
 }
 
-pub fn place_of(rows: &[u32], name: PageName) -> Place
+impl From<NoPlace> for Refusal {
+    ghost from_gives = { λ missing refusal. refusal ≡ place_refusal missing };
+
+    fn from(missing: NoPlace) -> Refusal {
+        match missing {
+            NoPlace::NoFile => Refusal::NoFile,
+            NoPlace::NoBlock => Refusal::NoBlock,
+        }
+    }
+}
+
+#[tactic(auto, unfolding(crate::specs::Place::placed, crate::specs::Place::placed_in))]
+pub fn place_of(rows: &[u32], name: PageName) -> Result<usize, NoPlace>
     requires { sound_rows rows.now ≡ true }
     ensures { result ≡ placed rows.now name }
 {
-    let Row::At(row) = find_row(rows, name.file) else {
-        return Place::NoFile;
-    };
+    let row = find_row(rows, name.file).ok_or(NoPlace::NoFile)?;
     if !has_block(rows, row, name.block) {
-        return Place::NoBlock;
+        return Err(NoPlace::NoBlock);
     }
-    Place::At(block_place(rows, row, name.block))
+    Ok(block_place(rows, row, name.block))
 }

@@ -12,10 +12,8 @@ fn is_clear(bytes: &[u8]) -> bool
     ensures { result ≡ all_zero bytes.now }
 {
     let mut clear = true;
-    let mut i = 0;
-    while i < bytes.len() {
-        clear = clear & (bytes[i] == 0);
-        i += 1;
+    for &b in bytes {
+        clear &= b == 0;
     }
     clear
 }
@@ -25,10 +23,7 @@ fn is_blank(page: &[u8]) -> bool
     requires { 128 ≤ length page.now }
     ensures { result ≡ all_zero page.now }
 {
-    if !is_clear(&page[..128]) {
-        return false;
-    }
-    is_clear(page)
+    is_clear(&page[..128]) && is_clear(page)
 }
 
 // The page of block `number` of its file gets its checksum, low byte first; a page of zeros has none.
@@ -39,9 +34,8 @@ pub fn seal(page: &mut [u8], number: BlockNumber)
     if is_blank(page) {
         return;
     }
-    let s = page_checksum(page, number);
-    page[8] = (s % 256) as u8;
-    page[9] = (s / 256) as u8;
+    let s = page_checksum(page, number) as u16;
+    page[8..10].copy_from_slice(&s.to_le_bytes());
 }
 
 // Whether a page passes as block `number` of its file. A checksum is never 0, so without one only a page of zeros does: one pass
@@ -50,19 +44,20 @@ fn passes_page(page: &[u8], number: BlockNumber) -> bool
     requires { 128 ≤ length page.now }
     ensures { result ≡ passes number.0 page.now }
 {
-    let s = (page[8] as u32) + (page[9] as u32) * 256;
+    let s = u16::from_le_bytes([page[8], page[9]]);
     if s == 0 {
-        return is_blank(page);
+        is_blank(page)
+    } else {
+        u32::from(s) == page_checksum(page, number)
     }
-    s == page_checksum(page, number)
 }
 
 // The same of the block at place `g` of the store.
+#[tactic(auto, unfolding(laws::specs::Block::block))]
 pub fn passes_block(store: &[u8], g: usize, size: usize, number: BlockNumber) -> bool
     requires { (128 ≤ size) × (g * size + size ≤ length store.now) }
     ensures { result ≡ passes number.0 (block size g store.now) }
 {
     let a = g * size;
-    let e = a + size;
-    passes_page(&store[a..e], number)
+    passes_page(&store[a..a + size], number)
 }

@@ -15,14 +15,12 @@ pub fn state_of(states: &[u32], buffer: BufferNumber) -> u32
     requires { buffer.0 < length states.now }
     ensures { result ≡ get_or states.now buffer.0 0 }
 {
-    let i = buffer.0;
-    states[i]
+    states[buffer.0]
 }
 
 pub fn put_state(states: &mut [u32], buffer: BufferNumber, word: u32)
     requires { buffer.0 < length states.old }
     ensures { states.new ≡ set states.old buffer.0 word }
 {
-    let at = buffer.0;
-    states[at] = word;
+    states[buffer.0] = word;
 }

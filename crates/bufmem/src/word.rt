@@ -26,7 +26,7 @@ const MAX_CAP: usize = 15;
 // One pin, and one use, as parts of a word.
 const PIN: u32 = 1;
 
-const USE: u32 = 262144;
+const USE: u32 = 1 << 18;
 
 // The flags of a page in a buffer: clean, and dirty.
 const CLEAN: u32 = 524;
@@ -34,22 +34,25 @@ const CLEAN: u32 = 524;
 const DIRTY: u32 = 590;
 
 // The lowest flag, and the dirty one, as parts of a word.
-const FLAG: u32 = 4194304;
+const FLAG: u32 = 1 << 22;
 
-const DIRTY_FLAG: u32 = 8388608;
+const DIRTY_FLAG: u32 = 1 << 23;
 
+#[tactic(auto, unfolding(bufmodel::specs::Word::pins))]
 pub fn pins_of(w: u32) -> u32
     ensures { result ≡ pins w }
 {
     w % USE
 }
 
+#[tactic(auto, unfolding(bufmodel::specs::Word::usage))]
 pub fn usage_of(w: u32) -> u32
     ensures { result ≡ usage w }
 {
     w / USE % 16
 }
 
+#[tactic(auto, unfolding(bufmodel::specs::Word::flags))]
 pub fn flags_of(w: u32) -> u32
     ensures { result ≡ flags w }
 {
@@ -57,6 +60,7 @@ pub fn flags_of(w: u32) -> u32
 }
 
 // The word of its fields.
+#[tactic(auto, unfolding(bufmodel::specs::Word::pack))]
 pub fn pack_word(pins: u32, usage: u32, flags: u32) -> u32
     requires { (pins < 2 ^ 18) × (usage < 2 ^ 4) × (flags < 2 ^ 10) }
     ensures { result ≡ pack pins usage flags }
@@ -64,18 +68,21 @@ pub fn pack_word(pins: u32, usage: u32, flags: u32) -> u32
     pins + usage * USE + flags * FLAG
 }
 
+#[tactic(auto, unfolding(bufmodel::specs::Word::dirty, bufmodel::specs::Word::bit))]
 pub fn is_dirty(w: u32) -> bool
     ensures { result ≡ dirty w }
 {
     w / DIRTY_FLAG % 2 == 1
 }
 
+#[tactic(auto, unfolding(bufmodel::specs::Word::pinned))]
 pub fn is_pinned(w: u32) -> bool
     ensures { result ≡ pinned w }
 {
     pins_of(w) != 0
 }
 
+#[tactic(auto, unfolding(bufmodel::specs::Word::empty))]
 pub fn is_empty(w: u32) -> bool
     ensures { result ≡ empty w }
 {
@@ -83,6 +90,7 @@ pub fn is_empty(w: u32) -> bool
 }
 
 // Whether the greatest usage count may be so. A usage count is compared with a cap that passed this test: 32 bits hold it.
+#[tactic(auto, unfolding(bufmodel::specs::Word::sound_cap))]
 pub fn cap_ok(cap: usize) -> bool
     ensures { result ≡ sound_cap cap }
 {
@@ -93,8 +101,8 @@ pub fn cap_ok(cap: usize) -> bool
 pub fn is_full(cap: u32, w: u32) -> bool
     ensures { result ≡ (sound_word cap w && not (empty w)) }
 {
-    let flags = w / FLAG;
-    ((flags == CLEAN) | (flags == DIRTY)) & (w / USE % 16 <= cap)
+    let flags = flags_of(w);
+    ((flags == CLEAN) | (flags == DIRTY)) & (usage_of(w) <= cap)
 }
 
 // One pin more, of a holder that had none, and one use more where they are below the cap.
@@ -102,10 +110,11 @@ pub fn pin_more(cap: u32, w: u32) -> u32
     requires { (sound_word cap w ≡ true) × (empty w ≡ false) × (pins w < max_holders) }
     ensures { result ≡ pin_more cap w }
 {
-    if w / USE % 16 < cap {
-        return w + PIN + USE;
+    if usage_of(w) < cap {
+        w + PIN + USE
+    } else {
+        w + PIN
     }
-    w + PIN
 }
 
 pub fn pin_less(w: u32) -> u32
@@ -135,6 +144,7 @@ pub fn make_clean(w: u32) -> u32
 }
 
 // The word of a page just loaded.
+#[tactic(auto, unfolding(bufmodel::specs::Word::loaded, bufmodel::specs::Word::pack))]
 pub fn loaded_word() -> u32
     ensures { result ≡ loaded }
 {

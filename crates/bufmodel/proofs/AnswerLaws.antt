@@ -3,15 +3,13 @@ use Prim.Native.Nat.{ℕ, zero, suc}
 use mathlib.Core.Path.{◌≡◌, refl, sym, ◌∙◌, ap}
 use mathlib.Core.Logic.{◌≢◌}
 use mathlib.Core.List.{List, []}
-use Rattle.bufmodel.specs.declared.answer.Pinned as pinned
-use Rattle.bufmodel.specs.declared.answer.Written as written
-use Rattle.bufmodel.specs.declared.answer.Peeked as peeked
-use Rattle.bufmodel.specs.declared.answer.Extended as extended
-use Rattle.bufmodel.specs.declared.answer.Accepted as accepted
+use Rattle.std.specs.Prelude.{Result, Ok, Err}
+use Rattle.bufmodel.specs.declared.refusal.Refusal.{Refusal}
 use Rattle.bufmodel.specs.Memory.{Memory}
-use Rattle.bufmodel.specs.Outcome.{Outcome, Place, refusal_of, checked, done, refused, outcome, one}
-use Rattle.bufmodel.specs.Answer.{pinned_at, written_at, peeked_at, extended_at, accepted_at}
-use Rattle.bufmodel.specs.Answer.{pinned_of, written_of, peeked_of, extended_of, accepted_of}
+use Rattle.bufmodel.specs.Outcome.{Outcome, Place, zeros, one, refusal_of, checked, done, refused, outcome}
+use Rattle.bufmodel.specs.Refusal.{refusal_number, refusal_at}
+use Rattle.bufmodel.specs.Answer.{answer_at, number_of, words_of, done_words, accepted_at, written_at}
+use Rattle.bufmodel.proofs.RefusalLaws.{refusal-not0, refusal-back}
 use Rattle.bufmodel.proofs.OutcomeLaws.{outcome-done, outcome-refused}
 use Rattle.bufmodel.proofs.GoodLaws.{Good, checked-good, checked-early}
 
@@ -33,74 +31,71 @@ module _ (m : Memory) (own : List Place) (bytes : List ℕ) (o : Outcome) where
     pub end-done : refusal_of own ≡ 0 → outcome (checked m own) bytes m o ≡ o
     end-done e = outcome-done bytes m o (checked-good m g own ∙ e)
 
--- ---- the answers of a refusal
-pinned-at : (k : ℕ) (ws : List ℕ) → k ≢ 0 → pinned.TheVariants.Refused k ≡ pinned_at k ws
-unfolding pinned_at
-pinned-at zero ws h = absurd (h refl)
-pinned-at (suc k) ws h = refl
+-- ---- the answer of a refusal, of whatever kind it is
+answer-refused : {T : Type 0} (of : List ℕ → T) (k : ℕ) (ws : List ℕ) → k ≢ 0 → answer_at of k ws ≡ Err (refusal_at k)
+unfolding answer_at
+answer-refused of zero ws h = absurd (h refl)
+answer-refused of (suc k) ws h = refl
 
-written_at_is : (k : ℕ) (ws : List ℕ) → k ≢ 0 → written.TheVariants.Refused k ≡ written_at k ws
-unfolding written_at
-written_at_is zero ws h = absurd (h refl)
-written_at_is (suc k) ws h = refl
+module _ {T : Type 0} (of : List ℕ → T) where
+  pub refusal-says : (r : Refusal) (ws : List ℕ) → Err r ≡ answer_at of (refusal_number r) ws
+  refusal-says r ws = sym (answer-refused of (refusal_number r) ws (refusal-not0 r) ∙ ap Err (refusal-back r))
 
-peeked-at : (k : ℕ) (ws : List ℕ) → k ≢ 0 → peeked.TheVariants.Refused k ≡ peeked_at k ws
-unfolding peeked_at
-peeked-at zero ws h = absurd (h refl)
-peeked-at (suc k) ws h = refl
+  -- a call e that refuses with r leaves the memory m
+  module _ {m : Memory} {e : Outcome} {bytes : List ℕ} where
+    pub refused-says : (r : Refusal) → e ≡ refused (refusal_number r) bytes m → (Err r ≡ answer_at of e.refusal e.answer) × (m ≡ e.after)
+    refused-says r q = (
+      refusal-says r _ ∙ ap (λ (x : Outcome). answer_at of x.refusal x.answer) (sym q),
+      ap (λ (x : Outcome). x.after) (sym q),
+    )
 
-extended-at : (k : ℕ) (ws : List ℕ) → k ≢ 0 → extended.TheVariants.Refused k ≡ extended_at k ws
-unfolding extended_at
-extended-at zero ws h = absurd (h refl)
-extended-at (suc k) ws h = refl
+    -- and one that is done answers what its words say
+    pub done-says : {ws : List ℕ} → e ≡ done ws bytes m → (Ok (of ws) ≡ answer_at of e.refusal e.answer) × (m ≡ e.after)
+    unfolding answer_at
+    done-says {ws} q = rw q (refl, refl)
 
-accepted-at : (k : ℕ) (ws : List ℕ) → k ≢ 0 → accepted.TheVariants.Refused k ≡ accepted_at k ws
-unfolding accepted_at
-accepted-at zero ws h = absurd (h refl)
-accepted-at (suc k) ws h = refl
+-- and the caller's bytes
+pub bytes-refused : {m : Memory} {e : Outcome} {k : ℕ} {bytes : List ℕ} → e ≡ refused k bytes m → bytes ≡ e.bytes
+bytes-refused r = ap (λ (x : Outcome). x.bytes) (sym r)
 
--- ---- a call e that refuses with k leaves the memory m, and the caller's bytes, as they were
-module _ {m : Memory} {e : Outcome} {k : ℕ} {bytes : List ℕ} (h : k ≢ 0) (r : e ≡ refused k bytes m) where
-  same : m ≡ e.after
-  same = ap (λ (x : Outcome). x.after) (sym r)
+-- ---- what is promised of the end of a call o: its answer, with number and words, and the memory afterwards
+abbrev pub Ends : {T : Type 0} → (T → List ℕ) → (List ℕ → T) → Result T Refusal → Memory → Outcome → Type 0
+Ends words of r after o =
+    (r ≡ answer_at of o.refusal o.answer) × (number_of r ≡ o.refusal) × (words_of words r ≡ o.answer) × (after ≡ o.after)
 
-  pub bytes-refused : bytes ≡ e.bytes
-  bytes-refused = ap (λ (x : Outcome). x.bytes) (sym r)
+module _ {T : Type 0} (words : T → List ℕ) (of : List ℕ → T) {m : Memory} {e : Outcome} {bytes : List ℕ} where
+  pub refused-all : (r : Refusal) → e ≡ refused (refusal_number r) bytes m → Ends words of (Err r) m e
+  refused-all r q =
+      let s = refused-says of r q in
+      (s.0, ap (λ (x : Outcome). x.refusal) (sym q), ap (λ (x : Outcome). x.answer) (sym q), s.1)
 
-  pub pinned-refused : (pinned.TheVariants.Refused k ≡ pinned_of e) × (m ≡ e.after)
-  pinned-refused = (pinned-at k _ h ∙ ap pinned_of (sym r), same)
+  pub done-all : {ws : List ℕ} {x : T} → e ≡ done ws bytes m → of ws ≡ x → words x ≡ ws → Ends words of (Ok x) m e
+  done-all {ws} q h w =
+      let s = done-says of q in
+      (ap Ok (sym h) ∙ s.0, ap (λ (x : Outcome). x.refusal) (sym q), w ∙ ap (λ (x : Outcome). x.answer) (sym q), s.1)
 
-  pub written-refused : (written.TheVariants.Refused k ≡ written_of e) × (m ≡ e.after)
-  written-refused = (written_at_is k _ h ∙ ap written_of (sym r), same)
-
-  pub peeked-refused : peeked.TheVariants.Refused k ≡ peeked_of e
-  peeked-refused = peeked-at k _ h ∙ ap peeked_of (sym r)
-
-  pub extended-refused : (extended.TheVariants.Refused k ≡ extended_of e) × (m ≡ e.after)
-  extended-refused = (extended-at k _ h ∙ ap extended_of (sym r), same)
-
-  pub accepted-refused : (accepted.TheVariants.Refused k ≡ accepted_of e) × (m ≡ e.after)
-  accepted-refused = (accepted-at k [] h ∙ ap accepted_of (sym r), same)
-
--- ---- a call e that is done
-accepted-none : accepted.TheVariants.Done ≡ accepted_at 0 []
-unfolding accepted_at
-accepted-none = refl
-
-written_none : (n : ℕ) → written.TheVariants.Pages n ≡ written_at 0 (one n)
-unfolding written_at
-written_none n = refl
+-- a call that answers only that it was done
+abbrev pub AcceptedEnds : Result (Unit {0}) Refusal → Memory → Outcome → Type 0
+AcceptedEnds = Ends done_words accepted_at
 
 module _ {m : Memory} {e : Outcome} {bytes : List ℕ} where
-  pub accepted-done : {ws : List ℕ} → e ≡ done ws bytes m → (accepted.TheVariants.Done ≡ accepted_of e) × (m ≡ e.after)
-  accepted-done r = (
-    accepted-none ∙ ap accepted_of (sym r),
-    ap (λ (x : Outcome). x.after) (sym r),
-  )
+  pub accepted-refused : (r : Refusal) → e ≡ refused (refusal_number r) bytes m → AcceptedEnds (Err r) m e
+  accepted-refused r q = refused-all done_words accepted_at r q
 
-  pub written-done : {n : ℕ} → e ≡ done (one n) bytes m
-      → (written.TheVariants.Pages n ≡ written_of e) × (m ≡ e.after)
-  written-done {n} r = (
-    written_none n ∙ ap written_of (sym r),
-    ap (λ (x : Outcome). x.after) (sym r),
-  )
+  pub accepted-done : e ≡ done zeros bytes m → AcceptedEnds (Ok (tt {0})) m e
+  accepted-done q = done-all done_words accepted_at {x = tt {0}} q refl refl
+
+-- and one that answers how many pages it wrote back
+abbrev pub WrittenEnds : Result ℕ Refusal → Memory → Outcome → Type 0
+WrittenEnds = Ends one written_at
+
+-- a refusal that all calls, or a call's own places, give
+module _ (m : Memory) (own : List Place) (bytes : List ℕ) (o : Outcome) (r : Refusal) where
+  pub refused-first : refusal_number r ≡ checked m [] → outcome (checked m own) bytes m o ≡ refused (refusal_number r) bytes m
+  refused-first e = end-first m own bytes o e (refusal-not0 r)
+
+  pub refused-at : refusal_number r ≡ checked m own → outcome (checked m own) bytes m o ≡ refused (refusal_number r) bytes m
+  refused-at e = end-at bytes m o e (refusal-not0 r)
+
+  pub refused-own : Good m → refusal_of own ≡ refusal_number r → outcome (checked m own) bytes m o ≡ refused (refusal_number r) bytes m
+  refused-own g e = end-own m own bytes o g e (refusal-not0 r)

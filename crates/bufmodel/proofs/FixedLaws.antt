@@ -6,8 +6,8 @@ use mathlib.Core.List.{List}
 use Rattle.laws.specs.First.{Found, found, missing}
 use Rattle.buftag.specs.declared.link.Link.{Link}
 use Rattle.buftag.specs.declared.link.Link.TheVariants.{To, End, Off, Bad}
-use Rattle.buftag.specs.declared.lookup.Held.{Held}
-use Rattle.buftag.specs.declared.lookup.Held.TheVariants.{At, Nowhere}
+use Rattle.buftag.specs.Lookup.{Held}
+use Rattle.std.specs.Prelude.{Some, None}
 use Rattle.buftag.specs.declared.name.FileName.{FileName}
 use Rattle.buftag.specs.declared.name.PageName.{PageName}
 use Rattle.buftag.specs.Link.{link_of}
@@ -110,8 +110,8 @@ new-fixed m h n Bad = victim-fixed m h n _ _
 
 to-fixed : (m : Memory) (h : ℕ) (n : PageName) (b : Held) → Keeps m (pin_to m h n b)
 unfolding pin_to pin_held
-to-fixed m h n (At b) = refl
-to-fixed m h n Nowhere = new-fixed m h n (link_of m.control.top)
+to-fixed m h n (Some b) = refl
+to-fixed m h n None = new-fixed m h n (link_of m.control.top)
 
 pub pin-fixed : (m : Memory) (h : ℕ) (n : PageName) → Keeps m (pin m h n)
 unfolding pin

@@ -9,7 +9,7 @@ use Rattle.laws.proofs.Tests.{and_left, and_right, true-or-false, never}
 use Rattle.laws.proofs.First.{first_found}
 use Rattle.buftag.specs.declared.name.PageName.{PageName}
 use Rattle.buftag.specs.declared.number.BufferNumber.{BufferNumber}
-use Rattle.buftag.specs.declared.lookup.Held.TheVariants.{At, Nowhere}
+use Rattle.std.specs.Prelude.{Some, None}
 use Rattle.buftag.specs.Name.{same_name}
 use Rattle.buftag.specs.Lookup.{used, held_of, held}
 use Rattle.buftag.proofs.NameLaws.{says-same-name}
@@ -54,7 +54,7 @@ empty-same m o i j e = ap empty e
 
 -- ---- the answer of the look-up
 -- the answer that a buffer has a name comes from a search that found it
-at-found : (f : Found) {b : BufferNumber} → held_of f ≡ At b → f ≡ found b.0
+at-found : (f : Found) {b : BufferNumber} → held_of f ≡ Some b → f ≡ found b.0
 at-found (found i) e = ap found (At-same e)
 at-found missing e = not_at e
 
@@ -70,12 +70,12 @@ module _ (m : Memory) (n : PageName) where
   )
 
   -- where the look-up names no buffer, none holds a page of that name
-  pub held_none : held_in m n ≡ Nowhere → (i : ℕ) → empty_at m i ≡ false → name_of m i ≡ n → ⊥
+  pub held_none : held_in m n ≡ None → (i : ℕ) → empty_at m i ≡ false → name_of m i ≡ n → ⊥
   unfolding held_in
   held_none e i f q = held-nowhere m.states m.names n e i (full-used m i f) q
 
   -- the buffer that it names does
-  pub held_at : (b : BufferNumber) → held_in m n ≡ At b → (b.0 < buffers m) × (empty_at m b.0 ≡ false) × (name_of m b.0 ≡ n)
+  pub held_at : (b : BufferNumber) → held_in m n ≡ Some b → (b.0 < buffers m) × (empty_at m b.0 ≡ false) × (name_of m b.0 ≡ n)
   unfolding held_in held
   held_at b e =
       let w = first_found has (buffers m) (at-found (first (buffers m) has) e) in

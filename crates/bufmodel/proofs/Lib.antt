@@ -11,6 +11,7 @@ pub mod CountLaws
 pub mod SizesLaws
 pub mod BooksLaws
 pub mod GoodLaws
+pub mod RefusalLaws
 pub mod AnswerLaws
 pub mod AnsweredLaws
 pub mod HeldLaws

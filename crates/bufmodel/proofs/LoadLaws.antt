@@ -14,7 +14,7 @@ use Rattle.laws.specs.Block.{block}
 use Rattle.laws.proofs.Tests.{eq-or-ne, never}
 use Rattle.laws.proofs.Block.{length-block, length-put_block, block-put-same, block-put-other}
 use Rattle.buftag.specs.declared.link.Link.TheVariants.{To}
-use Rattle.buftag.specs.declared.lookup.Held.TheVariants.{Nowhere}
+use Rattle.std.specs.Prelude.{None}
 use Rattle.buftag.specs.declared.name.PageName.{PageName}
 use Rattle.buftag.specs.Link.{link_of, Holds}
 use Rattle.buftag.specs.Chain.{enter_heads, enter_chain}
@@ -159,7 +159,7 @@ module _ (m : Memory) (k : Good m) (n : PageName) (i g : ℕ) (l : i < buffers m
           counts = rw b (length-set_count m.counts i o 1 ∙ s.counts);
         }
 
-    module _ (top : link_of m.control.top ≡ To i) (place : place_of m.rows n ≡ found g) (new : held_in m n ≡ Nowhere) where
+    module _ (top : link_of m.control.top ≡ To i) (place : place_of m.rows n ≡ found g) (new : held_in m n ≡ None) where
       load-free : Holds (load_at m n i g).free (link_of (load_at m n i g).control.top) (empty_at (load_at m n i g))
       unfolding load_at
       load-free = holds-pop i off (free-from m k top) (load_full m n i g l) (load_kept m n i g)
@@ -206,7 +206,7 @@ module _ (m : Memory) (k : Good m) (n : PageName) (i g : ℕ) (l : i < buffers m
 
 pub load-good : (m : Memory) → Good m → (o : ℕ) → o < max_holders → (n : PageName) (i g : ℕ) → link_of m.control.top ≡ To i
     → place_of m.rows n ≡ found g
-    → held_in m n ≡ Nowhere
+    → held_in m n ≡ None
     → Good (loaded_for m o n i g)
 unfolding load_at
 load-good m k o few n i g top place new =

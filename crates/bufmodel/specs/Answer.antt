@@ -1,93 +1,126 @@
 -- The code's answers: document 01's number and answer words for each case, and the case of an outcome.
-use Rattle.std.specs.Prelude.{ℕ, zero, suc, cond, List, [], ◌∷◌, get_or, eqb}
+use Rattle.std.specs.Prelude.{ℕ, zero, suc, cond, List, [], ◌∷◌, get_or, eqb, Result, Ok, Err}
 use Rattle.laws.specs.Sum.{ind}
-use Rattle.bufmodel.specs.declared.answer.Pinned as pinned
-use Rattle.bufmodel.specs.declared.answer.Written as written
-use Rattle.bufmodel.specs.declared.answer.Peeked as peeked
-use Rattle.bufmodel.specs.declared.answer.Extended as extended
-use Rattle.bufmodel.specs.declared.answer.Accepted as accepted
+use Rattle.buftag.specs.declared.number.BlockNumber.{BlockNumber}
+use Rattle.bufmodel.specs.declared.control.Control.{Control}
+use Rattle.bufmodel.specs.declared.answer.Pinned.{Pinned}
+use Rattle.bufmodel.specs.declared.answer.Peeked.{Peeked}
+use Rattle.bufmodel.specs.declared.answer.Peeked.TheVariants.{InPool, InStore}
+use Rattle.bufmodel.specs.declared.answer.Ended.{Ended}
+use Rattle.bufmodel.specs.declared.refusal.Refusal.{Refusal}
+use Rattle.bufmodel.specs.Refusal.{refusal_number, refusal_at}
 use Rattle.bufmodel.specs.Outcome.{Outcome, zeros, one, two}
 
+-- ---- an answer's number, 0 where the call is accepted, and its words, zeros where it is refused
+abbrev pub number_of : {T : Type 0} → Result T Refusal → ℕ
+number_of (Ok x) = 0
+number_of (Err refusal) = refusal_number refusal
+
+abbrev pub words_of : {T : Type 0} → (T → List ℕ) → Result T Refusal → List ℕ
+words_of words (Ok x) = words x
+words_of words (Err refusal) = zeros
+
+-- ---- what a call left beside the memory: its answer, and the control record, which a refused call hands back
+abbrev pub answer_of : {T : Type 0} → Result (Ended T) Refusal → Result T Refusal
+answer_of (Ok end) = Ok end.answer
+answer_of (Err refusal) = Err refusal
+
+abbrev pub control_of : {T : Type 0} → Control → Result (Ended T) Refusal → Control
+control_of before (Ok end) = end.control
+control_of before (Err refusal) = before
+
+-- of a call that answers nothing beside: that it was done, and the control record
+abbrev pub done_of : Result Control Refusal → Result (Unit {0}) Refusal
+done_of (Ok after) = Ok (tt {0})
+done_of (Err refusal) = Err refusal
+
+abbrev pub record_of : Control → Result Control Refusal → Control
+record_of before (Ok after) = after
+record_of before (Err refusal) = before
+
+-- ---- the words of an accepted call
 -- pin: buffer number, hit or loaded, whether it wrote, probes
-unfoldable pub pinned_number : pinned.Pinned → ℕ
-pinned_number (pinned.TheVariants.At b hit wrote probes) = 0
-pinned_number (pinned.TheVariants.Refused k) = k
-
-unfoldable pub pinned_words : pinned.Pinned → List ℕ
-pinned_words (pinned.TheVariants.At b hit wrote probes) = b.0 ∷ ind hit ∷ ind wrote ∷ probes ∷ []
-pinned_words (pinned.TheVariants.Refused k) = zeros
-
--- flush and checkpoint: the count written
-unfoldable pub written_number : written.Written → ℕ
-written_number (written.TheVariants.Pages n) = 0
-written_number (written.TheVariants.Refused k) = k
-
-unfoldable pub written_words : written.Written → List ℕ
-written_words (written.TheVariants.Pages n) = one n
-written_words (written.TheVariants.Refused k) = zeros
+abbrev pub pin_words : Pinned → List ℕ
+pin_words p = p.buffer.0 ∷ ind p.hit ∷ ind p.wrote ∷ p.probes ∷ []
 
 -- peek: 1 for the pool or 0 for the store, and a byte offset
-unfoldable pub peeked_number : peeked.Peeked → ℕ
-peeked_number (peeked.TheVariants.InPool at) = 0
-peeked_number (peeked.TheVariants.InStore at) = 0
-peeked_number (peeked.TheVariants.Refused k) = k
-
-unfoldable pub peeked_words : peeked.Peeked → List ℕ
-peeked_words (peeked.TheVariants.InPool at) = two 1 at
-peeked_words (peeked.TheVariants.InStore at) = two 0 at
-peeked_words (peeked.TheVariants.Refused k) = zeros
+abbrev pub peek_words : Peeked → List ℕ
+peek_words (InPool at) = two 1 at
+peek_words (InStore at) = two 0 at
 
 -- extend: the block's number
-unfoldable pub extended_number : extended.Extended → ℕ
-extended_number (extended.TheVariants.Block b) = 0
-extended_number (extended.TheVariants.Refused k) = k
-
-unfoldable pub extended_words : extended.Extended → List ℕ
-extended_words (extended.TheVariants.Block b) = one b.0
-extended_words (extended.TheVariants.Refused k) = zeros
+abbrev pub extend_words : BlockNumber → List ℕ
+extend_words b = one b.0
 
 -- the others answer only that they were done
-unfoldable pub accepted_number : accepted.Accepted → ℕ
-accepted_number accepted.TheVariants.Done = 0
-accepted_number (accepted.TheVariants.Refused k) = k
+abbrev pub done_words : Unit {0} → List ℕ
+done_words x = zeros
 
-unfoldable pub accepted_words : accepted.Accepted → List ℕ
-accepted_words accepted.TheVariants.Done = zeros
-accepted_words (accepted.TheVariants.Refused k) = zeros
+-- ---- document 01's number and words of each kind of answer
+abbrev pub pinned_number : Result Pinned Refusal → ℕ
+pinned_number = number_of
+
+abbrev pub pinned_words : Result Pinned Refusal → List ℕ
+pinned_words = words_of pin_words
+
+-- flush and checkpoint: the count written
+abbrev pub written_number : Result ℕ Refusal → ℕ
+written_number = number_of
+
+abbrev pub written_words : Result ℕ Refusal → List ℕ
+written_words = words_of one
+
+abbrev pub peeked_number : Result Peeked Refusal → ℕ
+peeked_number = number_of
+
+abbrev pub peeked_words : Result Peeked Refusal → List ℕ
+peeked_words = words_of peek_words
+
+abbrev pub extended_number : Result BlockNumber Refusal → ℕ
+extended_number = number_of
+
+abbrev pub extended_words : Result BlockNumber Refusal → List ℕ
+extended_words = words_of extend_words
+
+abbrev pub accepted_number : Result (Unit {0}) Refusal → ℕ
+accepted_number = number_of
+
+abbrev pub accepted_words : Result (Unit {0}) Refusal → List ℕ
+accepted_words = words_of done_words
 
 -- ---- the case of an outcome: refused with its number, or accepted with its words
-unfoldable pub pinned_at : ℕ → List ℕ → pinned.Pinned
-pinned_at zero ws =
-    pinned.TheVariants.At (record { 0 = get_or ws 0 0 }) (eqb (get_or ws 1 0) 1) (eqb (get_or ws 2 0) 1) (get_or ws 3 0)
-pinned_at (suc k) ws = pinned.TheVariants.Refused (suc k)
+unfoldable pub answer_at : {T : Type 0} → (List ℕ → T) → ℕ → List ℕ → Result T Refusal
+answer_at of zero ws = Ok (of ws)
+answer_at of (suc k) ws = Err (refusal_at (suc k))
 
-unfoldable pub written_at : ℕ → List ℕ → written.Written
-written_at zero ws = written.TheVariants.Pages (get_or ws 0 0)
-written_at (suc k) ws = written.TheVariants.Refused (suc k)
+-- ---- what the words of an accepted call say
+abbrev pub pinned_at : List ℕ → Pinned
+pinned_at ws =
+    record { buffer = record { 0 = get_or ws 0 0 }; hit = eqb (get_or ws 1 0) 1; wrote = eqb (get_or ws 2 0) 1; probes = get_or ws 3 0 }
 
-unfoldable pub peeked_at : ℕ → List ℕ → peeked.Peeked
-peeked_at zero ws = cond (eqb (get_or ws 0 0) 1) (peeked.TheVariants.InPool (get_or ws 1 0)) (peeked.TheVariants.InStore (get_or ws 1 0))
-peeked_at (suc k) ws = peeked.TheVariants.Refused (suc k)
+abbrev pub written_at : List ℕ → ℕ
+written_at ws = get_or ws 0 0
 
-unfoldable pub extended_at : ℕ → List ℕ → extended.Extended
-extended_at zero ws = extended.TheVariants.Block (record { 0 = get_or ws 0 0 })
-extended_at (suc k) ws = extended.TheVariants.Refused (suc k)
+abbrev pub peeked_at : List ℕ → Peeked
+peeked_at ws = cond (eqb (get_or ws 0 0) 1) (InPool (get_or ws 1 0)) (InStore (get_or ws 1 0))
 
-unfoldable pub accepted_at : ℕ → List ℕ → accepted.Accepted
-accepted_at zero ws = accepted.TheVariants.Done
-accepted_at (suc k) ws = accepted.TheVariants.Refused (suc k)
+abbrev pub extended_at : List ℕ → BlockNumber
+extended_at ws = record { 0 = get_or ws 0 0 }
 
-abbrev pub pinned_of : Outcome → pinned.Pinned
-pinned_of o = pinned_at o.refusal o.answer
+abbrev pub accepted_at : List ℕ → Unit {0}
+accepted_at ws = tt {0}
 
-abbrev pub written_of : Outcome → written.Written
-written_of o = written_at o.refusal o.answer
+abbrev pub pinned_of : Outcome → Result Pinned Refusal
+pinned_of o = answer_at pinned_at o.refusal o.answer
 
-abbrev pub peeked_of : Outcome → peeked.Peeked
-peeked_of o = peeked_at o.refusal o.answer
+abbrev pub written_of : Outcome → Result ℕ Refusal
+written_of o = answer_at written_at o.refusal o.answer
 
-abbrev pub extended_of : Outcome → extended.Extended
-extended_of o = extended_at o.refusal o.answer
+abbrev pub peeked_of : Outcome → Result Peeked Refusal
+peeked_of o = answer_at peeked_at o.refusal o.answer
 
-abbrev pub accepted_of : Outcome → accepted.Accepted
-accepted_of o = accepted_at o.refusal []
+abbrev pub extended_of : Outcome → Result BlockNumber Refusal
+extended_of o = answer_at extended_at o.refusal o.answer
+
+abbrev pub accepted_of : Outcome → Result (Unit {0}) Refusal
+accepted_of o = answer_at accepted_at o.refusal o.answer

@@ -4,8 +4,8 @@ use Rattle.laws.specs.Every.{any}
 use Rattle.laws.specs.Sum.{ind, count}
 use Rattle.laws.specs.First.{Found, found, missing}
 use Rattle.laws.specs.Block.{put_block}
-use Rattle.buftag.specs.declared.lookup.Held.{Held}
-use Rattle.buftag.specs.declared.lookup.Held.TheVariants.{At, Nowhere}
+use Rattle.buftag.specs.Lookup.{Held}
+use Rattle.std.specs.Prelude.{Some, None}
 use Rattle.buftag.specs.declared.name.FileName.{FileName}
 use Rattle.buftag.specs.declared.name.PageName.{PageName}
 use Rattle.buftag.specs.Names.{name_words}
@@ -138,8 +138,8 @@ offset_of m (found g) = g * size m
 offset_of m missing = 0
 
 unfoldable pub part_of : Memory → PageName → Held → List ℕ
-part_of m n (At b) = two 1 (b.0 * size m)
-part_of m n Nowhere = two 0 (offset_of m (place_of m.rows n))
+part_of m n (Some b) = two 1 (b.0 * size m)
+part_of m n None = two 0 (offset_of m (place_of m.rows n))
 
 -- the part that an answer hands back: P bytes of the store (0) or the pool (1) from an offset; refused: an empty part
 unfoldable pub part_in : Memory → ℕ → ℕ → List ℕ

@@ -3,12 +3,14 @@ pub mod Position
 pub mod Checksum
 pub mod Rows
 pub mod Memory
+pub mod View
 pub mod Counts
 pub mod Sizes
 pub mod Books
 pub mod Sweep
 pub mod Moves
 pub mod Outcome
+pub mod Refusal
 pub mod Answer
 pub mod Pin
 pub mod Calls

@@ -6,8 +6,8 @@ use Rattle.laws.specs.First.{Found, found, missing}
 use Rattle.laws.specs.Block.{block}
 use Rattle.buftag.specs.declared.link.Link.{Link}
 use Rattle.buftag.specs.declared.link.Link.TheVariants.{To, End, Off, Bad}
-use Rattle.buftag.specs.declared.lookup.Held.{Held}
-use Rattle.buftag.specs.declared.lookup.Held.TheVariants.{At, Nowhere}
+use Rattle.buftag.specs.Lookup.{Held}
+use Rattle.std.specs.Prelude.{Some, None}
 use Rattle.buftag.specs.declared.name.PageName.{PageName}
 use Rattle.buftag.specs.Link.{link_of}
 use Rattle.buftag.specs.Lookup.{held}
@@ -36,19 +36,19 @@ no_block rows b missing = false
 
 -- 17, not held, and the store's block at its place does not pass as this block of its file
 unfoldable pub sum_differs : Memory → PageName → Found → Held → Bool
-sum_differs m n (found g) (At b) = false
-sum_differs m n (found g) Nowhere = not (passes n.block.0 (block (size m) g m.store))
+sum_differs m n (found g) (Some b) = false
+sum_differs m n (found g) None = not (passes n.block.0 (block (size m) g m.store))
 sum_differs m n missing h = false
 
 -- 5, held, and this holder's count of it is full
 unfoldable pub count_full : Memory → ℕ → Held → Bool
-count_full m h (At b) = eqb (count_at m.counts b.0 h) max_count
-count_full m h Nowhere = false
+count_full m h (Some b) = eqb (count_at m.counts b.0 h) max_count
+count_full m h None = false
 
 -- 6, not held, and every buffer is pinned
 unfoldable pub no_victim : Memory → Held → Bool
-no_victim m (At b) = false
-no_victim m Nowhere = all (buffers m) (λ i. pinned (word_of m i))
+no_victim m (Some b) = false
+no_victim m None = all (buffers m) (λ i. pinned (word_of m i))
 
 -- the buffer that has the page, or that none has
 unfoldable pub held_in : Memory → PageName → Held
@@ -103,8 +103,8 @@ pin_new m h n Off = pin_swept m h n (sweep_all (cap_of m) m.states m.control.han
 pin_new m h n Bad = pin_swept m h n (sweep_all (cap_of m) m.states m.control.hand)
 
 unfoldable pub pin_to : Memory → ℕ → PageName → Held → Outcome
-pin_to m h n (At b) = pin_held m h b.0
-pin_to m h n Nowhere = pin_new m h n (link_of m.control.top)
+pin_to m h n (Some b) = pin_held m h b.0
+pin_to m h n None = pin_new m h n (link_of m.control.top)
 
 unfoldable pub pin : Memory → ℕ → PageName → Outcome
 pin m h n = outcome (checked m (pin_places m h n)) [] m (pin_to m h n (held_in m n))

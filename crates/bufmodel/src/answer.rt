@@ -1,23 +1,15 @@
-// What the calls answer. Every one of them may be refused, with a number.
+// What the calls answer where they are accepted. Every one of them may be refused.
 
-use buftag::number::{BlockNumber, BufferNumber};
+use crate::control::Control;
+use buftag::number::BufferNumber;
 
+// Of pin.
 #[derive(Clone, Copy)]
-pub enum Pinned {
-    At {
-        buffer: BufferNumber,
-        hit: bool,
-        wrote: bool,
-        probes: u64,
-    },
-    Refused(u32),
-}
-
-// Of flush and checkpoint: how many pages were written back.
-#[derive(Clone, Copy)]
-pub enum Written {
-    Pages(u64),
-    Refused(u32),
+pub struct Pinned {
+    pub buffer: BufferNumber,
+    pub hit: bool,
+    pub wrote: bool,
+    pub probes: u64,
 }
 
 // Of peek: where the page lies, as a byte offset in the pool or in the store.
@@ -25,19 +17,11 @@ pub enum Written {
 pub enum Peeked {
     InPool(u64),
     InStore(u64),
-    Refused(u32),
 }
 
-// Of extend: the number of the new block.
+// Of the calls that change the control record and answer something beside: the record afterwards, and the answer.
 #[derive(Clone, Copy)]
-pub enum Extended {
-    Block(BlockNumber),
-    Refused(u32),
-}
-
-// Of the calls that answer only that they were done.
-#[derive(Clone, Copy)]
-pub enum Accepted {
-    Done,
-    Refused(u32),
+pub struct Ended<T> {
+    pub control: Control,
+    pub answer: T,
 }

@@ -10,21 +10,12 @@ ghost use Rattle.bufmodel.specs.Moves.{put_at, write_back};
 ghost use Rattle.bufmoves.specs.Back.{Backed};
 
 use bufmem::page::{page_position, page_to_store};
-use bufmem::place::{Place, place_of};
+use bufmem::place::place_of;
 use bufmem::state::{put_state, state_of};
 use bufmem::word::{is_dirty, make_clean};
 use bufmodel::control::Control;
 use buftag::names::stored;
 use buftag::number::BufferNumber;
-
-fn larger(a: u64, b: u64) -> u64
-    ensures { result ≡ max a b }
-{
-    if a < b {
-        return b;
-    }
-    a
-}
 
 // The control record with the log flushed up to a position at least.
 pub fn flushed_to(control: Control, position: u64) -> Control
@@ -38,9 +29,10 @@ pub fn flushed_to(control: Control, position: u64) -> Control
           cap = control.cap;
         } }
 {
-    let mut after = control;
-    after.flushed = larger(control.flushed, position);
-    after
+    Control {
+        flushed: control.flushed.max(position),
+        ..control
+    }
 }
 
 // A buffer's page goes to its place in the store, with its checksum.
@@ -59,7 +51,7 @@ fn put_page(
         store.old (place_of rows.now (name_at names.now buffer.0)) }
 {
     let name = stored(names, buffer);
-    let Place::At(g) = place_of(rows, name) else {
+    let Ok(g) = place_of(rows, name) else {
         return;
     };
     page_to_store(store, g, pool, buffer, control.size, name.block);

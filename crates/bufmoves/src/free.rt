@@ -15,11 +15,11 @@ pub fn push_free(control: Control, free: &mut [i32], buffer: BufferNumber) -> Co
     ensures free_after { free.new ≡ set free.old buffer.0 control.top }
 {
     let i = buffer.0;
-    let mut after = control;
-    after.top = i as i32;
-    let top = control.top;
-    free[i] = top;
-    after
+    free[i] = control.top;
+    Control {
+        top: i as i32,
+        ..control
+    }
 }
 
 pub fn pop_free(control: Control, free: &mut [i32], buffer: BufferNumber) -> Control
@@ -30,7 +30,8 @@ pub fn pop_free(control: Control, free: &mut [i32], buffer: BufferNumber) -> Con
     let i = buffer.0;
     let next = free[i];
     free[i] = OFF;
-    let mut after = control;
-    after.top = next;
-    after
+    Control {
+        top: next,
+        ..control
+    }
 }

@@ -9,15 +9,12 @@ ghost use Rattle.bufmoves.specs.Sweep.{victim_of};
 use bufmem::word::{is_pinned, usage_of, use_less};
 use buftag::number::BufferNumber;
 
-// The buffer taken, the hand afterwards and the probes; or that every buffer is pinned.
+// The buffer taken, the hand afterwards and the probes.
 #[derive(Clone, Copy)]
-pub enum Victim {
-    At {
-        buffer: BufferNumber,
-        hand: usize,
-        probes: u64,
-    },
-    Nobody,
+pub struct Victim {
+    pub buffer: BufferNumber,
+    pub hand: usize,
+    pub probes: u64,
 }
 
 // The buffer after `at`, wrapping at n.
@@ -31,38 +28,35 @@ fn next_of(n: usize, at: usize) -> usize
     at + 1
 }
 
-// Probes the buffer at the hand and moves the hand on, until a buffer is taken or all were found pinned in a row.
-pub fn sweep(cap: usize, states: &mut [u32], hand: usize) -> Victim
+// Probes the buffer at the hand and moves the hand on, until a buffer is taken or all were found pinned in a row: then there is no victim.
+pub fn sweep(cap: usize, states: &mut [u32], hand: usize) -> Option<Victim>
     requires { (hand < length states.old) × (length states.old ≤ max_buffers) × (cap ≤ max_cap) }
     ensures value { result ≡ victim_of (sweep_all cap states.old hand) }
     ensures states_after { states.new ≡ (sweep_all cap states.old hand).words }
 {
     let n = states.len();
-    let most = (cap + 1) * n;
     let mut at = hand;
     let mut run = 0;
-    let mut probes = 0;
-    while probes < most {
+    for passed in 0..(cap + 1) * n {
         let w = states[at];
         let here = at;
         at = next_of(n, at);
-        probes += 1;
         if is_pinned(w) {
             run += 1;
             if run == n {
-                return Victim::Nobody;
+                return None;
             }
-        } else {
-            if usage_of(w) == 0 {
-                return Victim::At {
-                    buffer: BufferNumber(here),
-                    hand: at,
-                    probes: probes as u64,
-                };
-            }
-            states[here] = use_less(w);
-            run = 0;
+            continue;
         }
+        if usage_of(w) == 0 {
+            return Some(Victim {
+                buffer: BufferNumber(here),
+                hand: at,
+                probes: passed as u64 + 1,
+            });
+        }
+        states[here] = use_less(w);
+        run = 0;
     }
-    Victim::Nobody
+    None
 }

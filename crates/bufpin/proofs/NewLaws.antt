@@ -4,6 +4,7 @@ use mathlib.Core.Path.{◌≡◌, refl, sym, ap₂, ◌∙◌}
 use mathlib.Core.Bool.{false}
 use mathlib.Core.Logic.{⊎_elim}
 use mathlib.Core.List.{List}
+use Rattle.std.specs.Prelude.{Ok}
 use Rattle.laws.specs.First.{found}
 use Rattle.buftag.specs.declared.link.Link.{Link}
 use Rattle.buftag.specs.declared.link.Link.TheVariants.{To, End}
@@ -15,7 +16,7 @@ use Rattle.bufmodel.specs.Memory.{Memory, cap_of, with_counts}
 use Rattle.bufmodel.specs.Counts.{set_count}
 use Rattle.bufmodel.specs.Sweep.{sweep_all}
 use Rattle.bufmodel.specs.Moves.{load_at}
-use Rattle.bufmodel.specs.Answer.{pinned_at, pinned_of}
+use Rattle.bufmodel.specs.Answer.{answer_at, pinned_of}
 use Rattle.bufmodel.specs.Pin.{pin_free, pin_swept, pin_new}
 use Rattle.bufmodel.proofs.GoodLaws.{Good}
 use Rattle.bufmodel.proofs.FreeListLaws.{top-none}
@@ -38,9 +39,9 @@ module _ (m : Memory) (h : ℕ) (n : PageName) where
   new-swept e = rw e
 
   module _ (i : ℕ) (top : link_of m.control.top ≡ To i) where
-    pub new-answer : loaded_at i false 0
+    pub new-answer : Ok (loaded_at i false 0)
         ≡ pinned_of (pin_new m h n (link_of m.control.top))
-    unfolding pin_new pin_free pinned_at
+    unfolding pin_new pin_free answer_at
     new-answer = rw top
 
     pub new-after : (g : ℕ) → place_of m.rows n ≡ found g → {o : Memory} → o ≡ load_at m n i g

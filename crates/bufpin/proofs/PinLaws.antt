@@ -3,35 +3,37 @@ use Prim.Native.Nat.{ℕ, ◌+◌, ◌<◌}
 use native.Mathlib.Omega.{arith}
 use mathlib.Core.Path.{◌≡◌, refl, sym, ap, ap₂, ◌∙◌}
 use mathlib.Core.Bool.{true, false}
-use mathlib.Core.Logic.{◌≢◌, ⊎_elim}
+use mathlib.Core.Logic.{⊎_elim}
 use mathlib.Core.List.{List, [], ◌∷◌}
 use lib.Dec.{eqb, ltb}
 use lib.ListN.{get_or, set}
 use borrow.Author.Tests.{ltb-false, le-leb, lt-leb}
+use Rattle.std.specs.Prelude.{Some, None, Result, Ok, Err}
 use Rattle.laws.specs.Every.{all}
 use Rattle.laws.specs.Block.{block}
 use Rattle.laws.proofs.Every.{all-at}
 use Rattle.laws.proofs.Tests.{true-or-false}
-use Rattle.buftag.specs.declared.lookup.Held.{Held}
-use Rattle.buftag.specs.declared.lookup.Held.TheVariants.{At, Nowhere}
+use Rattle.buftag.specs.Lookup.{Held}
 use Rattle.buftag.specs.declared.name.PageName.{PageName}
 use Rattle.buftag.specs.declared.number.BufferNumber.{BufferNumber}
 use Rattle.buftag.specs.Link.{link_of}
-use Rattle.bufmodel.specs.declared.answer.Pinned as answer
+use Rattle.bufmodel.specs.declared.answer.Pinned.{Pinned}
+use Rattle.bufmodel.specs.declared.refusal.Refusal.{Refusal}
+use Rattle.bufmodel.specs.declared.refusal.Refusal.TheVariants.{PinCount, Checksum, NoHolder}
+use Rattle.bufmodel.specs.Refusal.{refusal_number}
 use Rattle.bufmodel.specs.Word.{pinned}
 use Rattle.bufmodel.specs.Checksum.{passes}
 use Rattle.bufmodel.specs.Memory.{Memory, buffers, size, cap_of, word_of, with_states, with_counts}
 use Rattle.bufmodel.specs.Counts.{max_holders, max_count, count_at, set_count}
 use Rattle.bufmodel.specs.Outcome.{Outcome, Place, place, refusal_of, checked, outcome}
-use Rattle.bufmodel.specs.Answer.{pinned_at, pinned_of}
-use Rattle.bufmodel.specs.Pin.{holder_place, count_full, no_victim, held_in, page_places, pin_places, held_word, pin_held, pin_victim, pin_swept}
-use Rattle.bufmodel.specs.Pin.{pin_new, pin_to, pin}
+use Rattle.bufmodel.specs.Answer.{answer_at, pinned_at, pinned_of}
+use Rattle.bufmodel.specs.Pin.{holder_place, count_full, no_victim, held_in, page_places, pin_places, held_word}
+use Rattle.bufmodel.specs.Pin.{pin_held, pin_victim, pin_swept, pin_new, pin_to, pin}
 use Rattle.bufmodel.proofs.OutcomeLaws.{refusal-past, refusal-at, refusal-none, outcome-done, outcome-refused}
-use Rattle.bufmodel.proofs.GoodLaws.{Good, checked-good, checked-early}
-use Rattle.bufmodel.proofs.AnswerLaws.{end-at, pinned-refused}
+use Rattle.bufmodel.proofs.GoodLaws.{Good, checked-good}
+use Rattle.bufmodel.proofs.AnswerLaws.{refused-says, refused-first, refused-at}
 use Rattle.bufmodel.proofs.HeldLaws.{pinned-full}
 use Rattle.bufmodel.proofs.FreeListLaws.{top-full}
-use Rattle.bufmem.specs.declared.seek.Sought as name
 use Rattle.bufmem.specs.Seek.{sought}
 use Rattle.bufmem.proofs.SeekLaws.{page-refused, page-held, page-passes, page-differs}
 use Rattle.bufpin.specs.Pin.{held_at, held_words, held_counts}
@@ -39,7 +41,8 @@ use Rattle.bufpin.proofs.SweptLaws.{swept-stuck}
 use Rattle.bufpin.proofs.NewLaws.{new-swept}
 
 -- ---- a held page, of which the holder has not the most pins
-more-answer : (i c : ℕ) → eqb c max_count ≡ false → held_at i c ≡ answer.TheVariants.At (record { 0 = i }) true false 0
+more-answer : (i c : ℕ) → eqb c max_count ≡ false
+    → held_at i c ≡ Ok (record { buffer = record { 0 = i }; hit = true; wrote = false; probes = 0 })
 unfolding held_at
 more-answer i c f = rw f
 
@@ -60,15 +63,16 @@ last_places m h b = place 5 (count_full m h b) ∷ place 6 (no_victim m b) ∷ [
 
 module _ (m : Memory) (h : ℕ) (n : PageName) where
   -- what the code has to show of the answer, and of the memory
-  abbrev Says : answer.Pinned → Memory → Type 0
+  abbrev Says : Result Pinned Refusal → Memory → Type 0
   Says a o = (a ≡ pinned_of (pin m h n)) × (o ≡ (pin m h n).after)
 
-  pub pin-refused : {k : ℕ} → k ≢ 0 → checked m (pin_places m h n) ≡ k → Says (answer.TheVariants.Refused k) m
+  pub pin-refused : (r : Refusal) → checked m (pin_places m h n) ≡ refusal_number r → Says (Err r) m
   unfolding pin
-  pin-refused ne e = pinned-refused ne (end-at [] m _ (sym e) ne)
+  pin-refused r e = refused-says pinned_at r (refused-at m _ [] _ r (sym e))
 
-  pub pin-early : {k : ℕ} → k ≢ 0 → k ≡ checked m [] → Says (answer.TheVariants.Refused k) m
-  pin-early ne e = pin-refused ne (sym (checked-early m (pin_places m h n) e ne))
+  pub pin-early : (r : Refusal) → refusal_number r ≡ checked m [] → Says (Err r) m
+  unfolding pin
+  pin-early r e = refused-says pinned_at r (refused-first m _ [] _ r e)
 
   -- the page's places, behind the holder's
   abbrev own_places : List Place
@@ -76,10 +80,10 @@ module _ (m : Memory) (h : ℕ) (n : PageName) where
 
   module _ (good : Good m) where
     -- no such holder
-    pub pin-stranger : ltb h max_holders ≡ false → Says (answer.TheVariants.Refused 19) m
+    pub pin-stranger : ltb h max_holders ≡ false → Says (Err NoHolder) m
     unfolding pin_places holder_place
     pin-stranger e =
-        pin-refused (omega arith)
+        pin-refused NoHolder
         (checked-good m good (pin_places m h n) ∙ refusal-at 19 own_places (le-leb max_holders h (ltb-false h max_holders e)))
 
     module _ (few : h < max_holders) where
@@ -87,21 +91,21 @@ module _ (m : Memory) (h : ℕ) (n : PageName) where
       unfolding pin_places holder_place
       checked-own = checked-good m good (pin_places m h n) ∙ refusal-past 19 own_places (lt-leb max_holders h few)
 
-      pub pin-nameless : {k : ℕ} → sought m.rows n ≡ name.TheVariants.Refused k → Says (answer.TheVariants.Refused k) m
-      pin-nameless e = let r = page-refused m n (last_places m h (held_in m n)) e in pin-refused r.0 (checked-own ∙ r.1)
+      pub pin-nameless : (r : Refusal) → sought m.rows n ≡ Err r → Says (Err r) m
+      pin-nameless r e = pin-refused r (checked-own ∙ page-refused m n (last_places m h (held_in m n)) e)
 
-      module _ {g : ℕ} (at : sought m.rows n ≡ name.TheVariants.At g) where
+      module _ {g : ℕ} (at : sought m.rows n ≡ Ok g) where
         -- the number is that of the last two places, where the page is held, or its block passes
         last : (b : Held) → held_in m n ≡ b → refusal_of own_places ≡ refusal_of (last_places m h (held_in m n))
             → checked m (pin_places m h n) ≡ refusal_of (last_places m h b)
         last b e past = checked-own ∙ past ∙ ap (λ (x : Held). refusal_of (last_places m h x)) e
 
-        last-held : (b : BufferNumber) → held_in m n ≡ At b → checked m (pin_places m h n) ≡ refusal_of (last_places m h (At b))
-        last-held b e = last (At b) e (page-held m n (last_places m h (held_in m n)) at e)
+        last-held : (b : BufferNumber) → held_in m n ≡ Some b → checked m (pin_places m h n) ≡ refusal_of (last_places m h (Some b))
+        last-held b e = last (Some b) e (page-held m n (last_places m h (held_in m n)) at e)
 
-        last-new : held_in m n ≡ Nowhere → passes n.block.0 (block (size m) g m.store) ≡ true
-            → checked m (pin_places m h n) ≡ refusal_of (last_places m h Nowhere)
-        last-new e t = last Nowhere e (page-passes m n (last_places m h (held_in m n)) at e t)
+        last-new : held_in m n ≡ None → passes n.block.0 (block (size m) g m.store) ≡ true
+            → checked m (pin_places m h n) ≡ refusal_of (last_places m h None)
+        last-new e t = last None e (page-passes m n (last_places m h (held_in m n)) at e t)
 
         accepted : (b : Held) → held_in m n ≡ b → checked m (pin_places m h n) ≡ refusal_of (last_places m h b) → count_full m h b ≡ false
             → no_victim m b ≡ false
@@ -112,22 +116,22 @@ module _ (m : Memory) (h : ℕ) (n : PageName) where
             ∙ ap (pin_to m h n) e
 
         -- a block whose checksum differs
-        pub pin-differs : held_in m n ≡ Nowhere → passes n.block.0 (block (size m) g m.store) ≡ false
-            → Says (answer.TheVariants.Refused 17) m
-        pin-differs e t = pin-refused (omega arith) (checked-own ∙ page-differs m n (last_places m h (held_in m n)) at e t)
+        pub pin-differs : held_in m n ≡ None → passes n.block.0 (block (size m) g m.store) ≡ false
+            → Says (Err Checksum) m
+        pin-differs e t = pin-refused Checksum (checked-own ∙ page-differs m n (last_places m h (held_in m n)) at e t)
 
         -- a page that is held
-        pub pin-held : (b : BufferNumber) → held_in m n ≡ At b
+        pub pin-held : (b : BufferNumber) → held_in m n ≡ Some b
             → let c = count_at m.counts b.0 h in
             Says (held_at b.0 c)
             (with_counts (held_counts m.counts b.0 h) (with_states (held_words (cap_of m) m.states b.0 c) m))
-        unfolding held_at held_words held_counts count_full no_victim pin_to pin_held pinned_at
+        unfolding held_at held_words held_counts count_full no_victim pin_to pin_held answer_at
         pin-held b e =
             let c = count_at m.counts b.0 h in
             ⊎_elim
-            (λ t. rw t (pin-refused (omega arith) (last-held b e ∙ refusal-at 5 _ t)))
+            (λ t. rw t (pin-refused PinCount (last-held b e ∙ refusal-at 5 _ t)))
             (λ f.
-            let a = accepted (At b) e (last-held b e) f refl in (
+            let a = accepted (Some b) e (last-held b e) f refl in (
               more-answer b.0 c f ∙ sym (ap pinned_of a),
               ap₂ (λ (x y : List ℕ). with_counts x (with_states y m)) (more-counts m.counts b.0 h f)
                   (more-words (cap_of m) m.states b.0 c f)
@@ -136,7 +140,7 @@ module _ (m : Memory) (h : ℕ) (n : PageName) where
             (true-or-false (eqb c max_count))
 
         -- another
-        pub pin-new : held_in m n ≡ Nowhere → passes n.block.0 (block (size m) g m.store) ≡ true
+        pub pin-new : held_in m n ≡ None → passes n.block.0 (block (size m) g m.store) ≡ true
             → pin m h n ≡ pin_new m h n (link_of m.control.top)
         unfolding pin count_full no_victim pin_to pin_swept pin_victim
         pin-new e sum =
@@ -147,5 +151,5 @@ module _ (m : Memory) (h : ℕ) (n : PageName) where
             ap (λ k. outcome k [] m (pin_to m h n (held_in m n))) (last-new e sum ∙ refusal-past 5 _ refl ∙ refusal-at 6 [] t)
             ∙ outcome-refused [] m (pin_to m h n (held_in m n)) 6 (omega arith)
             ∙ sym (new-swept m h n top ∙ rw (swept-stuck m good all-pinned).0))
-            (λ f. accepted Nowhere e (last-new e sum) refl f)
+            (λ f. accepted None e (last-new e sum) refl f)
             (true-or-false (all (buffers m) (λ i. pinned (word_of m i))))

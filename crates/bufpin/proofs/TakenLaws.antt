@@ -1,16 +1,19 @@
 -- The victim of a sweep on its way: written back, released, and the page loaded in its place.
 use Prim.Native.Nat.{ℕ, ◌<◌}
 use mathlib.Core.Path.{◌≡◌, sym, ap, ap₂, ◌∙◌, subst}
-use mathlib.Core.Bool.{false}
+use mathlib.Core.Bool.{true, false}
 use mathlib.Core.List.{List}
+use lib.ListN.{length, get_or}
 use Rattle.laws.specs.First.{found}
 use Rattle.buftag.specs.declared.name.PageName.{PageName}
-use Rattle.bufmodel.specs.Word.{pins}
+use Rattle.bufmodel.specs.Word.{pins, empty, pinned}
 use Rattle.bufmodel.specs.Rows.{place_of}
 use Rattle.bufmodel.specs.Memory.{Memory, buffers, word_of, with_counts}
-use Rattle.bufmodel.specs.Books.{empty_at}
+use Rattle.bufmodel.specs.Sizes.{sized}
+use Rattle.bufmodel.specs.Books.{empty_at, sound}
 use Rattle.bufmodel.specs.Moves.{write_back, release, load_at, load}
-use Rattle.bufmodel.proofs.GoodLaws.{Good}
+use Rattle.bufmodel.proofs.WordLaws.{unpinned-none}
+use Rattle.bufmodel.proofs.GoodLaws.{Good, good_of}
 use Rattle.bufmodel.proofs.ReleaseLaws.{release-buffers, release-top, release-good}
 use Rattle.bufmodel.proofs.LoadLaws.{load_is}
 use Rattle.bufpin.proofs.VictimBackLaws.{back-good, back_full, back-pins, back-buffers}
@@ -21,6 +24,14 @@ pub record Taken (m : Memory) (i : ℕ) : Type 0 where
   pub below : i < buffers m
   pub full : empty_at m i ≡ false
   pub idle : pins (word_of m i) ≡ 0
+
+-- as a pin asks it of the victim
+pub taken-of : (m : Memory) (i : ℕ) → sized m ≡ true → sound m ≡ true → i < length m.states → empty (get_or m.states i 0) ≡ false
+    → pinned (get_or m.states i 0) ≡ false
+    → Taken m i
+unfolding empty_at
+taken-of m i sizes books below full idle =
+    record { good = good_of m sizes books; below = below; full = full; idle = unpinned-none _ idle }
 
 pub back-taken : (m : Memory) (i : ℕ) → Taken m i → {o : Memory} → o ≡ write_back m i → Taken o i
 back-taken m i t e =

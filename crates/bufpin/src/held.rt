@@ -6,14 +6,13 @@ ghost use Rattle.bufmodel.specs.Counts.{max_holders, count_place, count_at};
 ghost use Rattle.bufmodel.specs.Pin.{held_word};
 ghost use Rattle.bufpin.specs.Pin.{held_at, held_words, held_counts};
 
-use crate::ends::{PinnedEnd, pin_refused};
 use bufmem::counts::{MAX_COUNT, count_of, put_count};
 use bufmem::state::{put_state, state_of};
 use bufmem::word::pin_more;
 use bufmodel::answer::Pinned;
 use bufmodel::control::Control;
 use bufmodel::holder::Holder;
-use bufmodel::refusal::PIN_COUNT;
+use bufmodel::refusal::Refusal;
 use buftag::number::BufferNumber;
 
 // A holder's first pin on a page counts in its word: one pin more, and one use more where they are below the cap.
@@ -37,32 +36,27 @@ pub fn pin_held(
     counts: &mut [u16],
     holder: Holder,
     buffer: BufferNumber,
-) -> PinnedEnd
+) -> Result<Pinned, Refusal>
     requires { (buffer.0 < length states.old) × (sound_word control.cap (get_or states.old buffer.0 0) ≡ true)
         × (empty (get_or states.old buffer.0 0) ≡ false)
         × (control.cap ≤ max_cap)
         × (count_place buffer.0 holder.0 < length counts.old)
         × (count_at counts.old buffer.0 holder.0 ≡ 0 → pins (get_or states.old buffer.0 0) < max_holders) }
-    ensures control_value { result.control ≡ control }
-    ensures answer_value { result.answer ≡ held_at buffer.0 (count_at counts.old buffer.0 holder.0) }
+    ensures value { result ≡ held_at buffer.0 (count_at counts.old buffer.0 holder.0) }
     ensures states_after { states.new
         ≡ held_words control.cap states.old buffer.0 (count_at counts.old buffer.0 holder.0) }
     ensures counts_after { counts.new ≡ held_counts counts.old buffer.0 holder.0 }
 {
     let count = count_of(counts, holder, buffer);
     if count == MAX_COUNT {
-        return pin_refused(control, PIN_COUNT);
+        return Err(Refusal::PinCount);
     }
-    let cap = control.cap as u32;
-    count_first(cap, states, buffer, count);
+    count_first(control.cap as u32, states, buffer, count);
     put_count(counts, holder, buffer, count + 1);
-    PinnedEnd {
-        control: control,
-        answer: Pinned::At {
-            buffer: buffer,
-            hit: true,
-            wrote: false,
-            probes: 0,
-        },
-    }
+    Ok(Pinned {
+        buffer,
+        hit: true,
+        wrote: false,
+        probes: 0,
+    })
 }

@@ -2,7 +2,6 @@
 
 #![tactic(auto)]
 
-pub mod ends;
 pub mod held;
 pub mod pin;
 pub mod victim;

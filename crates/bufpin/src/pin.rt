@@ -1,7 +1,7 @@
 // Pin: of a page that is held its holder has one pin more; another is verified and loaded into a free buffer, or into the victim of a
 // sweep.
 
-ghost use Rattle.std.specs.Prelude.{◌≡◌, true, ◌<◌};
+ghost use Rattle.std.specs.Prelude.{◌≡◌, true, ◌<◌, Ok};
 ghost use Rattle.laws.specs.First.{found};
 ghost use Rattle.buftag.specs.Link.{link_of};
 ghost use Rattle.bufmodel.specs.Rows.{place_of};
@@ -9,25 +9,24 @@ ghost use Rattle.bufmodel.specs.Memory.{memory, with_counts};
 ghost use Rattle.bufmodel.specs.Counts.{max_holders};
 ghost use Rattle.bufmodel.specs.Sizes.{sized};
 ghost use Rattle.bufmodel.specs.Books.{sound};
-ghost use Rattle.bufmodel.specs.Answer.{pinned_number, pinned_words, pinned_of};
+ghost use Rattle.bufmodel.specs.Answer.{answer_of, control_of, pinned_number, pinned_words, pinned_of};
 ghost use Rattle.bufmodel.specs.Pin.{pin_new, pin};
-ghost use Rattle.bufmem.specs.declared.seek.Sought.TheVariants.{At};
 ghost use Rattle.bufmem.specs.Seek.{sought};
 
-use crate::ends::{PinnedEnd, pin_refused};
 use crate::held::pin_held;
 use crate::victim::pin_swept;
 use bufbooks::lent::refusal;
 use bufmem::counts::{is_holder, put_count};
 use bufmem::seal::passes_block;
-use bufmem::seek::{Sought, seek};
-use bufmodel::answer::Pinned;
+use bufmem::seek::seek;
+use bufmodel::answer::{Ended, Pinned};
 use bufmodel::control::Control;
 use bufmodel::holder::Holder;
-use bufmodel::refusal::{CHECKSUM, NO_HOLDER};
+use bufmodel::refusal::Refusal;
+use bufmodel::view::PoolView;
 use bufmoves::exchange::load_page;
-use buftag::link::{Link, read_link};
-use buftag::lookup::{Held, look_up};
+use buftag::link::Link;
+use buftag::lookup::look_up;
 use buftag::name::PageName;
 use buftag::number::BufferNumber;
 
@@ -46,7 +45,7 @@ fn pin_new(
     holder: Holder,
     name: PageName,
     g: usize,
-) -> PinnedEnd
+) -> Result<Ended<Pinned>, Refusal>
     requires { (sized
         (with_counts counts.old
         (memory control states.old names.old pool.old free.old heads.old chain.old rows.now store.old)) ≡ true)
@@ -55,21 +54,21 @@ fn pin_new(
         (memory control states.old names.old pool.old free.old heads.old chain.old rows.now store.old)) ≡ true)
         × (place_of rows.now name ≡ found g)
         × (holder.0 < max_holders) }
-    ensures answer_value { result.answer
+    ensures value { answer_of result
         ≡ pinned_of
         (pin_new
         (with_counts counts.old
         (memory control states.old names.old pool.old free.old heads.old
         chain.old rows.now store.old)) holder.0 name (link_of control.top)) }
     ensures store_after { with_counts counts.new
-        (memory result.control states.new names.new pool.new free.new
+        (memory (control_of control result) states.new names.new pool.new free.new
         heads.new chain.new rows.now store.new)
         ≡ (pin_new
         (with_counts counts.old
         (memory control states.old names.old pool.old free.old heads.old
         chain.old rows.now store.old)) holder.0 name (link_of control.top)).after }
 {
-    let Link::To(i) = read_link(control.top) else {
+    let Link::To(i) = Link::from(control.top) else {
         return pin_swept(
             control, states, names, pool, free, heads, chain, rows, store, counts, holder, name, g,
         );
@@ -88,15 +87,15 @@ fn pin_new(
         g,
     );
     put_count(counts, holder, BufferNumber(i), 1);
-    PinnedEnd {
+    Ok(Ended {
         control: after,
-        answer: Pinned::At {
+        answer: Pinned {
             buffer: BufferNumber(i),
             hit: false,
             wrote: false,
             probes: 0,
         },
-    }
+    })
 }
 
 // The page `name`, at place `g` of the store: where no buffer has it, its block is verified first.
@@ -114,38 +113,39 @@ fn pin_at(
     holder: Holder,
     name: PageName,
     g: usize,
-) -> PinnedEnd
+) -> Result<Ended<Pinned>, Refusal>
     requires { (sized
         (with_counts counts.old
         (memory control states.old names.old pool.old free.old heads.old chain.old rows.now store.old)) ≡ true)
         × (sound
         (with_counts counts.old
         (memory control states.old names.old pool.old free.old heads.old chain.old rows.now store.old)) ≡ true)
-        × (sought rows.now name ≡ At g)
+        × (sought rows.now name ≡ Ok g)
         × (holder.0 < max_holders) }
-    ensures answer_value { result.answer
+    ensures value { answer_of result
         ≡ pinned_of
         (pin
         (with_counts counts.old
         (memory control states.old names.old pool.old free.old heads.old
         chain.old rows.now store.old)) holder.0 name) }
     ensures store_after { with_counts counts.new
-        (memory result.control states.new names.new pool.new free.new
+        (memory (control_of control result) states.new names.new pool.new free.new
         heads.new chain.new rows.now store.new)
         ≡ (pin
         (with_counts counts.old
         (memory control states.old names.old pool.old free.old heads.old
         chain.old rows.now store.old)) holder.0 name).after }
 {
-    let Held::At(buffer) = look_up(heads, chain, names, name) else {
+    let Some(buffer) = look_up(heads, chain, names, name) else {
         if !passes_block(store, g, control.size, name.block) {
-            return pin_refused(control, CHECKSUM);
+            return Err(Refusal::Checksum);
         }
         return pin_new(
             control, states, names, pool, free, heads, chain, rows, store, counts, holder, name, g,
         );
     };
-    pin_held(control, states, counts, holder, buffer)
+    let answer = pin_held(control, states, counts, holder, buffer)?;
+    Ok(Ended { control, answer })
 }
 
 pub fn pin_page(
@@ -161,45 +161,48 @@ pub fn pin_page(
     counts: &mut [u16],
     holder: Holder,
     name: PageName,
-) -> PinnedEnd
-    ensures answer_value { result.answer
+) -> Result<Ended<Pinned>, Refusal>
+    ensures value { answer_of result
         ≡ pinned_of
         (pin
         (with_counts counts.old
         (memory control states.old names.old pool.old free.old heads.old
         chain.old rows.now store.old)) holder.0 name) }
-    ensures answer_value_2 { pinned_number result.answer
+    ensures number { pinned_number (answer_of result)
         ≡ (pin
         (with_counts counts.old
         (memory control states.old names.old pool.old free.old heads.old
         chain.old rows.now store.old)) holder.0 name).refusal }
-    ensures answer_value_3 { pinned_words result.answer
+    ensures words { pinned_words (answer_of result)
         ≡ (pin
         (with_counts counts.old
         (memory control states.old names.old pool.old free.old heads.old
         chain.old rows.now store.old)) holder.0 name).answer }
     ensures store_after { with_counts counts.new
-        (memory result.control states.new names.new pool.new free.new
+        (memory (control_of control result) states.new names.new pool.new free.new
         heads.new chain.new rows.now store.new)
         ≡ (pin
         (with_counts counts.old
         (memory control states.old names.old pool.old free.old heads.old
         chain.old rows.now store.old)) holder.0 name).after }
 {
-    let k = refusal(
-        control, states, names, pool, free, heads, chain, rows, store, counts,
-    );
-    if k != 0 {
-        return pin_refused(control, k);
-    }
+    refusal(&PoolView {
+        control,
+        states,
+        names,
+        pool,
+        free,
+        heads,
+        chain,
+        rows,
+        store,
+        counts,
+    })?;
     if !is_holder(holder) {
-        return pin_refused(control, NO_HOLDER);
+        return Err(Refusal::NoHolder);
     }
-    let sought = seek(rows, name);
-    match sought {
-        Sought::Refused(n) => pin_refused(control, n),
-        Sought::At(g) => pin_at(
-            control, states, names, pool, free, heads, chain, rows, store, counts, holder, name, g,
-        ),
-    }
+    let g = seek(rows, name)?;
+    pin_at(
+        control, states, names, pool, free, heads, chain, rows, store, counts, holder, name, g,
+    )
 }

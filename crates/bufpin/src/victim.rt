@@ -12,18 +12,17 @@ ghost use Rattle.bufmodel.specs.Sizes.{sized};
 ghost use Rattle.bufmodel.specs.Books.{sound};
 ghost use Rattle.bufmodel.specs.Sweep.{sweep_all};
 ghost use Rattle.bufmodel.specs.Moves.{write_back, release, load};
-ghost use Rattle.bufmodel.specs.Answer.{pinned_of};
+ghost use Rattle.bufmodel.specs.Answer.{answer_of, control_of, pinned_of};
 ghost use Rattle.bufmodel.specs.Pin.{pin_swept};
 ghost use Rattle.bufpin.specs.Victim.{loaded_at};
 
-use crate::ends::{PinnedEnd, pin_refused};
 use bufmem::counts::put_count;
 use bufmem::state::state_of;
 use bufmem::word::is_dirty;
-use bufmodel::answer::Pinned;
+use bufmodel::answer::{Ended, Pinned};
 use bufmodel::control::Control;
 use bufmodel::holder::Holder;
-use bufmodel::refusal::ALL_PINNED;
+use bufmodel::refusal::Refusal;
 use bufmoves::back::write_back;
 use bufmoves::exchange::{load_page, release_buffer};
 use bufmoves::sweep::{Victim, sweep};
@@ -48,7 +47,7 @@ fn pin_victim(
     g: usize,
     victim: BufferNumber,
     probes: u64,
-) -> PinnedEnd
+) -> Ended<Pinned>
     requires { (sized
         (with_counts counts.old
         (memory control states.old names.old pool.old free.old heads.old chain.old rows.now store.old)) ≡ true)
@@ -60,7 +59,7 @@ fn pin_victim(
         × (pinned (get_or states.old victim.0 0) ≡ false)
         × (place_of rows.now name ≡ found g)
         × (holder.0 < max_holders) }
-    ensures answer_value { result.answer ≡ loaded_at victim.0 (dirty (get_or states.old victim.0 0)) probes }
+    ensures answer { result.answer ≡ loaded_at victim.0 (dirty (get_or states.old victim.0 0)) probes }
     ensures store_after { with_counts counts.new
         (memory result.control states.new names.new pool.new free.new
         heads.new chain.new rows.now store.new)
@@ -79,13 +78,13 @@ fn pin_victim(
         freed, states, names, pool, free, heads, chain, store, name, victim, g,
     );
     put_count(counts, holder, victim, 1);
-    PinnedEnd {
+    Ended {
         control: after,
-        answer: Pinned::At {
+        answer: Pinned {
             buffer: victim,
             hit: false,
-            wrote: wrote,
-            probes: probes,
+            wrote,
+            probes,
         },
     }
 }
@@ -105,7 +104,7 @@ pub fn pin_swept(
     holder: Holder,
     name: PageName,
     g: usize,
-) -> PinnedEnd
+) -> Result<Ended<Pinned>, Refusal>
     requires { (sized
         (with_counts counts.old
         (memory control states.old names.old pool.old free.old heads.old chain.old rows.now store.old)) ≡ true)
@@ -115,7 +114,7 @@ pub fn pin_swept(
         × (place_of rows.now name ≡ found g)
         × (link_of control.top ≡ End)
         × (holder.0 < max_holders) }
-    ensures answer_value { result.answer
+    ensures value { answer_of result
         ≡ pinned_of
         (pin_swept
         (with_counts counts.old
@@ -123,7 +122,7 @@ pub fn pin_swept(
         chain.old rows.now store.old)) holder.0 name
         (sweep_all control.cap states.old control.hand)) }
     ensures store_after { with_counts counts.new
-        (memory result.control states.new names.new pool.new free.new
+        (memory (control_of control result) states.new names.new pool.new free.new
         heads.new chain.new rows.now store.new)
         ≡ (pin_swept
         (with_counts counts.old
@@ -131,18 +130,14 @@ pub fn pin_swept(
         chain.old rows.now store.old)) holder.0 name
         (sweep_all control.cap states.old control.hand)).after }
 {
-    let Victim::At {
+    let Victim {
         buffer,
         hand,
         probes,
-    } = sweep(control.cap, states, control.hand)
-    else {
-        return pin_refused(control, ALL_PINNED);
-    };
-    let mut swept = control;
-    swept.hand = hand;
-    pin_victim(
+    } = sweep(control.cap, states, control.hand).ok_or(Refusal::AllPinned)?;
+    let swept = Control { hand, ..control };
+    Ok(pin_victim(
         swept, states, names, pool, free, heads, chain, rows, store, counts, holder, name, g,
         buffer, probes,
-    )
+    ))
 }

@@ -101,10 +101,10 @@ ended-made l o (suc k) m t keeps =
     let n : suc k ≢ 0 = λ z. absurd (omega arith) in
     rw (ne_eqb (suc k) 0 n) (ap (λ (y : Lent). ends (suc k) o.answer o.bytes y) (keeps n))
 
-module _ {T : Type 0} {number : T → ℕ} {words : T → List ℕ} {at : Outcome → T} (call : Memory → Outcome) (bytes : List ℕ)
+module _ {T : Type 0} {words : T → List ℕ} {of : List ℕ → T} (call : Memory → Outcome) (bytes : List ℕ)
     (l : Lent) (answer : List ℕ) (a : length answer ≡ answer_words) (h : length l.control ≡ control_words)
     {c : Control} (read : ended_by l (call (under c l)) ≡ ended_by l (call (opened l))) {left : List ℕ}
-    (answers : Answers number words at left (under c l) (call (under c l))) where
+    (answers : Answers words of left (under c l) (call (under c l))) where
   abbrev o : Outcome
   o = call (under c l)
 

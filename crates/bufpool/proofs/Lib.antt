@@ -1,4 +1,3 @@
-pub mod AnswerLaws
 pub mod ExportLaws
 pub mod CallLaws
 pub mod ChecksumLaws

@@ -22,5 +22,5 @@ abbrev pub ends : ℕ → List ℕ → List ℕ → Lent → Called
 ends r answer bytes l = record { result = r; answer = answer; bytes = bytes; lent = l }
 
 -- the control record's words after a call with result r: a refused call leaves them
-unfoldable pub kept_words : ℕ → Control → List ℕ → List ℕ
+abbrev pub kept_words : ℕ → Control → List ℕ → List ℕ
 kept_words r c ws = cond (eqb r 0) (words_of c) ws

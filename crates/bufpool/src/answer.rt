@@ -1,125 +1,86 @@
-// The answer's four words, and the result, of each kind of answer.
+// An answer's four words, and the result.
 
-ghost use Rattle.std.specs.Prelude.{◌≡◌, [], ◌∷◌, length};
-ghost use Rattle.bufmodel.specs.Outcome.{zeros};
+ghost use Rattle.std.specs.Prelude.{◌≡◌, [], ◌∷◌, ℕ, List, length};
+ghost use Rattle.bufmodel.specs.Outcome.{zeros, one};
 ghost use Rattle.bufmodel.specs.Lent.{answer_words};
-ghost use Rattle.bufmodel.specs.Answer.{
-  accepted_number,
-  accepted_words,
-  extended_number,
-  extended_words,
-  peeked_number,
-  peeked_words,
-  pinned_number,
-  pinned_words,
-  written_number,
-  written_words,
-};
+ghost use Rattle.bufmodel.specs.Answer.{number_of, words_of, done_words, extend_words, peek_words, pin_words};
 
-use bufmem::flag::one_if;
-use bufmodel::answer::{Accepted, Extended, Peeked, Pinned, Written};
-use bufmodel::refusal::SIZES;
+use bufmodel::answer::{Peeked, Pinned};
+use bufmodel::refusal::Refusal;
+use buftag::number::BlockNumber;
 
-pub fn put_words(answer: &mut [u64], a: u64, b: u64, c: u64, d: u64)
-    requires { length answer.old ≡ answer_words }
-    ensures { answer.new ≡ a ∷ b ∷ c ∷ d ∷ [] }
-{
-    answer[0] = a;
-    answer[1] = b;
-    answer[2] = c;
-    answer[3] = d;
+// What an accepted call answers.
+pub trait Answer {
+    ghost words: { Self → List ℕ };
+
+    fn into_words(self) -> [u64; 4]
+        ensures { result ≡ words self };
 }
 
-pub fn put_accepted(answer: &mut [u64], accepted: Accepted) -> u32
-    requires { length answer.old ≡ answer_words }
-    ensures value { result ≡ accepted_number accepted }
-    ensures answer_after { answer.new ≡ accepted_words accepted }
-{
-    match accepted {
-        Accepted::Done => {
-            put_words(answer, 0, 0, 0, 0);
-            0
-        }
-        Accepted::Refused(k) => {
-            put_words(answer, 0, 0, 0, 0);
-            k
+// Only that it was done.
+impl Answer for () {
+    ghost words = { done_words };
+
+    fn into_words(self) -> [u64; 4] {
+        [0; 4]
+    }
+}
+
+// How many pages were written back.
+impl Answer for u64 {
+    ghost words = { one };
+
+    fn into_words(self) -> [u64; 4] {
+        [self, 0, 0, 0]
+    }
+}
+
+impl Answer for BlockNumber {
+    ghost words = { extend_words };
+
+    fn into_words(self) -> [u64; 4] {
+        [u64::from(self.0), 0, 0, 0]
+    }
+}
+
+impl Answer for Peeked {
+    ghost words = { peek_words };
+
+    fn into_words(self) -> [u64; 4] {
+        match self {
+            Peeked::InPool(at) => [1, at, 0, 0],
+            Peeked::InStore(at) => [0, at, 0, 0],
         }
     }
 }
 
-pub fn put_written(answer: &mut [u64], written: Written) -> u32
-    requires { length answer.old ≡ answer_words }
-    ensures value { result ≡ written_number written }
-    ensures answer_after { answer.new ≡ written_words written }
-{
-    match written {
-        Written::Pages(n) => {
-            put_words(answer, n, 0, 0, 0);
-            0
-        }
-        Written::Refused(k) => {
-            put_words(answer, 0, 0, 0, 0);
-            k
-        }
+impl Answer for Pinned {
+    ghost words = { pin_words };
+
+    fn into_words(self) -> [u64; 4] {
+        [
+            self.buffer.0 as u64,
+            u64::from(self.hit),
+            u64::from(self.wrote),
+            self.probes,
+        ]
     }
 }
 
-pub fn put_peeked(answer: &mut [u64], peeked: Peeked) -> u32
+// Stores the words of an answer, zeros where the call is refused, and answers its number.
+pub fn put_answer<T: Answer>(answer: &mut [u64], given: Result<T, Refusal>) -> u32
     requires { length answer.old ≡ answer_words }
-    ensures value { result ≡ peeked_number peeked }
-    ensures answer_after { answer.new ≡ peeked_words peeked }
+    ensures value { result ≡ number_of given }
+    ensures answer_after { answer.new ≡ words_of T.words given }
 {
-    match peeked {
-        Peeked::InPool(at) => {
-            put_words(answer, 1, at, 0, 0);
+    match given {
+        Ok(accepted) => {
+            answer.copy_from_slice(&accepted.into_words());
             0
         }
-        Peeked::InStore(at) => {
-            put_words(answer, 0, at, 0, 0);
-            0
-        }
-        Peeked::Refused(k) => {
-            put_words(answer, 0, 0, 0, 0);
-            k
-        }
-    }
-}
-
-pub fn put_extended(answer: &mut [u64], extended: Extended) -> u32
-    requires { length answer.old ≡ answer_words }
-    ensures value { result ≡ extended_number extended }
-    ensures answer_after { answer.new ≡ extended_words extended }
-{
-    match extended {
-        Extended::Block(b) => {
-            put_words(answer, b.0 as u64, 0, 0, 0);
-            0
-        }
-        Extended::Refused(k) => {
-            put_words(answer, 0, 0, 0, 0);
-            k
-        }
-    }
-}
-
-pub fn put_pinned(answer: &mut [u64], pinned: Pinned) -> u32
-    requires { length answer.old ≡ answer_words }
-    ensures value { result ≡ pinned_number pinned }
-    ensures answer_after { answer.new ≡ pinned_words pinned }
-{
-    match pinned {
-        Pinned::At {
-            buffer,
-            hit,
-            wrote,
-            probes,
-        } => {
-            put_words(answer, buffer.0 as u64, one_if(hit), one_if(wrote), probes);
-            0
-        }
-        Pinned::Refused(k) => {
-            put_words(answer, 0, 0, 0, 0);
-            k
+        Err(why) => {
+            answer.fill(0);
+            u32::from(why)
         }
     }
 }
@@ -130,6 +91,5 @@ pub fn refuse(answer: &mut [u64]) -> u32
     ensures value { result ≡ 1 }
     ensures answer_after { answer.new ≡ zeros }
 {
-    put_words(answer, 0, 0, 0, 0);
-    SIZES
+    put_answer::<()>(answer, Err(Refusal::Sizes))
 }

@@ -5,13 +5,13 @@ ghost use Rattle.bufmodel.specs.Lent.{called};
 ghost use Rattle.bufpool.specs.Lent.{lent, ends};
 ghost use Rattle.bufmodel.specs.Calls.{flush, checkpoint};
 
-use crate::answer::{put_written, refuse};
-use crate::control::keep_control;
+use crate::answer::refuse;
+use crate::control::put_end;
 use bufcalls::checkpoint::checkpoint_pool;
 use bufcalls::flush::flush_buffer;
 use bufmem::control::{ANSWER_WORDS, CONTROL_WORDS, read_control};
 use bufmodel::holder::Holder;
-use bufmodel::refusal::SIZES;
+use bufmodel::refusal::Refusal;
 use buftag::number::BufferNumber;
 
 // Writes a pinned page back if it is dirty: answers how many were written.
@@ -39,12 +39,12 @@ pub fn bufpool_flush(
         answer.old }
 {
     if answer.len() != ANSWER_WORDS {
-        return SIZES;
+        return u32::from(Refusal::Sizes);
     }
     if control.len() != CONTROL_WORDS {
         return refuse(answer);
     }
-    let end = flush_buffer(
+    let given = flush_buffer(
         read_control(control),
         states,
         names,
@@ -58,10 +58,7 @@ pub fn bufpool_flush(
         Holder(holder as usize),
         BufferNumber(buffer as usize),
     );
-    let answered = end.answer;
-    let r = put_written(answer, answered);
-    keep_control(control, end.control, r);
-    r
+    put_end(control, answer, given)
 }
 
 // Writes every dirty page back: answers how many were written.
@@ -87,12 +84,12 @@ pub fn bufpool_checkpoint(
         answer.old }
 {
     if answer.len() != ANSWER_WORDS {
-        return SIZES;
+        return u32::from(Refusal::Sizes);
     }
     if control.len() != CONTROL_WORDS {
         return refuse(answer);
     }
-    let end = checkpoint_pool(
+    let given = checkpoint_pool(
         read_control(control),
         states,
         names,
@@ -104,8 +101,5 @@ pub fn bufpool_checkpoint(
         store,
         counts,
     );
-    let answered = end.answer;
-    let r = put_written(answer, answered);
-    keep_control(control, end.control, r);
-    r
+    put_end(control, answer, given)
 }

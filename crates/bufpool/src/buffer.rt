@@ -5,11 +5,12 @@ ghost use Rattle.bufmodel.specs.Lent.{called};
 ghost use Rattle.bufpool.specs.Lent.{lent, ends};
 ghost use Rattle.bufmodel.specs.Calls.{unpin, read, write};
 
-use crate::answer::{put_accepted, refuse};
+use crate::answer::{put_answer, refuse};
 use bufcalls::buffer::{read_buffer, unpin_buffer, write_buffer};
 use bufmem::control::{ANSWER_WORDS, CONTROL_WORDS, read_control};
 use bufmodel::holder::Holder;
-use bufmodel::refusal::SIZES;
+use bufmodel::refusal::Refusal;
+use bufmodel::view::PoolView;
 use buftag::number::BufferNumber;
 
 // Gives back one pin.
@@ -37,12 +38,12 @@ pub fn bufpool_unpin(
         answer.old }
 {
     if answer.len() != ANSWER_WORDS {
-        return SIZES;
+        return u32::from(Refusal::Sizes);
     }
     if control.len() != CONTROL_WORDS {
         return refuse(answer);
     }
-    let answered = unpin_buffer(
+    let given = unpin_buffer(
         read_control(control),
         states,
         names,
@@ -56,7 +57,7 @@ pub fn bufpool_unpin(
         Holder(holder as usize),
         BufferNumber(buffer as usize),
     );
-    put_accepted(answer, answered)
+    put_answer(answer, given)
 }
 
 // Fills `out` from a pinned page.
@@ -86,13 +87,13 @@ pub fn bufpool_read(
         answer.old }
 {
     if answer.len() != ANSWER_WORDS {
-        return SIZES;
+        return u32::from(Refusal::Sizes);
     }
     if control.len() != CONTROL_WORDS {
         return refuse(answer);
     }
-    let answered = read_buffer(
-        read_control(control),
+    let lent = PoolView {
+        control: read_control(control),
         states,
         names,
         pool,
@@ -102,12 +103,15 @@ pub fn bufpool_read(
         rows,
         store,
         counts,
+    };
+    let given = read_buffer(
+        &lent,
         Holder(holder as usize),
         BufferNumber(buffer as usize),
         from as usize,
         out,
     );
-    put_accepted(answer, answered)
+    put_answer(answer, given)
 }
 
 // Writes bytes into a pinned page, with their log position.
@@ -138,12 +142,12 @@ pub fn bufpool_write(
         answer.old }
 {
     if answer.len() != ANSWER_WORDS {
-        return SIZES;
+        return u32::from(Refusal::Sizes);
     }
     if control.len() != CONTROL_WORDS {
         return refuse(answer);
     }
-    let answered = write_buffer(
+    let given = write_buffer(
         read_control(control),
         states,
         names,
@@ -160,5 +164,5 @@ pub fn bufpool_write(
         bytes,
         position,
     );
-    put_accepted(answer, answered)
+    put_answer(answer, given)
 }

@@ -1,18 +1,49 @@
-// The control record after a call.
+// The control record after a call: stored in its words where the call is accepted.
 
 ghost use Rattle.std.specs.Prelude.{◌≡◌, length};
-ghost use Rattle.bufmodel.specs.Lent.{control_words};
+ghost use Rattle.bufmodel.specs.declared.control.Control.{Control};
+ghost use Rattle.bufmodel.specs.Lent.{control_words, answer_words};
+ghost use Rattle.bufmodel.specs.Answer.{number_of, words_of, done_words, answer_of, control_of, done_of, record_of};
 ghost use Rattle.bufpool.specs.Lent.{kept_words};
 
+use crate::answer::{Answer, put_answer};
 use bufmem::control::write_control;
+use bufmodel::answer::Ended;
 use bufmodel::control::Control;
+use bufmodel::refusal::Refusal;
 
-// Stores the control record in its words if the result is 0.
-pub fn keep_control(words: &mut [u64], control: Control, r: u32)
-    requires { length words.old ≡ control_words }
-    ensures { words.new ≡ kept_words r control words.old }
+// Of a call that answers something beside the record.
+pub fn put_end<T: Answer>(
+    control: &mut [u64],
+    answer: &mut [u64],
+    given: Result<Ended<T>, Refusal>,
+) -> u32
+    requires { (length control.old ≡ control_words) × (length answer.old ≡ answer_words) }
+    ensures value { result ≡ number_of (answer_of given) }
+    ensures control_after { (before : Control) → control.new ≡ kept_words result (control_of before given) control.old }
+    ensures answer_after { answer.new ≡ words_of T.words (answer_of given) }
 {
-    if r == 0 {
-        write_control(words, control);
+    match given {
+        Ok(end) => {
+            write_control(control, end.control);
+            put_answer(answer, Ok(end.answer))
+        }
+        Err(why) => put_answer::<T>(answer, Err(why)),
+    }
+}
+
+// Of one that answers only that it was done.
+pub fn put_record(control: &mut [u64], answer: &mut [u64], given: Result<Control, Refusal>) -> u32
+    requires { (length control.old ≡ control_words) × (length answer.old ≡ answer_words) }
+    ensures value { result ≡ number_of (done_of given) }
+    ensures control_after { (before : Control) → control.new ≡ kept_words result (record_of before given) control.old }
+    ensures answer_after { answer.new ≡ words_of done_words (done_of given) }
+{
+    match given {
+        Ok(after) => {
+            write_control(control, after);
+            put_answer(answer, Ok(()))
+        }
+        Err(why) => put_answer::<()>(answer, Err(why)),
     }
 }

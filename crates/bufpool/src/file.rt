@@ -6,11 +6,11 @@ ghost use Rattle.bufmodel.specs.Lent.{called};
 ghost use Rattle.bufpool.specs.Lent.{lent, ends};
 ghost use Rattle.bufmodel.specs.Calls.{extend, drop_file};
 
-use crate::answer::{put_accepted, put_extended, refuse};
-use crate::control::keep_control;
+use crate::answer::{put_answer, refuse};
+use crate::control::put_record;
 use bufcalls::file::{drop_file, extend_file};
 use bufmem::control::{ANSWER_WORDS, CONTROL_WORDS, read_control};
-use bufmodel::refusal::SIZES;
+use bufmodel::refusal::Refusal;
 use buftag::name::file_name;
 
 // Gives a file its next block, of zeros: answers its number.
@@ -40,13 +40,13 @@ pub fn bufpool_extend(
         answer.old }
 {
     if answer.len() != ANSWER_WORDS {
-        return SIZES;
+        return u32::from(Refusal::Sizes);
     }
     if control.len() != CONTROL_WORDS {
         return refuse(answer);
     }
     let file = file_name(tablespace, database, relation, fork);
-    let answered = extend_file(
+    let given = extend_file(
         read_control(control),
         states,
         names,
@@ -59,7 +59,7 @@ pub fn bufpool_extend(
         counts,
         file,
     );
-    put_extended(answer, answered)
+    put_answer(answer, given)
 }
 
 // Empties a file's buffers and takes its blocks.
@@ -89,13 +89,13 @@ pub fn bufpool_drop(
         answer.old }
 {
     if answer.len() != ANSWER_WORDS {
-        return SIZES;
+        return u32::from(Refusal::Sizes);
     }
     if control.len() != CONTROL_WORDS {
         return refuse(answer);
     }
     let file = file_name(tablespace, database, relation, fork);
-    let end = drop_file(
+    let given = drop_file(
         read_control(control),
         states,
         names,
@@ -108,8 +108,5 @@ pub fn bufpool_drop(
         counts,
         file,
     );
-    let answered = end.answer;
-    let r = put_accepted(answer, answered);
-    keep_control(control, end.control, r);
-    r
+    put_record(control, answer, given)
 }

@@ -5,11 +5,11 @@ ghost use Rattle.bufmodel.specs.Lent.{called};
 ghost use Rattle.bufpool.specs.Lent.{lent, ends};
 ghost use Rattle.bufmodel.specs.Calls.{give_back};
 
-use crate::answer::{put_accepted, refuse};
+use crate::answer::{put_answer, refuse};
 use bufcalls::give::give_back;
 use bufmem::control::{ANSWER_WORDS, CONTROL_WORDS, read_control};
 use bufmodel::holder::Holder;
-use bufmodel::refusal::SIZES;
+use bufmodel::refusal::Refusal;
 
 // Gives back everything that a holder has.
 pub fn bufpool_give_back(
@@ -35,12 +35,12 @@ pub fn bufpool_give_back(
         answer.old }
 {
     if answer.len() != ANSWER_WORDS {
-        return SIZES;
+        return u32::from(Refusal::Sizes);
     }
     if control.len() != CONTROL_WORDS {
         return refuse(answer);
     }
-    let answered = give_back(
+    let given = give_back(
         read_control(control),
         states,
         names,
@@ -53,5 +53,5 @@ pub fn bufpool_give_back(
         counts,
         Holder(holder as usize),
     );
-    put_accepted(answer, answered)
+    put_answer(answer, given)
 }

@@ -5,11 +5,12 @@ ghost use Rattle.bufmodel.specs.Lent.{called};
 ghost use Rattle.bufpool.specs.Lent.{lent, ends};
 ghost use Rattle.bufmodel.specs.Calls.{log_inserted, log_flushed};
 
-use crate::answer::{put_accepted, refuse};
-use crate::control::keep_control;
+use crate::answer::refuse;
+use crate::control::put_record;
 use bufcalls::log::{log_flushed, log_inserted};
 use bufmem::control::{ANSWER_WORDS, CONTROL_WORDS, read_control};
-use bufmodel::refusal::SIZES;
+use bufmodel::refusal::Refusal;
+use bufmodel::view::PoolView;
 
 // The log is inserted up to a position.
 pub fn bufpool_log_inserted(
@@ -35,13 +36,13 @@ pub fn bufpool_log_inserted(
         answer.old }
 {
     if answer.len() != ANSWER_WORDS {
-        return SIZES;
+        return u32::from(Refusal::Sizes);
     }
     if control.len() != CONTROL_WORDS {
         return refuse(answer);
     }
-    let end = log_inserted(
-        read_control(control),
+    let lent = PoolView {
+        control: read_control(control),
         states,
         names,
         pool,
@@ -51,12 +52,9 @@ pub fn bufpool_log_inserted(
         rows,
         store,
         counts,
-        position,
-    );
-    let answered = end.answer;
-    let r = put_accepted(answer, answered);
-    keep_control(control, end.control, r);
-    r
+    };
+    let given = log_inserted(&lent, position);
+    put_record(control, answer, given)
 }
 
 // The log is flushed up to a position.
@@ -83,13 +81,13 @@ pub fn bufpool_log_flushed(
         answer.old }
 {
     if answer.len() != ANSWER_WORDS {
-        return SIZES;
+        return u32::from(Refusal::Sizes);
     }
     if control.len() != CONTROL_WORDS {
         return refuse(answer);
     }
-    let end = log_flushed(
-        read_control(control),
+    let lent = PoolView {
+        control: read_control(control),
         states,
         names,
         pool,
@@ -99,10 +97,7 @@ pub fn bufpool_log_flushed(
         rows,
         store,
         counts,
-        position,
-    );
-    let answered = end.answer;
-    let r = put_accepted(answer, answered);
-    keep_control(control, end.control, r);
-    r
+    };
+    let given = log_flushed(&lent, position);
+    put_record(control, answer, given)
 }

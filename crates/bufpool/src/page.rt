@@ -7,12 +7,13 @@ ghost use Rattle.bufpool.specs.Lent.{lent, ends};
 ghost use Rattle.bufmodel.specs.Pin.{pin};
 ghost use Rattle.bufmodel.specs.Calls.{peek};
 
-use crate::answer::{put_peeked, put_pinned, refuse};
-use crate::control::keep_control;
+use crate::answer::{put_answer, refuse};
+use crate::control::put_end;
 use bufcalls::peek::peek_at;
 use bufmem::control::{ANSWER_WORDS, CONTROL_WORDS, read_control};
 use bufmodel::holder::Holder;
-use bufmodel::refusal::SIZES;
+use bufmodel::refusal::Refusal;
+use bufmodel::view::PoolView;
 use bufpin::pin::pin_page;
 use buftag::name::page_name;
 
@@ -45,13 +46,13 @@ pub fn bufpool_pin(
         answer.old }
 {
     if answer.len() != ANSWER_WORDS {
-        return SIZES;
+        return u32::from(Refusal::Sizes);
     }
     if control.len() != CONTROL_WORDS {
         return refuse(answer);
     }
     let name = page_name(tablespace, database, relation, fork, block);
-    let end = pin_page(
+    let given = pin_page(
         read_control(control),
         states,
         names,
@@ -65,10 +66,7 @@ pub fn bufpool_pin(
         Holder(holder as usize),
         name,
     );
-    let answered = end.answer;
-    let r = put_pinned(answer, answered);
-    keep_control(control, end.control, r);
-    r
+    put_end(control, answer, given)
 }
 
 // Where a page lies: 1 for the pool or 0 for the store, and a byte offset.
@@ -99,14 +97,14 @@ pub fn bufpool_peek(
         answer.old }
 {
     if answer.len() != ANSWER_WORDS {
-        return SIZES;
+        return u32::from(Refusal::Sizes);
     }
     if control.len() != CONTROL_WORDS {
         return refuse(answer);
     }
     let name = page_name(tablespace, database, relation, fork, block);
-    let answered = peek_at(
-        read_control(control),
+    let lent = PoolView {
+        control: read_control(control),
         states,
         names,
         pool,
@@ -116,7 +114,7 @@ pub fn bufpool_peek(
         rows,
         store,
         counts,
-        name,
-    );
-    put_peeked(answer, answered)
+    };
+    let given = peek_at(&lent, name);
+    put_answer(answer, given)
 }

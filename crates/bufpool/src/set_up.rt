@@ -5,11 +5,11 @@ ghost use Rattle.bufmodel.specs.Lent.{called};
 ghost use Rattle.bufpool.specs.Lent.{lent, ends};
 ghost use Rattle.bufmodel.specs.Calls.{set_up};
 
-use crate::answer::{put_accepted, refuse};
-use crate::control::keep_control;
+use crate::answer::refuse;
+use crate::control::put_record;
 use bufcalls::set_up::set_up_pool;
 use bufmem::control::{ANSWER_WORDS, CONTROL_WORDS, read_control};
-use bufmodel::refusal::SIZES;
+use bufmodel::refusal::Refusal;
 
 // Sets up an empty pool.
 pub fn bufpool_set_up(
@@ -37,12 +37,12 @@ pub fn bufpool_set_up(
         answer.old }
 {
     if answer.len() != ANSWER_WORDS {
-        return SIZES;
+        return u32::from(Refusal::Sizes);
     }
     if control.len() != CONTROL_WORDS {
         return refuse(answer);
     }
-    let end = set_up_pool(
+    let given = set_up_pool(
         read_control(control),
         states,
         names,
@@ -57,8 +57,5 @@ pub fn bufpool_set_up(
         position,
         cap as usize,
     );
-    let answered = end.answer;
-    let r = put_accepted(answer, answered);
-    keep_control(control, end.control, r);
-    r
+    put_record(control, answer, given)
 }

@@ -21,10 +21,10 @@ use Rattle.buftag.specs.declared.number.BufferNumber.{BufferNumber}
 use Rattle.buftag.specs.declared.name.PageName.{PageName}
 use Rattle.buftag.specs.declared.link.Link.{Link}
 use Rattle.buftag.specs.declared.link.Link.TheVariants.{Off}
-use Rattle.buftag.specs.declared.lookup.Held.{Held}
-use Rattle.buftag.specs.declared.lookup.Held.TheVariants.{At, Nowhere}
-use Rattle.buftag.specs.declared.budget.Walked.{Walked}
-use Rattle.buftag.specs.declared.budget.Walked.TheVariants.{Left, Wrong}
+use Rattle.buftag.specs.Lookup.{Held}
+use Rattle.std.specs.Prelude.{Some, None}
+use Rattle.std.specs.Prelude.{Option}
+use Rattle.std.specs.Prelude.{Some, None}
 use Rattle.buftag.specs.Name.{bucket_of}
 use Rattle.buftag.specs.Names.{name_at}
 use Rattle.buftag.specs.Link.{link_at, is_end, Links, done, step, Holds, holds_test}
@@ -73,20 +73,20 @@ links-off {ls = ls} (step {i = i} {is = is} h r) j m e =
     ⊎_elim (λ q. links-on r (sym (ap (link_at ls) q) ∙ e)) (λ q. links-off r j q e) (present j i is m)
 
 -- nothing is left only after a walk that ended
-spent-is : (w : Walked) → spent w ≡ true → w ≡ Left 0
-spent-is (Left m) h = ap Left (eqb-true m 0 h)
-spent-is Wrong h = never h refl
+spent-is : (w : Option ℕ) → spent w ≡ true → w ≡ Some 0
+spent-is (Some m) h = ap Some (eqb-true m 0 h)
+spent-is None h = never h refl
 
 -- ---- one list
 module _ (ls : List ℤ) (l : Link) (ok : ℕ → Bool) (off : (i : ℕ) → i < length ls → ok i ≡ false → link_at ls i ≡ Off) where
-  spent-holds : spend ls (count (length ls) ok) l ≡ Left 0 → Holds ls l ok
+  spent-holds : spend ls (count (length ls) ok) l ≡ Some 0 → Holds ls l ok
   spent-holds e =
       let s = spend-links ls (count (length ls) ok) l e in
       let pass : (j : ℕ) → 0 < times j s.0 → ok j ≡ true =
       λ j m. ⊎_elim (λ t. t) (λ f. absurd (links-off s.1 j m (off j (links-in s.1 j m) f))) (true-or-false (ok j)) in
       record { list = s.0; linked = s.1; once = links-full ok s.1 pass (omega (arith, s.2)) }
 
-  holds-spent : Holds ls l ok → spend ls (count (length ls) ok) l ≡ Left 0
+  holds-spent : Holds ls l ok → spend ls (count (length ls) ok) l ≡ Some 0
   holds-spent h = rw (← holds-long ok h) (rw add-zero at (links-spend ls 0 h.linked))
 
   -- where every place that fails the test has link −2, a list with as many places as pass holds exactly those
@@ -97,13 +97,13 @@ module _ (ls : List ℤ) (l : Link) (ok : ℕ → Bool) (off : (i : ℕ) → i <
       (λ h. ap spent (holds-spent ((holds-says ls l ok).holds h)))
 
 -- ---- a buffer that the look-up of its name finds
-is_at-true : (i : ℕ) (w : Held) → is_at i w ≡ true → (b : BufferNumber) × (w ≡ At b) × (b.0 ≡ i)
-is_at-true i (At b) h = (b, refl, eqb-true b.0 i h)
-is_at-true i Nowhere h = never h refl
+is_at-true : (i : ℕ) (w : Held) → is_at i w ≡ true → (b : BufferNumber) × (w ≡ Some b) × (b.0 ≡ i)
+is_at-true i (Some b) h = (b, refl, eqb-true b.0 i h)
+is_at-true i None h = never h refl
 
 is_at-same : (i j : ℕ) (w : Held) → is_at i w ≡ true → is_at j w ≡ true → i ≡ j
-is_at-same i j (At b) h g = sym (eqb-true b.0 i h) ∙ eqb-true b.0 j g
-is_at-same i j Nowhere h g = never h refl
+is_at-same i j (Some b) h g = sym (eqb-true b.0 i h) ∙ eqb-true b.0 j g
+is_at-same i j None h g = never h refl
 
 -- ---- the check of all chains
 module _ (words names : List ℕ) (heads chain : List ℤ) (some : 0 < length heads) (len : length chain ≡ length words) where
@@ -161,10 +161,10 @@ module _ (words names : List ℕ) (heads chain : List ℤ) (some : 0 < length he
         its = sound.each home (bucket-lt (name_at names i) (length heads) some)
 
         go : (w : Held) → walk chain names (name_at names i) (length chain) (link_at heads home) ≡ w → is_at i w ≡ true
-        go (At j) e =
+        go (Some j) e =
             let r = walk-hit chain names (name_at names i) (length chain) its.linked e in
             eq-eqb j.0 i (apart j.0 i (and_left (used words j.0) _ (holds-pass its j.0 r.0)) u r.1)
-        go Nowhere e =
+        go None e =
             absurd
             (walk-miss chain names (name_at names i) (length chain) its.linked (links-fit its.linked) e i
             (omega (arith, its.once i (omega (arith, used-in words i u)), ind-one (and-true u (eq-eqb home home refl)))) refl)

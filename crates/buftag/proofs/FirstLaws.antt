@@ -5,7 +5,7 @@ use mathlib.Core.Bool.{true, false}
 use mathlib.Core.Logic.{⊎_elim}
 use mathlib.Core.List.{List}
 use native.Mathlib.Omega.{arith}
-use lib.IntN.{ℤ, pos, negsuc}
+use lib.IntN.{ℤ, pos, negsuc, nat_abs}
 use lib.ListN.{length}
 use lib.Signed.{lt_z}
 use mir.Syntax.{w32}
@@ -14,14 +14,14 @@ use borrow.Author.Tests.{ltb-true, ne_eqb, eq-eqb}
 use Rattle.laws.proofs.Tests.{lt-or-le, true-or-false}
 use Rattle.buftag.specs.declared.link.Link.{Link}
 use Rattle.buftag.specs.declared.link.Link.TheVariants.{To}
-use Rattle.buftag.specs.declared.lookup.Held.{Held}
+use Rattle.buftag.specs.Lookup.{Held}
 use Rattle.buftag.specs.Name.{same_name}
 use Rattle.buftag.specs.Names.{name_at}
 use Rattle.buftag.specs.Link.{link_of, link_at, number_at, is_to}
 use Rattle.buftag.specs.Lookup.{walk}
 use Rattle.buftag.specs.Check.{is_at, is_first}
 use Rattle.buftag.proofs.NameLaws.{says-same-name}
-use Rattle.buftag.proofs.SignedLaws.{bits_back, index_back}
+use Rattle.buftag.proofs.SignedLaws.{bits_back, index_back, not_negative}
 use Rattle.buftag.proofs.WalkLaws.{walk_none, walk-past, walk-found, walk-next}
 
 -- ---- a number compared with a buffer's by its bits
@@ -64,7 +64,7 @@ module _ (chain : List ℤ) (names : List ℕ) (own : ℕ) where
       (λ h.
       ⊎_elim
       (λ t. ap (is_at own) (walk-found chain names _ 1 i (omega arith) h t) ∙ o)
-      (λ t. ap (is_at own) (walk-next chain names _ 1 i (omega arith) h t ∙ walk_none chain names _ (link_at chain i)))
+      (λ t. ap (is_at own) (walk-next chain names _ 0 i (omega arith) h t ∙ walk_none chain names _ (link_at chain i)))
       (true-or-false (same_name (name_at names i) (name_at names own))))
       (λ h. ap (is_at own) (walk-past chain names _ 1 i h))
       (lt-or-le i (length chain))
@@ -90,6 +90,10 @@ module _ (chain : List ℤ) (names : List ℕ) (own : ℕ) where
   pub later_last : {first : Link} {z : ℤ} → Later first 0 z → false ≡ is_first chain names first own
   later_last {z = z} r = sym (find-last z r.other) ∙ r.rest
 
+  -- a number that is not negative is a place
+  pub later-place : {first : Link} {left : ℕ} {z : ℤ} → Later first left z → lt_z z (pos 0) ≡ false → Later first left (pos (nat_abs z))
+  later-place {first} {left} {z} r e = subst (λ (y : ℤ). Later first left y) (not_negative z e) r
+
   -- at a place
   pub later-past : {first : Link} {left i : ℕ} → Later first left (pos i) → length chain ≤ i → false ≡ is_first chain names first own
   later-past {left = left} {i = i} r h = sym (ap (is_at own) (walk-past chain names _ (left + 1) i h)) ∙ r.rest
@@ -103,11 +107,7 @@ module _ (chain : List ℤ) (names : List ℕ) (own : ℕ) where
       -- that has not: the walk goes on from its link
       later-next : is_at own (find left (link_at chain i)) ≡ is_first chain names first own
       later-next =
-          let e : left + 1 - 1 ≡ left = omega arith in
-          ap (is_at own)
-          (subst (λ (k : ℕ). find k (link_at chain i) ≡ find (left + 1) (To i)) e
-          (sym (walk-next chain names _ (left + 1) i (omega arith) h t)))
-          ∙ r.rest
+          ap (is_at own) (sym (walk-next chain names _ left i refl h t)) ∙ r.rest
 
       -- which leads to the buffer
       pub later-found : own < length chain → own < 2 ^ 31 → of_z w32 (number_at chain i) ≡ own → true ≡ is_first chain names first own
@@ -115,9 +115,8 @@ module _ (chain : List ℤ) (names : List ℕ) (own : ℕ) where
           sym (ap (λ (l : Link). is_at own (find left l)) (link-own (number_at chain i) own f b e) ∙ find-own left p w) ∙ later-next
 
       -- or elsewhere
-      pub later-on : (of_z w32 (number_at chain i) ≡ own → ⊥) → Later first (left - 1) (number_at chain i)
-      later-on ne =
-          let e : left ≡ left - 1 + 1 = omega arith in
+      pub later-on : {rest : ℕ} → left ≡ rest + 1 → (of_z w32 (number_at chain i) ≡ own → ⊥) → Later first rest (number_at chain i)
+      later-on e ne =
           record {
             fits = f;
             other = link-other (number_at chain i) own ne;

@@ -13,6 +13,7 @@ use borrow.Author.Tests.{eqb-false}
 use Rattle.laws.specs.Times.{times}
 use Rattle.laws.proofs.Tests.{true-or-false, eq-or-ne, never}
 use Rattle.laws.proofs.Times.{times-here, times-later, present}
+use Rattle.std.specs.Prelude.{Some}
 use Rattle.buftag.specs.declared.link.Link.{Link}
 use Rattle.buftag.specs.declared.link.Link.TheVariants.{To}
 use Rattle.buftag.specs.Name.{bucket_of}
@@ -81,7 +82,7 @@ module _ (ls : List ℤ) (i : ℕ) (own : ℤ) where
 module _ (chain : List ℤ) (i : ℕ) where
   -- in a list that i is in, not in front, it finds the place whose link leads to i
   prev-finds : (n : ℕ) {l : Link} {xs : List ℕ} → Links chain l xs → length xs ≤ n → 0 < times i xs → is_to i l ≡ false
-      → (p : ℕ) × (prev chain i n l ≡ To p) × (0 < times p xs) × (link_at chain p ≡ To i)
+      → (p : ℕ) × (prev chain i n l ≡ Some p) × (0 < times p xs) × (link_at chain p ≡ To i)
   unfolding times
   prev-finds n done f m e = absurd (not-suc-le-zero m)
   prev-finds zero (step h r) f m e = absurd (omega arith)

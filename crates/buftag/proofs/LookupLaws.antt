@@ -12,8 +12,8 @@ use Rattle.laws.specs.First.{Found, found, missing}
 use Rattle.laws.specs.Times.{times}
 use Rattle.laws.proofs.First.{first-missing, first-only, first-none}
 use Rattle.buftag.specs.declared.name.PageName.{PageName}
-use Rattle.buftag.specs.declared.lookup.Held.{Held}
-use Rattle.buftag.specs.declared.lookup.Held.TheVariants.{At, Nowhere}
+use Rattle.buftag.specs.Lookup.{Held}
+use Rattle.std.specs.Prelude.{Some, None}
 use Rattle.buftag.specs.Name.{bucket_of, same_name}
 use Rattle.buftag.specs.Names.{name_at}
 use Rattle.buftag.specs.Link.{link_at, Holds}
@@ -26,12 +26,12 @@ use Rattle.buftag.proofs.WalkLaws.{not_at, walk-hit, walk-miss}
 
 -- ---- a name that no buffer has
 -- the answer that none has it comes from a search that found none
-nowhere-missing : (f : Found) → held_of f ≡ Nowhere → f ≡ missing
+nowhere-missing : (f : Found) → held_of f ≡ None → f ≡ missing
 nowhere-missing (found i) e = not_at (sym e)
 nowhere-missing missing e = refl
 
 -- where the look-up answers that none has a name, no buffer in use has it
-pub held-nowhere : (words names : List ℕ) (n : PageName) → held words names n ≡ Nowhere → (i : ℕ) → used words i ≡ true
+pub held-nowhere : (words names : List ℕ) (n : PageName) → held words names n ≡ None → (i : ℕ) → used words i ≡ true
     → name_at names i ≡ n → ⊥
 unfolding held
 held-nowhere words names n e i u q =
@@ -67,14 +67,14 @@ module _ (words names : List ℕ) (heads chain : List ℤ) (n : PageName) (some 
 
   go : (w : Held) → walk chain names n (length chain) (link_at heads b) ≡ w → w ≡ held words names n
   unfolding held has b
-  go (At j) e =
+  go (Some j) e =
       let r = walk-hit chain names n (length chain) list.linked e in
       let u = in-used sound (bucket-lt n (length heads) some) list.linked j.0 r.0 in
       sym
       (ap held_of
       (first-only has (length words) j.0 (used-in words j.0 u) (and-true u ((says-same-name _ n).shown r.1)) (λ i l h.
       let q = has-name i h in distinct i j.0 q.0 u (q.1 ∙ sym r.1))))
-  go Nowhere e =
+  go None e =
       sym
       (ap held_of
       (first-none has (length words) (λ i l.

@@ -14,7 +14,7 @@ use Rattle.buftag.specs.declared.number.BufferNumber.{BufferNumber}
 use Rattle.buftag.specs.declared.name.PageName.{PageName}
 use Rattle.buftag.specs.declared.link.Link.{Link}
 use Rattle.buftag.specs.declared.link.Link.TheVariants.{To, End, Off, Bad}
-use Rattle.buftag.specs.declared.lookup.Held.TheVariants.{At}
+use Rattle.std.specs.Prelude.{Some}
 use Rattle.buftag.specs.Name.{same_name}
 use Rattle.buftag.specs.Names.{name_at}
 use Rattle.buftag.specs.Link.{link_at, Links, done, step}
@@ -79,7 +79,7 @@ module _ {ls : List ℤ} where
         (k ∷ t.0, step h t.1)
 
 -- what a walk finds is met on it
-pub walk-met : (chain : List ℤ) (names : List ℕ) (n : PageName) (k : ℕ) (l : Link) {b : BufferNumber} → walk chain names n k l ≡ At b
+pub walk-met : (chain : List ℤ) (names : List ℕ) (n : PageName) (k : ℕ) (l : Link) {b : BufferNumber} → walk chain names n k l ≡ Some b
     → (q : ℕ) × (q < k) × Met chain l q b.0
 unfolding walk
 walk-met chain names n zero l e = not_at e

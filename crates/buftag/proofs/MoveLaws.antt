@@ -12,7 +12,7 @@ use lib.Seq.{get_or-set_same, get_or-set_other}
 use borrow.Author.Tests.{ne_eqb}
 use Rattle.laws.proofs.Tests.{eq-or-ne, never}
 use Rattle.buftag.specs.declared.name.PageName.{PageName}
-use Rattle.buftag.specs.declared.lookup.Held.TheVariants.{Nowhere}
+use Rattle.std.specs.Prelude.{None}
 use Rattle.buftag.specs.Name.{bucket_of}
 use Rattle.buftag.specs.Names.{name_words, name_at, set_name, no_name}
 use Rattle.buftag.specs.Lookup.{used, held}
@@ -80,7 +80,7 @@ distinct_apart {i} names names' apart d new j k u v e =
 module _ (words names : List ℕ) (i : ℕ) where
   -- a buffer is given a name that none has
   pub distinct-entered : (w : ℕ) (n : PageName) → length names ≡ name_words * length words → i < length words → Distinct words names
-      → held words names n ≡ Nowhere → Distinct (set words i w) (set_name names i n)
+      → held words names n ≡ None → Distinct (set words i w) (set_name names i n)
   distinct-entered w n lens h d e =
       distinct_apart names (set_name names i n) (set_apart words names i w n) d
       (λ u k v q. held-nowhere words names n e k v (q ∙ name-put names i n (name_in (length words) i names lens h)))

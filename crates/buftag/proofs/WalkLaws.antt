@@ -1,11 +1,11 @@
 -- Laws of the look-up's walk: step by step, and what it answers of a list.
-use Prim.Native.Nat.{ℕ, zero, suc, ◌-◌, ◌≤◌, ◌<◌}
+use Prim.Native.Nat.{ℕ, zero, suc, ◌+◌, ◌≤◌, ◌<◌}
 use mathlib.Core.Path.{◌≡◌, refl, sym, ◌∙◌, ap, subst}
 use mathlib.Core.Bool.{true, false}
 use mathlib.Core.Logic.{⊎_elim}
 use mathlib.Core.List.{List, ◌∷◌}
 use native.Mathlib.Nat.{not-suc-le-zero}
-use native.Mathlib.Numerals.{sub-one}
+use native.Mathlib.Numerals.{add-one}
 use native.Mathlib.Omega.{arith}
 use lib.IntN.{ℤ}
 use lib.ListN.{length}
@@ -18,7 +18,7 @@ use Rattle.buftag.specs.declared.number.BufferNumber.{BufferNumber}
 use Rattle.buftag.specs.declared.name.PageName.{PageName}
 use Rattle.buftag.specs.declared.link.Link.{Link}
 use Rattle.buftag.specs.declared.link.Link.TheVariants.{To, End, Off, Bad}
-use Rattle.buftag.specs.declared.lookup.Held.TheVariants.{At, Nowhere}
+use Rattle.std.specs.Prelude.{Some, None}
 use Rattle.buftag.specs.Name.{same_name}
 use Rattle.buftag.specs.Names.{name_at}
 use Rattle.buftag.specs.Link.{link_at, Links, done, step}
@@ -26,22 +26,22 @@ use Rattle.buftag.specs.Lookup.{walk}
 use Rattle.buftag.proofs.TagLaws.{NotTo}
 use Rattle.buftag.proofs.NameLaws.{says-same-name}
 
-pub At-same : {a b : BufferNumber} → At a ≡ At b → a.0 ≡ b.0
+pub At-same : {a b : BufferNumber} → Some a ≡ Some b → a.0 ≡ b.0
 At-same e = cc
 
 -- no buffer is not a buffer
-pub not_at : {A : Type 0} {b : BufferNumber} → Nowhere ≡ At b → A
+pub not_at : {A : Type 0} {b : BufferNumber} → None ≡ Some b → A
 not_at e = absurd (let z : ◌≡◌ {A = ℕ} 0 1 = cc in omega arith)
 
 module _ (chain : List ℤ) (names : List ℕ) (n : PageName) where
   -- ---- a turn of the loop
   -- no step is left
-  pub walk_none : (l : Link) → walk chain names n 0 l ≡ Nowhere
+  pub walk_none : (l : Link) → walk chain names n 0 l ≡ None
   unfolding walk
   walk_none l = refl
 
   -- a link that is no place
-  pub walk-other : (k : ℕ) (l : Link) → NotTo l → walk chain names n k l ≡ Nowhere
+  pub walk-other : (k : ℕ) (l : Link) → NotTo l → walk chain names n k l ≡ None
   unfolding walk
   walk-other k (To i) h = absurd (h _ refl)
   walk-other zero End h = refl
@@ -52,14 +52,14 @@ module _ (chain : List ℤ) (names : List ℕ) (n : PageName) where
   walk-other (suc k) Bad h = refl
 
   -- a place outside the memory
-  pub walk-past : (k i : ℕ) → length chain ≤ i → walk chain names n k (To i) ≡ Nowhere
+  pub walk-past : (k i : ℕ) → length chain ≤ i → walk chain names n k (To i) ≡ None
   unfolding walk
   walk-past zero i h = refl
   walk-past (suc k) i h = rw (le-ltb i (length chain) h)
 
   -- a place that has the name
   pub walk-found : (k i : ℕ) → 0 < k → i < length chain → same_name (name_at names i) n ≡ true
-      → walk chain names n k (To i) ≡ At (record { 0 = i })
+      → walk chain names n k (To i) ≡ Some (record { 0 = i })
   unfolding walk
   walk-found zero i p h e = absurd (omega arith)
   walk-found (suc k) i p h e = rw (lt-ltb i (length chain) h, e)
@@ -71,14 +71,13 @@ module _ (chain : List ℤ) (names : List ℕ) (n : PageName) where
   walk-on k i h e = rw (lt-ltb i (length chain) h, e)
 
   -- the same with the steps counted as the code does
-  pub walk-next : (k i : ℕ) → 0 < k → i < length chain → same_name (name_at names i) n ≡ false
-      → walk chain names n k (To i) ≡ walk chain names n (k - 1) (link_at chain i)
-  walk-next zero i p h e = absurd (omega arith)
-  walk-next (suc k) i p h e = rw sub-one (walk-on k i h e)
+  pub walk-next : {k : ℕ} (j i : ℕ) → k ≡ j + 1 → i < length chain → same_name (name_at names i) n ≡ false
+      → walk chain names n k (To i) ≡ walk chain names n j (link_at chain i)
+  walk-next j i p h e = rw (p, add-one) (walk-on j i h e)
 
   -- ---- of a list
   -- what it finds is in the list and has the name
-  pub walk-hit : (k : ℕ) {l : Link} {xs : List ℕ} {b : BufferNumber} → Links chain l xs → walk chain names n k l ≡ At b
+  pub walk-hit : (k : ℕ) {l : Link} {xs : List ℕ} {b : BufferNumber} → Links chain l xs → walk chain names n k l ≡ Some b
       → (0 < times b.0 xs) × (name_at names b.0 ≡ n)
   unfolding walk times
   walk-hit zero done e = not_at e
@@ -93,7 +92,7 @@ module _ (chain : List ℤ) (names : List ℕ) (n : PageName) where
       (true-or-false (same_name (name_at names i) n))
 
   -- where it finds nothing, none in the list has the name
-  pub walk-miss : (k : ℕ) {l : Link} {xs : List ℕ} → Links chain l xs → length xs ≤ k → walk chain names n k l ≡ Nowhere
+  pub walk-miss : (k : ℕ) {l : Link} {xs : List ℕ} → Links chain l xs → length xs ≤ k → walk chain names n k l ≡ None
       → (i : ℕ) → 0 < times i xs → name_at names i ≡ n → ⊥
   unfolding walk times
   walk-miss zero done f e j m q = not-suc-le-zero m

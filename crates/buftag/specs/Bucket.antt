@@ -1,7 +1,7 @@
 -- A bucket by a mask.
-use Rattle.std.specs.Prelude.{◌≡◌, ◌≢◌, ℕ, ◌%◌}
+use Rattle.std.specs.Prelude.{◌≡◌, ℕ, ◌%◌, Option, Some}
 use Rattle.std.specs.Int.Bits.{bit_and}
 
--- a mask for so many buckets: 0 if there is none, else what its bits leave of a number is the remainder by the number of buckets
-pub record Masks (buckets mask : ℕ) : Type 0 where
-  pub each : mask ≢ 0 → (h : ℕ) → bit_and h mask ≡ h % buckets
+-- a mask for so many buckets, if there is one: what its bits leave of a number is the remainder by the number of buckets
+pub record Masks (buckets : ℕ) (mask : Option ℕ) : Type 0 where
+  pub each : (bits : ℕ) → mask ≡ Some bits → (h : ℕ) → bit_and h bits ≡ h % buckets

@@ -1,5 +1,5 @@
 -- The bucket chains: when they are sound, and how a buffer enters one and leaves it.
-use Rattle.std.specs.Prelude.{◌≡◌, Bool, true, false, not, ◌&&◌, ◌||◌, cond, List, map, ℕ, zero, suc, ◌<◌, ltb, eqb, ℤ, pos, length, set}
+use Rattle.std.specs.Prelude.{◌≡◌, Bool, true, false, not, ◌&&◌, ◌||◌, cond, List, map, ℕ, zero, suc, ◌<◌, ltb, eqb, ℤ, pos, length, set, Option, Some, None}
 use Rattle.laws.specs.Every.{all}
 use Rattle.buftag.specs.declared.link.Link.{Link}
 use Rattle.buftag.specs.declared.link.Link.TheVariants.{To, End, Off, Bad}
@@ -70,22 +70,20 @@ unchain_chain chain i = set (map (past i (number_at chain i)) chain) i none
 
 -- ---- what the code does, for any memory: it looks for that link along the chain of bucket b
 -- from a link on, in so many steps at most: the first place whose own link leads to i
-unfoldable pub prev : List ℤ → ℕ → ℕ → Link → Link
-prev chain i zero l = End
+unfoldable pub prev : List ℤ → ℕ → ℕ → Link → Option ℕ
+prev chain i zero l = None
 prev chain i (suc k) (To p) =
     let on = prev chain i k (link_at chain p) in
-    let here = cond (is_to i (link_at chain p)) (To p) on in
-    cond (ltb p (length chain)) here End
-prev chain i (suc k) End = End
-prev chain i (suc k) Off = End
-prev chain i (suc k) Bad = End
+    let here = cond (is_to i (link_at chain p)) (Some p) on in
+    cond (ltb p (length chain)) here None
+prev chain i (suc k) End = None
+prev chain i (suc k) Off = None
+prev chain i (suc k) Bad = None
 
 -- the chain with the link at a place led past i
-abbrev pub past_at : List ℤ → ℕ → Link → List ℤ
-past_at chain i (To p) = set chain p (number_at chain i)
-past_at chain i End = chain
-past_at chain i Off = chain
-past_at chain i Bad = chain
+abbrev pub past_at : List ℤ → ℕ → Option ℕ → List ℤ
+past_at chain i (Some p) = set chain p (number_at chain i)
+past_at chain i None = chain
 
 unfoldable pub past_heads : List ℤ → List ℤ → ℕ → ℕ → List ℤ
 past_heads heads chain b i = cond (is_to i (link_at heads b)) (set heads b (number_at chain i)) heads

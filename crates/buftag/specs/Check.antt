@@ -3,8 +3,8 @@
 use Rattle.std.specs.Prelude.{Bool, false, not, cond, List, ℕ, eqb, ℤ, length}
 use Rattle.laws.specs.Sum.{count}
 use Rattle.buftag.specs.declared.link.Link.{Link}
-use Rattle.buftag.specs.declared.lookup.Held.{Held}
-use Rattle.buftag.specs.declared.lookup.Held.TheVariants.{At, Nowhere}
+use Rattle.buftag.specs.Lookup.{Held}
+use Rattle.std.specs.Prelude.{Some, None}
 use Rattle.buftag.specs.Name.{bucket_of}
 use Rattle.buftag.specs.Names.{name_at}
 use Rattle.buftag.specs.Link.{link_at, is_end}
@@ -12,8 +12,8 @@ use Rattle.buftag.specs.Lookup.{used, walk}
 
 -- a look-up found buffer i
 abbrev pub is_at : ℕ → Held → Bool
-is_at i (At b) = eqb b.0 i
-is_at i Nowhere = false
+is_at i (Some b) = eqb b.0 i
+is_at i None = false
 
 -- buffer i is the first of the chain that starts at a link with its name
 unfoldable pub is_first : List ℤ → List ℕ → Link → ℕ → Bool

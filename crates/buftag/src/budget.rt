@@ -3,42 +3,25 @@
 ghost use Rattle.std.specs.Prelude.{◌≡◌};
 ghost use Rattle.buftag.specs.Budget.{spend, spent};
 
-use crate::link::{Link, is_end, link_at};
+use crate::link::Link;
 
-// How a walk ends: at the end of its list, with so much of the budget left, or wrong.
-#[derive(Clone, Copy)]
-pub enum Walked {
-    Left(usize),
-    Wrong,
-}
-
-// Walks the list that starts at a link.
-pub fn list_walk(links: &[i32], first: Link, budget: usize) -> Walked
+// Walks the list that starts at a link: what is left of the budget at the list's end, or none where the walk goes wrong.
+pub fn list_walk(links: &[i32], first: Link, budget: usize) -> Option<usize>
     ensures { result ≡ spend links.now budget first }
 {
-    let mut left = budget;
     let mut at = first;
-    while !is_end(at) {
-        let Link::To(i) = at else {
-            return Walked::Wrong;
-        };
-        if left == 0 {
-            return Walked::Wrong;
+    for left in (0..=budget).rev() {
+        match at {
+            Link::End => return Some(left),
+            Link::To(i) => at = Link::from(*links.get(i)?),
+            _ => return None,
         }
-        if i >= links.len() {
-            return Walked::Wrong;
-        }
-        at = link_at(links, i);
-        left -= 1;
     }
-    Walked::Left(left)
+    None
 }
 
-pub fn is_spent(w: Walked) -> bool
-    ensures { result ≡ spent w }
+pub fn is_spent(left: Option<usize>) -> bool
+    ensures { result ≡ spent left }
 {
-    match w {
-        Walked::Left(m) => m == 0,
-        Walked::Wrong => false,
-    }
+    left == Some(0)
 }

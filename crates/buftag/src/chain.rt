@@ -1,6 +1,6 @@
 // The bucket chains: a buffer enters at its bucket's head, and leaves from wherever it stands.
 
-ghost use Rattle.std.specs.Prelude.{◌≡◌, ◌^◌, ◌<◌, length};
+ghost use Rattle.std.specs.Prelude.{◌≡◌, ◌^◌, ◌<◌, length, IfSome};
 ghost use Rattle.buftag.specs.Name.{bucket_of};
 ghost use Rattle.buftag.specs.Chain.{enter_heads, enter_chain, prev, past_heads, past_chain, leave_chain};
 
@@ -14,10 +14,8 @@ fn enter(heads: &mut [i32], chain: &mut [i32], b: usize, i: usize)
     ensures heads_after { heads.new ≡ enter_heads heads.old b i }
     ensures chain_after { chain.new ≡ enter_chain heads.old chain.old b i }
 {
-    let first = heads[b];
-    chain[i] = first;
-    let own = i as i32;
-    heads[b] = own;
+    chain[i] = heads[b];
+    heads[b] = i as i32;
 }
 
 // A buffer enters at the head of a name's bucket.
@@ -32,25 +30,21 @@ pub fn insert(heads: &mut [i32], chain: &mut [i32], name: PageName, buffer: Buff
 }
 
 // The first place, from a link on, whose own link leads to `i`.
-fn prev_of(chain: &[i32], i: usize, first: Link) -> Link
-    ensures { result ≡ prev chain.now i (length chain.now) first }
+fn prev_of(chain: &[i32], i: usize, first: Link) -> Option<usize>
+    ensures value { result ≡ prev chain.now i (length chain.now) first }
+    ensures within { IfSome result (λ p. p < length chain.now) }
 {
     let mut at = first;
-    let mut left = chain.len();
-    while left > 0 {
+    for _ in 0..chain.len() {
         let Link::To(p) = at else {
-            return Link::End;
+            return None;
         };
-        if p >= chain.len() {
-            return Link::End;
-        }
-        at = link_at(chain, p);
+        at = Link::from(*chain.get(p)?);
         if leads_to(at, i) {
-            return Link::To(p);
+            return Some(p);
         }
-        left -= 1;
     }
-    Link::End
+    None
 }
 
 // What led to `i` leads where `i` led: the head, or the link of the place before.
@@ -63,12 +57,9 @@ fn lead_past(heads: &mut [i32], chain: &mut [i32], b: usize, i: usize)
     let first = link_at(heads, b);
     if leads_to(first, i) {
         heads[b] = next;
-        return;
+    } else if let Some(p) = prev_of(chain, i, first) {
+        chain[p] = next;
     }
-    let Link::To(p) = prev_of(chain, i, first) else {
-        return;
-    };
-    chain[p] = next;
 }
 
 // Buffer `i` leaves bucket `b`.

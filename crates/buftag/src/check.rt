@@ -14,13 +14,11 @@ pub fn is_first(chain: &[i32], names: &[u32], first: i32, buffer: BufferNumber) 
     requires { (length names.now ≡ name_words * length chain.now) × (buffer.0 < length chain.now) × (buffer.0 < 2 ^ 31) }
     ensures { result ≡ is_first chain.now names.now (link_of first) buffer.0 }
 {
-    if first == buffer.0 as i32 {
-        return true;
-    }
-    is_later(chain, names, first, buffer)
+    first == buffer.0 as i32 || is_later(chain, names, first, buffer)
 }
 
 // The same where the chain does not start with the buffer: the walk looks at each place's next link.
+// It takes the numbers as they are stored, by a sign test and a cast, since the buffer's own is compared with each as it stands there.
 fn is_later(chain: &[i32], names: &[u32], first: i32, buffer: BufferNumber) -> bool
     requires { (length names.now ≡ name_words * length chain.now) × (buffer.0 < length chain.now) × (buffer.0 < 2 ^ 31)
         × (is_to buffer.0 (link_of first) ≡ false) }
@@ -28,8 +26,7 @@ fn is_later(chain: &[i32], names: &[u32], first: i32, buffer: BufferNumber) -> b
 {
     let own = buffer.0 as i32;
     let mut at = first;
-    let mut left = chain.len() - 1;
-    while left > 0 {
+    for _ in 1..chain.len() {
         if at < 0 {
             return false;
         }
@@ -44,7 +41,6 @@ fn is_later(chain: &[i32], names: &[u32], first: i32, buffer: BufferNumber) -> b
         if at == own {
             return true;
         }
-        left -= 1;
     }
     false
 }

@@ -1,4 +1,4 @@
-// Names for programs in C: their bytes, there and back, and their hash.
+// Names for programs in C: their bytes, there and back, and their hash. The C interface needs plain numbers, for an answer too.
 
 ghost use Rattle.std.specs.Prelude.{◌≡◌, cond};
 ghost use Rattle.buftag.specs.Name.{name_of, hash_of};
@@ -40,10 +40,7 @@ pub fn buftag_name(bytes: &[u8], words: &mut [u32]) -> u32
     ensures value { result ≡ cond (both_fit bytes.now words.old) 0 1 }
     ensures words_after { words.new ≡ words_into words.old bytes.now }
 {
-    if bytes.len() != NAME_SIZE {
-        return 1;
-    }
-    if words.len() != NAME_WORDS {
+    if bytes.len() != NAME_SIZE || words.len() != NAME_WORDS {
         return 1;
     }
     // a name's words lie as the names of one buffer do

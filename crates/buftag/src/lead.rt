@@ -10,13 +10,9 @@ pub fn leading(links: &[i32]) -> u32
     requires { length links.now < 2 ^ 32 }
     ensures { result ≡ leading links.now }
 {
-    let mut many = 0u32;
-    let mut i = 0;
-    while i < links.len() {
-        if links[i] != NONE {
-            many += 1;
-        }
-        i += 1;
+    let mut many = 0;
+    for &link in links {
+        many += u32::from(link != NONE);
     }
     many
 }

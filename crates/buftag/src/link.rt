@@ -9,7 +9,7 @@ pub const NONE: i32 = -1;
 pub const OFF: i32 = -2;
 
 // What a link says.
-#[derive(Clone, Copy)]
+#[derive(Clone, Copy, PartialEq, Eq)]
 pub enum Link {
     // The list goes on at this place.
     To(usize),
@@ -22,19 +22,17 @@ pub enum Link {
 }
 
 // A signed number, cast to an index after its sign test.
-pub fn read_link(x: i32) -> Link
-    ensures { result ≡ link_of x }
-{
-    if x < 0 {
-        if x == NONE {
-            return Link::End;
+impl From<i32> for Link {
+    ghost from_gives = { λ x link. link ≡ link_of x };
+
+    fn from(x: i32) -> Link {
+        match x {
+            NONE => Link::End,
+            OFF => Link::Off,
+            _ if x < 0 => Link::Bad,
+            _ => Link::To(x as usize),
         }
-        if x == OFF {
-            return Link::Off;
-        }
-        return Link::Bad;
     }
-    Link::To(x as usize)
 }
 
 // What the link at a place says.
@@ -42,26 +40,18 @@ pub fn link_at(links: &[i32], i: usize) -> Link
     requires { i < length links.now }
     ensures { result ≡ link_at links.now i }
 {
-    read_link(links[i])
+    Link::from(links[i])
 }
 
 pub fn is_end(l: Link) -> bool
     ensures { result ≡ is_end l }
 {
-    match l {
-        Link::To(_) => false,
-        Link::End => true,
-        Link::Off => false,
-        Link::Bad => false,
-    }
+    l == Link::End
 }
 
 // Whether a link leads to a place.
 pub fn leads_to(l: Link, i: usize) -> bool
     ensures { result ≡ is_to i l }
 {
-    let Link::To(j) = l else {
-        return false;
-    };
-    j == i
+    l == Link::To(i)
 }

@@ -9,38 +9,29 @@ use crate::name::{PageName, bucket};
 use crate::names::holds;
 use crate::number::BufferNumber;
 
-// What a look-up answers: the buffer that has the page, or that none has.
-#[derive(Clone, Copy)]
-pub enum Held {
-    At(BufferNumber),
-    Nowhere,
-}
-
 // The first buffer with the name, from a link on. Takes as many steps as there are buffers, at most, whatever the links are.
-fn find_from(chain: &[i32], names: &[u32], name: PageName, first: Link) -> Held
+fn find_from(chain: &[i32], names: &[u32], name: PageName, first: Link) -> Option<BufferNumber>
     requires { length names.now ≡ name_words * length chain.now }
     ensures { result ≡ walk chain.now names.now name (length chain.now) first }
 {
     let mut at = first;
-    let mut left = chain.len();
-    while left > 0 {
+    for _ in 0..chain.len() {
         let Link::To(i) = at else {
-            return Held::Nowhere;
+            return None;
         };
         if i >= chain.len() {
-            return Held::Nowhere;
+            return None;
         }
         if holds(names, BufferNumber(i), name) {
-            return Held::At(BufferNumber(i));
+            return Some(BufferNumber(i));
         }
         at = link_at(chain, i);
-        left -= 1;
     }
-    Held::Nowhere
+    None
 }
 
-// The buffer that has a page, looked for in the bucket of its name.
-pub fn look_up(heads: &[i32], chain: &[i32], names: &[u32], name: PageName) -> Held
+// The buffer that has a page, if one has it: looked for in the bucket of its name.
+pub fn look_up(heads: &[i32], chain: &[i32], names: &[u32], name: PageName) -> Option<BufferNumber>
     requires { (0 < length heads.now) × (length names.now ≡ name_words * length chain.now) }
     ensures { result ≡ look_up heads.now chain.now names.now name }
 {

@@ -16,7 +16,7 @@ pub const NAME_SIZE: usize = 20;
 // The last of a file's forks: 0 table, 1 free space map, 2 visibility map.
 const VISIBILITY_MAP: u32 = 2;
 
-#[derive(Clone, Copy)]
+#[derive(Clone, Copy, Default, PartialEq, Eq)]
 pub struct FileName {
     pub tablespace: u32,
     pub database: u32,
@@ -24,7 +24,7 @@ pub struct FileName {
     pub fork: u32,
 }
 
-#[derive(Clone, Copy)]
+#[derive(Clone, Copy, Default, PartialEq, Eq)]
 pub struct PageName {
     pub file: FileName,
     pub block: BlockNumber,
@@ -35,10 +35,10 @@ pub fn file_name(tablespace: u32, database: u32, relation: u32, fork: u32) -> Fi
     ensures { result ≡ file_of tablespace database relation fork }
 {
     FileName {
-        tablespace: tablespace,
-        database: database,
-        relation: relation,
-        fork: fork,
+        tablespace,
+        database,
+        relation,
+        fork,
     }
 }
 
@@ -47,12 +47,7 @@ pub fn page_name(tablespace: u32, database: u32, relation: u32, fork: u32, block
     ensures { result ≡ name_of tablespace database relation fork block }
 {
     PageName {
-        file: FileName {
-            tablespace: tablespace,
-            database: database,
-            relation: relation,
-            fork: fork,
-        },
+        file: file_name(tablespace, database, relation, fork),
         block: BlockNumber(block),
     }
 }
@@ -89,6 +84,7 @@ pub fn hash_short(h: u32, block: BlockNumber) -> u32
 }
 
 // A hash continued over a fork's four bytes, and over a block's: of every page that there is, their upper bytes are zeros.
+// Two functions: one with the bound and the quick way as parameters would be longer than both.
 fn mix_fork(h: u32, fork: u32) -> u32
     ensures { result ≡ fnv (word_bytes fork) h }
 {
@@ -110,6 +106,7 @@ fn mix_block(h: u32, block: u32) -> u32
 }
 
 // The hash of a name, a word at a time: the bytes are taken out of each word as it is met, and no array of them is made.
+// The five numbers stand apart, as a program in C passes them.
 pub fn hash(tablespace: u32, database: u32, relation: u32, fork: u32, block: u32) -> u32
     ensures value { result ≡ hash_words tablespace database relation fork block }
     ensures value_2 { result ≡ hash_of (name_of tablespace database relation fork block) }
@@ -125,32 +122,25 @@ pub fn bucket(name: PageName, buckets: usize) -> usize
     requires { 0 < buckets }
     ensures { result ≡ bucket_of name buckets }
 {
-    let file = name.file;
-    let h = hash(
-        file.tablespace,
-        file.database,
-        file.relation,
-        file.fork,
-        name.block.0,
-    );
-    h as usize % buckets
+    let FileName {
+        tablespace,
+        database,
+        relation,
+        fork,
+    } = name.file;
+    hash(tablespace, database, relation, fork, name.block.0) as usize % buckets
 }
 
 pub fn same_file(a: FileName, b: FileName) -> bool
     ensures { result ≡ same_file a b }
 {
-    (a.tablespace == b.tablespace)
-        & (a.database == b.database)
-        & (a.relation == b.relation)
-        & (a.fork == b.fork)
+    a == b
 }
 
 pub fn same(a: PageName, b: PageName) -> bool
     ensures { result ≡ same_name a b }
 {
-    let file_a = a.file;
-    let file_b = b.file;
-    same_file(file_a, file_b) & (a.block.0 == b.block.0)
+    a == b
 }
 
 // Fills a slice with a name's bytes.
@@ -170,10 +160,11 @@ pub fn name_of_bytes(bytes: &[u8]) -> PageName
     requires { length bytes.now ≡ name_size }
     ensures { result ≡ name_of_bytes bytes.now }
 {
-    let tablespace = word_at(bytes, 0) as u32;
-    let database = word_at(bytes, 4) as u32;
-    let relation = word_at(bytes, 8) as u32;
-    let fork = word_at(bytes, 12) as u32;
-    let block = word_at(bytes, 16) as u32;
-    page_name(tablespace, database, relation, fork, block)
+    page_name(
+        word_at(bytes, 0) as u32,
+        word_at(bytes, 4) as u32,
+        word_at(bytes, 8) as u32,
+        word_at(bytes, 12) as u32,
+        word_at(bytes, 16) as u32,
+    )
 }

@@ -4,8 +4,8 @@ ghost use Rattle.std.specs.Prelude.{◌≡◌, ◌+◌, ◌*◌, ◌≤◌, leng
 ghost use Rattle.buftag.specs.Name.{same_name};
 ghost use Rattle.buftag.specs.Names.{name_words, name_at, set_name, no_name};
 
-use crate::name::{FileName, PageName, same};
-use crate::number::{BlockNumber, BufferNumber};
+use crate::name::{PageName, page_name, same};
+use crate::number::BufferNumber;
 
 pub const NAME_WORDS: usize = 5;
 
@@ -16,15 +16,7 @@ const BLOCK_WORD: usize = 4;
 pub fn no_name() -> PageName
     ensures { result ≡ no_name }
 {
-    PageName {
-        file: FileName {
-            tablespace: 0,
-            database: 0,
-            relation: 0,
-            fork: 0,
-        },
-        block: BlockNumber(0),
-    }
+    PageName::default()
 }
 
 // A buffer's name.
@@ -33,15 +25,13 @@ pub fn stored(names: &[u32], buffer: BufferNumber) -> PageName
     ensures { result ≡ name_at names.now buffer.0 }
 {
     let at = NAME_WORDS * buffer.0;
-    PageName {
-        file: FileName {
-            tablespace: names[at],
-            database: names[at + 1],
-            relation: names[at + 2],
-            fork: names[at + 3],
-        },
-        block: BlockNumber(names[at + 4]),
-    }
+    page_name(
+        names[at],
+        names[at + 1],
+        names[at + 2],
+        names[at + 3],
+        names[at + 4],
+    )
 }
 
 // Whether a buffer's name is this one.
@@ -57,10 +47,8 @@ pub fn same_names(names: &[u32], a: BufferNumber, b: BufferNumber) -> bool
     requires { (name_words * a.0 + name_words ≤ length names.now) × (name_words * b.0 + name_words ≤ length names.now) }
     ensures { result ≡ same_name (name_at names.now a.0) (name_at names.now b.0) }
 {
-    if names[NAME_WORDS * a.0 + BLOCK_WORD] != names[NAME_WORDS * b.0 + BLOCK_WORD] {
-        return false;
-    }
-    same(stored(names, a), stored(names, b))
+    names[NAME_WORDS * a.0 + BLOCK_WORD] == names[NAME_WORDS * b.0 + BLOCK_WORD]
+        && same(stored(names, a), stored(names, b))
 }
 
 // Gives a buffer a name.

@@ -20,8 +20,8 @@ use Rattle.laws.proofs.Block.{length-block}
 use Rattle.laws.proofs.Lists.{get_d-replicate-all}
 use Rattle.buftag.specs.declared.name.PageName.{PageName}
 use Rattle.buftag.specs.declared.number.BufferNumber.{BufferNumber}
-use Rattle.buftag.specs.declared.lookup.Held.{Held}
-use Rattle.buftag.specs.declared.lookup.Held.TheVariants.{At, Nowhere}
+use Rattle.buftag.specs.Lookup.{Held}
+use Rattle.std.specs.Prelude.{Some, None}
 use Rattle.bufmodel.specs.Word.{pins, empty, pinned as word_pinned}
 use Rattle.bufmodel.specs.Checksum.{passes}
 use Rattle.bufmodel.specs.Memory.{Memory, buffers, size, word_of, name_of}
@@ -80,8 +80,8 @@ word-behind ws n i l =
     ap (λ (k : ℕ). get_or (ws ++ replicate n 0) k 0) (omega arith) ∙ get_or-append-add ws (replicate n 0) (i - length ws) 0
     ∙ get_d-replicate-all n _ 0
 
-at_same : (b : BufferNumber) (i : ℕ) → b.0 ≡ i → At b ≡ At (record { 0 = i })
-at_same b i e = ap (λ (k : ℕ). At (record { 0 = k })) e
+at_same : (b : BufferNumber) (i : ℕ) → b.0 ≡ i → Some b ≡ Some (record { 0 = i })
+at_same b i e = ap (λ (k : ℕ). Some (record { 0 = k })) e
 
 module _ (p n blocks : ℕ) (m : Memory) (t : Trace) (a : Agrees p n blocks m t) where
   -- ---- the buffers
@@ -106,7 +106,7 @@ module _ (p n blocks : ℕ) (m : Memory) (t : Trace) (a : Agrees p n blocks m t)
       a.good.books.counts i l ∙ ap (λ (cs : List ℕ). holders_of cs i) a.counts ∙ holders-zeros (n * max_holders) i
 
   -- ---- where a page is held
-  pub held_at : (b i : ℕ) → buffer_of t b ≡ found i → held_in m (page b) ≡ At (record { 0 = i })
+  pub held_at : (b i : ℕ) → buffer_of t b ≡ found i → held_in m (page b) ≡ Some (record { 0 = i })
   unfolding buffer_of
   held_at b i e = go (held_in m (page b)) refl
     where
@@ -119,19 +119,19 @@ module _ (p n blocks : ℕ) (m : Memory) (t : Trace) (a : Agrees p n blocks m t)
       name : name_of m i ≡ page b
       name = a.names i here.0 ∙ ap page (eqb-true _ b here.1)
 
-      go : (h : Held) → held_in m (page b) ≡ h → h ≡ At (record { 0 = i })
-      go (At k) q =
+      go : (h : Held) → held_in m (page b) ≡ h → h ≡ Some (record { 0 = i })
+      go (Some k) q =
           let w = held-says m (page b) k q in
           at_same k i
           (a.good.books.distinct k.0 i (full-used m k.0 w.1) (full-used m i full) (w.2 ∙ sym name))
-      go Nowhere q = absurd (held_none m (page b) q i full name)
+      go None q = absurd (held_none m (page b) q i full name)
 
-  pub held-nowhere : (b : ℕ) → buffer_of t b ≡ missing → held_in m (page b) ≡ Nowhere
+  pub held-nowhere : (b : ℕ) → buffer_of t b ≡ missing → held_in m (page b) ≡ None
   unfolding buffer_of
   held-nowhere b e = go (held_in m (page b)) refl
     where
-      go : (h : Held) → held_in m (page b) ≡ h → h ≡ Nowhere
-      go (At k) q =
+      go : (h : Held) → held_in m (page b) ≡ h → h ≡ None
+      go (Some k) q =
           let w = held-says m (page b) k q in
           ⊎_elim
           (λ l.
@@ -139,7 +139,7 @@ module _ (p n blocks : ℕ) (m : Memory) (t : Trace) (a : Agrees p n blocks m t)
           (eq-eqb _ b (ap (λ (x : PageName). x.block.0) (sym (a.names k.0 l) ∙ w.2)))
           (first-missing (λ i. eqb (get_or t.held i 0) b) (length t.held) e k.0 l))
           (λ l. never (unused-empty k.0 l) w.1) (lt-or-le k.0 (length t.held))
-      go Nowhere q = refl
+      go None q = refl
 
   pub place_is : (b : ℕ) → b < blocks → place_of m.rows (page b) ≡ found b
   place_is b l = ap (λ (rs : List ℕ). place_of rs (page b)) a.rows ∙ place-one blocks b l
@@ -152,8 +152,8 @@ module _ (p n blocks : ℕ) (m : Memory) (t : Trace) (a : Agrees p n blocks m t)
 
   sum_agrees : (b : ℕ) → b < blocks → (h : Held) → sum_differs m (page b) (found b) h ≡ false
   unfolding sum_differs
-  sum_agrees b l (At k) = refl
-  sum_agrees b l Nowhere = ap not (ap (passes b) (block-is b l) ∙ zeros-pass b p)
+  sum_agrees b l (Some k) = refl
+  sum_agrees b l None = ap not (ap (passes b) (block-is b l) ∙ zeros-pass b p)
 
   idle-word : (i : ℕ) → i < buffers m → word_pinned (word_of m i) ≡ false
   unfolding word_pinned
@@ -161,13 +161,13 @@ module _ (p n blocks : ℕ) (m : Memory) (t : Trace) (a : Agrees p n blocks m t)
 
   count_room : (h : Held) → count_full m holder h ≡ false
   unfolding count_full
-  count_room (At k) = ap (λ (c : ℕ). eqb c max_count) (count_none k.0 holder)
-  count_room Nowhere = refl
+  count_room (Some k) = ap (λ (c : ℕ). eqb c max_count) (count_none k.0 holder)
+  count_room None = refl
 
   some-victim : (h : Held) → no_victim m h ≡ false
   unfolding no_victim
-  some-victim (At k) = refl
-  some-victim Nowhere =
+  some-victim (Some k) = refl
+  some-victim None =
       let l : 0 < buffers m = omega (arith, buffers-are, a.least) in
       sym (all-fails (λ i. word_pinned (word_of m i)) (buffers m) 0 l (idle-word 0 l))
 

@@ -2,13 +2,13 @@
 use Prim.Native.Nat.{ℕ, zero, suc, ◌+◌, ◌-◌, ◌*◌, ◌≤◌, ◌<◌}
 use native.Mathlib.Omega.{arith}
 use mathlib.Core.Path.{◌≡◌, refl, sym, ap, ◌∙◌}
-use mathlib.Core.Logic.{◌≢◌, ◌⊎◌, inl, inr}
-use mathlib.Core.Bool.{true, false, ◌&&◌, ◌||◌}
+use mathlib.Core.Logic.{◌≢◌}
+use mathlib.Core.Bool.{true, false, ◌&&◌}
 use mathlib.Core.List.{List, [], ◌∷◌}
 use lib.ListN.{length, get_or, drop}
-use lib.Dec.{leb, ltb}
-use borrow.Author.Tests.{leb-true, ltb-true, ltb-false, eq-eqb, ne_eqb, le-leb, lt-leb}
-use Rattle.laws.proofs.Tests.{and_left, or-neither, true-or-false}
+use lib.Dec.{leb}
+use borrow.Author.Tests.{leb-true, eq-eqb, ne_eqb, le-leb, lt-leb, lt-ltb, le-ltb}
+use Rattle.laws.proofs.Tests.{and_left}
 use Rattle.bufmodel.specs.Sizes.{max_blocks}
 use Rattle.buftrace.specs.Input.{newline, is_digit}
 use Rattle.buftrace.specs.Scan.{
@@ -24,6 +24,7 @@ use Rattle.buftrace.specs.Scan.{
   last_line,
   closed,
   finished,
+  broken,
 }
 
 pub one_more_is : (n : ℕ) → n + 1 ≡ suc n
@@ -34,19 +35,9 @@ unfolding is_digit
 digit-least b e = leb-true 48 b (and_left (leb 48 b) (leb b 57) e)
 
 -- the code's test
-pub digit-none : (b : ℕ) → (ltb b 48 || ltb 57 b) ≡ true → is_digit b ≡ false
+pub digit-test : (b : ℕ) → is_digit b ≡ (leb 48 b && leb b 57)
 unfolding is_digit
-digit-none b o = go (true-or-false (ltb b 48))
-  where
-    go : (ltb b 48 ≡ true) ⊎ (ltb b 48 ≡ false) → (leb 48 b && leb b 57) ≡ false
-    go (inl l) = rw (lt-leb 48 b (ltb-true b 48 l)) refl
-    go (inr l) = rw (le-leb 48 b (ltb-false b 48 l), lt-leb b 57 (ltb-true 57 b (rw (l) at o))) refl
-
-pub digit-some : (b : ℕ) → (ltb b 48 || ltb 57 b) ≡ false → is_digit b ≡ true
-unfolding is_digit
-digit-some b o =
-    let n = or-neither (ltb b 48) (ltb 57 b) o in
-    rw (le-leb 48 b (ltb-false b 48 n.0), le-leb b 57 (ltb-false 57 b n.1)) refl
+digit-test b = refl
 
 module _ (s : Scan) (b : ℕ) where
   pub stepped-past : s.line ≡ max_lines → stepped s b ≡ spoilt s
@@ -114,22 +105,43 @@ feds-next s t bs i l e n =
 
 -- ---- the end of the input
 module _ (s : Scan) where
-  last-late : s.bad ≢ 0 → last_line s ≡ s
+  pub last-late : s.bad ≢ 0 → last_line s ≡ s
   unfolding last_line
   last-late n = rw (ne_eqb s.bad 0 n) refl
+
+  pub last-whole : s.bad ≡ 0 → s.digits ≡ false → last_line s ≡ s
+  unfolding last_line
+  last-whole e d = rw (eq-eqb s.bad 0 e, d) refl
+
+  pub last-open : s.bad ≡ 0 → s.digits ≡ true → last_line s ≡ ended s
+  unfolding last_line
+  last-open e d = rw (eq-eqb s.bad 0 e, d) refl
+
+  pub finished-is : finished s ≡ closed (last_line s)
+  unfolding finished
+  finished-is = refl
 
   pub closed-late : s.bad ≢ 0 → closed s ≡ s
   unfolding closed
   closed-late n = rw (ne_eqb s.bad 0 n) refl
 
+  pub closed-short : s.bad ≡ 0 → s.line < 2 → closed s ≡ spoilt s
+  unfolding closed
+  closed-short e l = rw (eq-eqb s.bad 0 e, lt-ltb s.line 2 l) refl
+
+  pub closed-long : s.bad ≡ 0 → 2 ≤ s.line → closed s ≡ s
+  unfolding closed
+  closed-long e l = rw (eq-eqb s.bad 0 e, le-ltb s.line 2 l) refl
+
+  -- a read that fails
+  pub broken-good : s.bad ≡ 0 → broken s ≡ spoilt s
+  unfolding broken
+  broken-good e = rw (eq-eqb s.bad 0 e) refl
+
+  pub broken-late : s.bad ≢ 0 → broken s ≡ s
+  unfolding broken
+  broken-late n = rw (ne_eqb s.bad 0 n) refl
+
   pub finished-late : s.bad ≢ 0 → finished s ≡ s
   unfolding finished
   finished-late n = ap closed (last-late n) ∙ closed-late n
-
-  pub finished-whole : s.bad ≡ 0 → s.digits ≡ false → finished s ≡ closed s
-  unfolding finished last_line
-  finished-whole e d = rw (eq-eqb s.bad 0 e, d) refl
-
-  pub finished_open : s.bad ≡ 0 → s.digits ≡ true → finished s ≡ closed (ended s)
-  unfolding finished last_line
-  finished_open e d = rw (eq-eqb s.bad 0 e, d) refl

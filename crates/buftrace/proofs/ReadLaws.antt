@@ -11,7 +11,7 @@ use Rattle.bufmodel.specs.Sizes.{max_buffers, max_blocks}
 use Rattle.buftrace.specs.declared.scan.Reader.{Reader}
 use Rattle.buftrace.specs.Trace.{trace_of}
 use Rattle.buftrace.specs.Scan.{Scan, Ready, Fed, max_lines, start, new_reader, scan_of, spoilt, stepped, fed, feds, broken}
-use Rattle.buftrace.proofs.FeedLaws.{digit-none, stepped-past, stepped-other}
+use Rattle.buftrace.proofs.FeedLaws.{digit-test, stepped-past, stepped-other}
 use Rattle.buftrace.proofs.ScanLaws.{feds-then}
 
 feds-none : (s : Scan) → feds s [] ≡ s
@@ -31,7 +31,7 @@ fed_then {s} {t} {u} f g =
 -- a read that fails is as a byte that is neither digit nor newline
 stepped-none : (s : Scan) → stepped s 0 ≡ spoilt s
 stepped-none s =
-    ⊎_elim (λ e. stepped-past s 0 e) (λ n. stepped-other s 0 n (λ e. absurd (omega (arith, e))) (digit-none 0 refl))
+    ⊎_elim (λ e. stepped-past s 0 e) (λ n. stepped-other s 0 n (λ e. absurd (omega (arith, e))) (digit-test 0))
     (eq-or-ne s.line max_lines)
 
 broken-is : (s : Scan) → broken s ≡ feds s (0 ∷ [])
@@ -73,6 +73,7 @@ new-ready =
       none = λ e. refl;
       some = λ l. absurd (omega (arith, l));
       uses = omega arith;
+      told = λ e. never e refl;
     }
 
 pub fed-from : (r : Reader) (states held : List ℕ) {t : Scan} → r ≡ new_reader → Fed (scan_of r states held) t → Fed start t

@@ -10,8 +10,8 @@ use lib.Seq.{set-get_or}
 use Rattle.laws.specs.First.{found}
 use Rattle.laws.proofs.Tests.{never}
 use Rattle.buftag.specs.declared.link.Link.TheVariants.{End}
-use Rattle.buftag.specs.declared.lookup.Held.{Held}
-use Rattle.buftag.specs.declared.lookup.Held.TheVariants.{At, Nowhere}
+use Rattle.buftag.specs.Lookup.{Held}
+use Rattle.std.specs.Prelude.{Some, None}
 use Rattle.buftag.specs.declared.name.PageName.{PageName}
 use Rattle.buftag.specs.Link.{link_of}
 use Rattle.bufmodel.specs.Word.{pins, usage, empty, dirty}
@@ -47,7 +47,7 @@ pub record Left (m : Memory) (s : Swept) (v : ℕ) : Type 0 where
   pub words : (i : ℕ) → i ≢ v → LessUsed (word_of m i) (word_of (freed m s v) i)
   pub names : (i : ℕ) → i ≢ v → name_of (freed m s v) i ≡ name_of m i
   pub full : (i : ℕ) → i < buffers m → i ≢ v → empty_at (freed m s v) i ≡ false
-  pub new : (n : PageName) → held_in m n ≡ Nowhere → held_in (freed m s v) n ≡ Nowhere
+  pub new : (n : PageName) → held_in m n ≡ None → held_in (freed m s v) n ≡ None
   pub back : dirty (word_of m v) ≡ false → release (write_back (swept_in m s) v) v ≡ freed m s v
 
 module _ (m : Memory) (k : Good m) (top : link_of m.control.top ≡ End) where
@@ -96,17 +96,17 @@ module _ (m : Memory) (k : Good m) (top : link_of m.control.top ≡ End) where
       freed-other : (i : ℕ) → empty_at (freed m s v) i ≡ false → i ≢ v
       freed-other i f q = never (release-empty (swept_in m s) v (rw from.same_length below)) (rw q at f)
 
-      freed-new : (n : PageName) → held_in m n ≡ Nowhere → held_in (freed m s v) n ≡ Nowhere
+      freed-new : (n : PageName) → held_in m n ≡ None → held_in (freed m s v) n ≡ None
       unfolding empty_at
       freed-new n e = go (held_in (freed m s v) n) refl
         where
-          go : (h : Held) → held_in (freed m s v) n ≡ h → h ≡ Nowhere
-          go (At b) q =
+          go : (h : Held) → held_in (freed m s v) n ≡ h → h ≡ None
+          go (Some b) q =
               let w = held_at (freed m s v) n b q in
               let l : b.0 < buffers m = rw (release-buffers (swept_in m s) v ∙ from.same_length) at w.0 in
               let name = release-name (swept_in m s) v b.0 (freed-other b.0 w.1) in
               absurd (held_none m n e b.0 (full-word b.0 l) (sym name ∙ w.2))
-          go Nowhere q = refl
+          go None q = refl
 
       freed-back : dirty (word_of m v) ≡ false → release (write_back (swept_in m s) v) v ≡ freed m s v
       unfolding write_back

@@ -7,6 +7,8 @@ use mathlib.Core.List.{List, ◌++◌}
 use lib.ListN.{length, get_or, set, take, drop, length-set, get_or-append}
 use lib.Seq.{length-take-le, length_front, get_or-take, get_or-set_same, get_or-set_other, take-set-lt, take-suc-set, take_at}
 use borrow.Author.Tests.{lt-ltb, le-ltb}
+use Rattle.std.specs.Prelude.{Option, Some, IsSome}
+use Rattle.std.proofs.lemmas.Option.{same_Some}
 use Rattle.laws.specs.First.{found, missing}
 use Rattle.laws.proofs.Tests.{eq-or-ne}
 use Rattle.bufmodel.specs.Word.{max_cap}
@@ -15,9 +17,7 @@ use Rattle.bufmodel.specs.Sweep.{Swept, Sweeps, sweep_all}
 use Rattle.bufmodel.proofs.SweepLaws.{SweptFrom, sweeps-from}
 use Rattle.bufmodel.proofs.SweepEnds.{sweep-finds}
 use Rattle.bufmoves.specs.declared.sweep.Victim.{Victim}
-use Rattle.bufmoves.specs.declared.sweep.Victim.TheVariants.{At, Nobody}
 use Rattle.bufmoves.specs.Sweep.{victim_of}
-use Rattle.buftag.specs.declared.number.BufferNumber.{BufferNumber}
 use Rattle.buftrace.specs.declared.usage.Totals.{Totals}
 use Rattle.buftrace.specs.declared.trace.Tally.{Tally}
 use Rattle.buftrace.specs.Usage.{cap}
@@ -90,9 +90,11 @@ module _ {n : ℕ} {c : Tally} {states held place : List ℕ} (f : Fit n c state
           only = f.only;
         }
 
-    pub held-use : (r : Tally) (states' : List ℕ) → r ≡ again → states' ≡ set states at word → Used n c states held b r states' held place
-    held-use r states' e g =
-        rw (e, g) (hit-trace ∙ sym (used-held n (trace_of c states held) b at (has f b l z)), (hit-fit, omega arith))
+    pub held-use : (found_at : ℕ) (r : Tally) (states' : List ℕ) → found_at ≡ get_or place b 0 → r ≡ again
+        → states' ≡ set states (found_at - 1) (hit_word (get_or states (found_at - 1) 0))
+        → Used n c states held b r states' held place
+    held-use found_at r states' q e g =
+        rw (e, g, q) (hit-trace ∙ sym (used-held n (trace_of c states held) b at (has f b l z)), (hit-fit, omega arith))
 
   -- ---- it comes into the next buffer of the free list
   module _ (b : ℕ) (l : b < max_blocks) (z : get_or place b 0 ≡ 0) (lt : c.used < n) where
@@ -146,19 +148,20 @@ module _ {n : ℕ} {c : Tally} {states held place : List ℕ} (f : Fit n c state
     from = sweeps-from sweep-asks.0 refl finds.3
 
     -- the code's answer of it
-    victim-is : victim_of end ≡ At (record { 0 = finds.0 }) end.hand end.probes
+    victim-is : victim_of end ≡ Some (record { buffer = record { 0 = finds.0 }; hand = end.hand; probes = end.probes })
     unfolding victim_of
     victim-is = rw finds.1
 
-    pub victim-at : {x : Victim} {w : BufferNumber} {hand probes : ℕ} → x ≡ victim_of end → x ≡ At w hand probes
-        → (end.victim ≡ found w.0) × (end.hand ≡ hand) × (end.probes ≡ probes)
+    pub victim-at : {x : Option Victim} {w : Victim} → x ≡ victim_of end → x ≡ Some w
+        → (end.victim ≡ found w.buffer.0) × (end.hand ≡ w.hand) × (end.probes ≡ w.probes)
     victim-at {w} e q =
-        let a = sym victim-is ∙ sym e ∙ q in
-        let k : ◌≡◌ {A = BufferNumber} (record { 0 = finds.0 }) w = cc a in
-        (finds.1 ∙ ap (λ (x : BufferNumber). found x.0) k, cc a, cc a)
+        let k : ◌≡◌ {A = Victim} (record { buffer = record { 0 = finds.0 }; hand = end.hand; probes = end.probes }) w =
+        same_Some _ _ (sym victim-is ∙ sym e ∙ q) in
+        (finds.1 ∙ ap (λ (x : Victim). found x.buffer.0) k, ap (λ (x : Victim). x.hand) k, ap (λ (x : Victim). x.probes) k)
 
-    pub somebody : {A : Type 0} {x : Victim} → x ≡ victim_of end → x ≡ Nobody → A
-    somebody e q = absurd (let z : ◌≡◌ {A = ℕ} 0 1 = cc victim-is in omega arith)
+    -- there is one
+    pub somebody : {x : Option Victim} → x ≡ victim_of end → IsSome x
+    somebody e = rw (e, victim-is)
 
     pub words-length : length (end.words ++ drop n states) ≡ max_buffers
     words-length = length_front states end.words n from.same_length ∙ f.words
@@ -208,12 +211,36 @@ module _ {n : ℕ} {c : Tally} {states held place : List ℕ} (f : Fit n c state
             (lacks-still place (get_or held v 0) b old-lt z) end.hand (load_more end.probes c.totals)
             (omega (arith, from.hand-lt, front)) (omega (arith, few-probes, f.probes))
 
-        pub victim-use : (a states' held' place' : List ℕ) (hand probes : ℕ) (totals : Totals) → a ≡ end.words → end.hand ≡ hand
+        victim-use : (a states' held' place' : List ℕ) (old hand probes : ℕ) (totals : Totals) → a ≡ end.words → end.hand ≡ hand
             → end.probes ≡ probes
+            → old ≡ get_or held v 0
             → totals ≡ load_more probes c.totals
             → states' ≡ set (a ++ drop n states) v load_word
             → held' ≡ set held v b
-            → place' ≡ set (set place (get_or held v 0) 0) b (suc v)
+            → place' ≡ set (set place old 0) b (suc v)
             → Used n c states held b (tally c.used hand totals) states' held' place'
-        victim-use a states' held' place' hand probes totals w q m t i j k =
-            rw (i, j, k, t, w, ← q, ← m) (victim-trace ∙ sym victim-used, (victim-fit, omega arith))
+        victim-use a states' held' place' old hand probes totals w q m o t i j k =
+            rw (i, j, k, t, o, w, ← q, ← m) (victim-trace ∙ sym victim-used, (victim-fit, omega arith))
+
+    -- what the code knows of the victim, and what it leaves
+    module _ {x : Option Victim} {w : Victim} (is : x ≡ victim_of end) (some-is : x ≡ Some w) where
+      pub taken : (w.buffer.0 < max_buffers) × (get_or held w.buffer.0 0 < max_blocks) × (w.probes ≤ (cap + 1) * max_buffers)
+      taken =
+          let k = victim-at is some-is in
+          let l = victim-lt w.buffer.0 k.0 in
+          (omega (arith, l, f.few), f.below _ (omega (arith, l)), omega (arith, k.2, few-probes))
+
+      pub words-still : (a : List ℕ) → a ≡ end.words → length (a ++ drop n states) ≡ max_buffers
+      words-still a e = rw e words-length
+
+      pub taken-use : (b : ℕ) → b < max_blocks → get_or place b 0 ≡ 0 → (a states' held' place' : List ℕ) (old : ℕ) (totals : Totals)
+          → a ≡ end.words
+          → old ≡ get_or held w.buffer.0 0
+          → totals ≡ load_more w.probes c.totals
+          → states' ≡ set (a ++ drop n states) w.buffer.0 load_word
+          → held' ≡ set held w.buffer.0 b
+          → place' ≡ set (set place old 0) b (suc w.buffer.0)
+          → Used n c states held b (tally c.used w.hand totals) states' held' place'
+      taken-use b l z a states' held' place' old totals e =
+          let k = victim-at is some-is in
+          victim-use w.buffer.0 k.0 b l z a states' held' place' old w.hand w.probes totals e k.1 k.2

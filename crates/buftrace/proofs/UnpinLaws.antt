@@ -16,7 +16,7 @@ use Rattle.laws.specs.First.{found}
 use Rattle.laws.proofs.Lists.{get_d-replicate-all}
 use Rattle.laws.proofs.Tests.{eq-or-ne, true-or-false, never, and-true, and_left, and_right}
 use Rattle.buftag.specs.declared.link.Link.TheVariants.{To, End}
-use Rattle.buftag.specs.declared.lookup.Held.TheVariants.{Nowhere}
+use Rattle.std.specs.Prelude.{None}
 use Rattle.buftag.specs.Link.{link_of, link_at}
 use Rattle.bufmodel.specs.Word.{pins, usage, flags, pack, max_cap, bit, dirty, valid, tag_valid, just_dirtied, permanent, no_other}
 use Rattle.bufmodel.specs.Word.{empty, sound_flags, sound_word, pin_more, pin_less, loaded}
@@ -212,7 +212,7 @@ pub record Taking (p n blocks : ℕ) (m : Memory) (u : Trace) (i b : ℕ) : Type
   pub rows : m.rows ≡ 1663 ∷ 5 ∷ 16384 ∷ 0 ∷ blocks ∷ blocks ∷ []
   pub store : m.store ≡ replicate (blocks * p) 0
   pub counts : m.counts ≡ replicate (n * max_holders) 0
-  pub new : held_in m (page b) ≡ Nowhere
+  pub new : held_in m (page b) ≡ None
   pub place : place_of m.rows (page b) ≡ found b
   pub top : link_of m.control.top ≡ To i
   pub below : i < length u.held

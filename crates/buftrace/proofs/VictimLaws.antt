@@ -10,7 +10,7 @@ use lib.Seq.{get_or-set_same, get_or-set_other, set-set}
 use Rattle.laws.specs.First.{Found, found, missing}
 use Rattle.laws.proofs.Sum.{ind-none}
 use Rattle.buftag.specs.declared.link.Link.TheVariants.{End}
-use Rattle.buftag.specs.declared.lookup.Held.TheVariants.{Nowhere}
+use Rattle.std.specs.Prelude.{None}
 use Rattle.buftag.specs.Link.{link_of}
 use Rattle.bufmodel.specs.Memory.{Memory, buffers, cap_of, with_counts}
 use Rattle.bufmodel.specs.Counts.{set_count}
@@ -58,7 +58,7 @@ module _ (p n blocks : ℕ) (m : Memory) (t : Trace) (a : Agrees p n blocks m t)
         subst (λ (x : Swept). (v : ℕ) × (x.victim ≡ found v) × Left m x v) sweep-is
         (victim-left m a.good top (pins-none p n blocks m t a m.control.hand a.good.books.hand))
 
-    nowhere : held_in m (page b) ≡ Nowhere
+    nowhere : held_in m (page b) ≡ None
     nowhere = held-nowhere p n blocks m t a b new
 
     pin-sweeps : pinned m b ≡ pin_swept m holder (page b) s

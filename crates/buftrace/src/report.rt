@@ -6,18 +6,16 @@ ghost use Rattle.buftrace.specs.Report.{decimal, bad_line, printed_of};
 
 use crate::scan::Reader;
 
-// Bytes from `at` on; answers where they end.
+// Bytes from `at` on; answers where they end. A `Write` over the slice would count for itself, but its contract does not say which bytes it
+// puts.
 fn put_bytes(out: &mut [u8], at: usize, bytes: &[u8]) -> usize
     requires { at + length bytes.now ≤ length out.old }
     ensures value { result ≡ at + length bytes.now }
     ensures out_after { take result out.new ≡ take at out.old ++ bytes.now }
 {
-    let mut i = 0;
-    while i < bytes.len() {
-        out[at + i] = bytes[i];
-        i += 1;
-    }
-    at + i
+    let end = at + bytes.len();
+    out[at..end].copy_from_slice(bytes);
+    end
 }
 
 // A number's decimal digits from `at` on, and a byte behind them; answers where that ends.
@@ -38,9 +36,8 @@ fn put_bad(out: &mut [u8], line: u64) -> usize
     ensures upper_bound { result ≤ 30 }
     ensures out_after { take result out.new ≡ bad_line line }
 {
-    let words = b"bad line ";
-    let end = put_bytes(out, 0, words);
-    put_number(out, end, line, 10)
+    let end = put_bytes(out, 0, b"bad line ");
+    put_number(out, end, line, b'\n')
 }
 
 // Puts the line at the start of out, and answers its length.
@@ -50,11 +47,11 @@ pub fn put_line(s: Reader, out: &mut [u8; 64]) -> usize
 {
     // as a slice, whose length a proof knows; that of an array behind a reference it does not
     let all = &mut out[..];
-    if s.bad != 0 {
-        return put_bad(all, s.bad);
+    if let Some(line) = s.bad {
+        return put_bad(all, line);
     }
     let totals = s.tally.totals;
-    let a = put_number(all, 0, totals.hits, 32);
-    let b = put_number(all, a, totals.loads, 32);
-    put_number(all, b, totals.probes, 10)
+    let a = put_number(all, 0, totals.hits, b' ');
+    let b = put_number(all, a, totals.loads, b' ');
+    put_number(all, b, totals.probes, b'\n')
 }

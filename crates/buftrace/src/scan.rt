@@ -1,6 +1,6 @@
 // The input in pieces: lines of digits, each used at its end.
 
-ghost use Rattle.std.specs.Prelude.{◌≡◌, true, ◌≤◌, ◌<◌};
+ghost use Rattle.std.specs.Prelude.{◌≡◌, true, ◌≤◌, ◌<◌, Some, unwrap_or};
 ghost use Rattle.bufmodel.specs.Sizes.{max_blocks};
 ghost use Rattle.buftrace.specs.Input.{is_digit};
 ghost use Rattle.buftrace.specs.Scan.{
@@ -23,7 +23,6 @@ ghost use Rattle.buftrace.specs.Scan.{
 };
 
 use crate::trace::{Tally, use_block};
-use crate::usage::Totals;
 
 // The greatest N, the greatest number of blocks, and the lines of both and of 1,000,000 block numbers.
 const MAX_BUFFERS: usize = 1024;
@@ -32,21 +31,19 @@ const MAX_BLOCKS: usize = 65536;
 
 const MAX_LINES: u64 = 1000002;
 
-const NEWLINE: u8 = 10;
-
 // What is kept between two pieces.
-#[derive(Clone, Copy)]
+#[derive(Clone, Copy, Default)]
 pub struct Reader {
     // Lines that have ended.
     pub line: u64,
-    // Whether the line begun has a digit, and its value.
-    pub digits: bool,
-    pub value: usize,
-    // N and the number of blocks, once they are read.
+    // The value of the line begun, once it has a digit.
+    pub value: Option<usize>,
+    // N and the number of blocks, 0 before they are read. `line` says whether they are: with an Option of each, a use would have branches
+    // that no line comes to.
     pub buffers: usize,
     pub blocks: usize,
-    // The first bad line, 0 for none.
-    pub bad: u64,
+    // The first bad line, counted from 1.
+    pub bad: Option<u64>,
     pub tally: Tally,
 }
 
@@ -54,23 +51,7 @@ pub struct Reader {
 pub fn new_reader() -> Reader
     ensures { result ≡ new_reader }
 {
-    Reader {
-        line: 0,
-        digits: false,
-        value: 0,
-        buffers: 0,
-        blocks: 0,
-        bad: 0,
-        tally: Tally {
-            used: 0,
-            hand: 0,
-            totals: Totals {
-                hits: 0,
-                loads: 0,
-                probes: 0,
-            },
-        },
-    }
+    Reader::default()
 }
 
 // The line begun is bad.
@@ -79,15 +60,9 @@ fn spoil(s: Reader) -> Reader
     ensures value { result ≡ spoilt_reader s }
     ensures becomes { Becomes spoilt s result }
 {
-    let tally = s.tally;
     Reader {
-        line: s.line,
-        digits: s.digits,
-        value: s.value,
-        buffers: s.buffers,
-        blocks: s.blocks,
-        bad: s.line + 1,
-        tally: tally,
+        bad: Some(s.line + 1),
+        ..s
     }
 }
 
@@ -98,74 +73,61 @@ fn go_on(s: Reader, buffers: usize, blocks: usize, tally: Tally) -> Reader
 {
     Reader {
         line: s.line + 1,
-        digits: false,
-        value: 0,
-        buffers: buffers,
-        blocks: blocks,
-        bad: s.bad,
-        tally: tally,
+        value: None,
+        buffers,
+        blocks,
+        tally,
+        ..s
     }
 }
 
-// One of the first two lines ends.
-fn end_head(s: Reader) -> Reader
-    requires { (s.line < 2) × (s.digits ≡ true) }
+// One of the first two lines ends, with a number.
+fn end_head(s: Reader, value: usize) -> Reader
+    requires { (s.line < 2) × (s.value ≡ Some value) }
     ensures { Becomes ended s result }
 {
-    let tally = s.tally;
     if s.line == 1 {
-        return go_on(s, s.buffers, s.value, tally);
+        return go_on(s, s.buffers, value, s.tally);
     }
-    if (s.value < 1) | (s.value > MAX_BUFFERS) {
+    if value < 1 || value > MAX_BUFFERS {
         return spoil(s);
     }
-    go_on(s, s.value, s.blocks, tally)
+    go_on(s, value, s.blocks, s.tally)
 }
 
-// A line ends.
+// A line ends. Inlined, so that the reader stays in registers from byte to byte: else a list takes three times as long.
+#[inline(always)]
 fn end_line(s: Reader, states: &mut [u32], held: &mut [u16], place: &mut [u16]) -> Reader
     requires ready { Ready s states.old held.old place.old }
     requires line_lt_max_lines { s.line < max_lines }
     ensures held_after { scan_of result states.new held.new ≡ ended (scan_of s states.old held.old) }
     ensures ready_2 { Ready result states.new held.new place.new }
 {
-    if !s.digits {
+    let Some(value) = s.value else {
         return spoil(s);
-    }
+    };
     if s.line < 2 {
-        return end_head(s);
+        return end_head(s, value);
     }
-    if s.value >= s.blocks {
+    if value >= s.blocks {
         return spoil(s);
     }
-    let tally = use_block(s.buffers, s.tally, states, held, place, s.value);
+    let tally = use_block(s.buffers, s.tally, states, held, place, value);
     go_on(s, s.buffers, s.blocks, tally)
-}
-
-fn wide(b: u8) -> usize
-    ensures { result ≡ b }
-{
-    b as usize
 }
 
 // The line begun has a digit more.
 fn add_digit(s: Reader, b: u8) -> Reader
-    requires { (s.line < max_lines) × (s.value ≤ max_blocks) × (is_digit b ≡ true) }
+    requires { (s.line < max_lines) × (unwrap_or s.value 0 ≤ max_blocks) × (is_digit b ≡ true) }
     ensures { Becomes (λ s. digit s b) s result }
 {
-    let v = s.value * 10 + (wide(b) - 48);
+    let v = s.value.unwrap_or(0) * 10 + usize::from(b - b'0');
     if v > MAX_BLOCKS {
         return spoil(s);
     }
-    let tally = s.tally;
     Reader {
-        line: s.line,
-        digits: true,
-        value: v,
-        buffers: s.buffers,
-        blocks: s.blocks,
-        bad: s.bad,
-        tally: tally,
+        value: Some(v),
+        ..s
     }
 }
 
@@ -178,10 +140,10 @@ fn step(s: Reader, states: &mut [u32], held: &mut [u16], place: &mut [u16], b: u
     if s.line == MAX_LINES {
         return spoil(s);
     }
-    if b == NEWLINE {
+    if b == b'\n' {
         return end_line(s, states, held, place);
     }
-    if (b < 48) | (b > 57) {
+    if !b.is_ascii_digit() {
         return spoil(s);
     }
     add_digit(s, b)
@@ -201,10 +163,11 @@ pub fn feed(
     ensures ready { Ready result states.new held.new place.new }
 {
     let mut t = s;
-    let mut i = 0;
-    while i < bytes.len() && t.bad == 0 {
-        t = step(t, states, held, place, bytes[i]);
-        i += 1;
+    for &b in bytes {
+        if t.bad.is_some() {
+            return t;
+        }
+        t = step(t, states, held, place, b);
     }
     t
 }
@@ -214,7 +177,7 @@ fn close(s: Reader) -> Reader
     requires { s.line ≤ max_lines }
     ensures { Becomes closed s result }
 {
-    if (s.bad == 0) & (s.line < 2) {
+    if s.bad.is_none() && s.line < 2 {
         return spoil(s);
     }
     s
@@ -226,13 +189,11 @@ pub fn finish(s: Reader, states: &mut [u32], held: &mut [u16], place: &mut [u16]
     ensures held_after { scan_of result states.new held.new ≡ finished (scan_of s states.old held.old) }
     ensures ready { Ready result states.new held.new place.new }
 {
-    if s.bad != 0 {
-        return s;
-    }
-    if !s.digits {
-        return close(s);
-    }
-    let t = end_line(s, states, held, place);
+    let t = if s.bad.is_none() && s.value.is_some() {
+        end_line(s, states, held, place)
+    } else {
+        s
+    };
     close(t)
 }
 
@@ -242,7 +203,7 @@ pub fn break_off(s: Reader) -> Reader
     ensures value { result ≡ broken_reader s }
     ensures becomes { Becomes broken s result }
 {
-    if s.bad != 0 {
+    if s.bad.is_some() {
         return s;
     }
     spoil(s)

@@ -8,12 +8,12 @@ ghost use Rattle.buftrace.specs.Trace.{Fit, Idle, many, hit_word, load_word, hit
 
 use crate::usage::Totals;
 use bufmem::word::{loaded_word, pin_less, pin_more};
-use bufmoves::sweep::{Victim, sweep};
+use bufmoves::sweep::sweep;
 
 // The cap.
 const CAP: usize = 5;
 
-#[derive(Clone, Copy)]
+#[derive(Clone, Copy, Default)]
 pub struct Tally {
     // Buffers that have a page: the free list has given them, rising.
     pub used: usize,
@@ -22,7 +22,8 @@ pub struct Tally {
     pub totals: Totals,
 }
 
-// Block `block` is used in a pool of n buffers.
+// Block `block` is used in a pool of n buffers. The three slices are passed on one by one: the statement of a list's cost names them, here
+// and in `scan`.
 pub fn use_block(
     n: usize,
     c: Tally,
@@ -38,12 +39,12 @@ pub fn use_block(
     ensures fit_2 { Fit n result states.new held.new place.new }
     ensures totals_value { many result.totals ≡ suc (many c.totals) }
 {
-    let at = place[block] as usize;
-    let used = c.used;
+    // the contract's table has 0 for none: an Option of each entry would take twice the memory
+    let at = usize::from(place[block]);
     if at != 0 {
         return use_held(c, states, at - 1);
     }
-    if used < n {
+    if c.used < n {
         return use_free(c, states, held, place, block);
     }
     use_victim(n, c, states, held, place, block)
@@ -55,13 +56,10 @@ fn use_held(c: Tally, states: &mut [u32], i: usize) -> Tally
     ensures value { result ≡ record { used = c.used; hand = c.hand; totals = hit_more c.totals } }
     ensures states_after { states.new ≡ set states.old i (hit_word (get_or states.old i 0)) }
 {
-    let w = states[i];
-    states[i] = pin_less(pin_more(CAP as u32, w));
-    let totals = hit_more(c.totals);
+    states[i] = pin_less(pin_more(CAP as u32, states[i]));
     Tally {
-        used: c.used,
-        hand: c.hand,
-        totals: totals,
+        totals: hit_more(c.totals),
+        ..c
     }
 }
 
@@ -72,8 +70,7 @@ fn hit_more(totals: Totals) -> Totals
 {
     Totals {
         hits: totals.hits + 1,
-        loads: totals.loads,
-        probes: totals.probes,
+        ..totals
     }
 }
 
@@ -83,9 +80,9 @@ fn load_more(totals: Totals, probes: u64) -> Totals
     ensures { result ≡ load_more probes totals }
 {
     Totals {
-        hits: totals.hits,
         loads: totals.loads + 1,
         probes: totals.probes + probes,
+        ..totals
     }
 }
 
@@ -117,13 +114,11 @@ fn use_free(
     ensures held_after { held.new ≡ set held.old c.used block }
     ensures place_after { place.new ≡ set place.old block (suc c.used) }
 {
-    let i = c.used;
-    put_block(states, held, place, i, block);
-    let totals = load_more(c.totals, 0);
+    put_block(states, held, place, c.used, block);
     Tally {
-        used: i + 1,
-        hand: c.hand,
-        totals: totals,
+        used: c.used + 1,
+        totals: load_more(c.totals, 0),
+        ..c
     }
 }
 
@@ -144,22 +139,13 @@ fn use_victim(
     ensures fit_2 { Fit n result states.new held.new place.new }
     ensures totals_value { many result.totals ≡ suc (many c.totals) }
 {
-    let Victim::At {
-        buffer,
-        hand,
-        probes,
-    } = sweep(CAP, &mut states[..n], c.hand)
-    else {
-        return c;
-    };
-    let v = buffer.0;
-    let old = held[v] as usize;
-    place[old] = 0;
+    let victim = sweep(CAP, &mut states[..n], c.hand).unwrap();
+    let v = victim.buffer.0;
+    place[usize::from(held[v])] = 0;
     put_block(states, held, place, v, block);
-    let totals = load_more(c.totals, probes);
     Tally {
-        used: c.used,
-        hand: hand,
-        totals: totals,
+        hand: victim.hand,
+        totals: load_more(c.totals, victim.probes),
+        ..c
     }
 }

@@ -1,6 +1,6 @@
 // The three numbers.
 
-#[derive(Clone, Copy)]
+#[derive(Clone, Copy, Default)]
 pub struct Totals {
     // Pins whose page was held.
     pub hits: u64,

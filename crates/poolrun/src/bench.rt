@@ -1,8 +1,9 @@
 // Document 01's bench: three buffers, three buckets, one file of four blocks of zeros with room for a fifth, the log at 100, the cap 5.
 
-use crate::text::{say, say_accepted, say_log};
+use crate::text::{Log, Said};
 use bufcalls::set_up::set_up_pool;
 use bufmodel::control::Control;
+use bufmodel::refusal::Refusal;
 use buftag::name::{PageName, page_name};
 
 // The block size.
@@ -34,59 +35,53 @@ pub(crate) fn page(block: u32) -> PageName {
     page_name(1663, 5, 16384, 0, block)
 }
 
-// Names, words, links and counts are lent with numbers that set up has to clear.
-pub(crate) fn set_up() -> Bench {
-    let mut states = [7; 3];
-    let mut names = [7; 15];
-    let pool = [7; 3072];
-    let mut free = [7; 3];
-    let mut heads = [7; 3];
-    let mut chain = [7; 3];
-    let rows = [1663, 5, 16384, 0, 4, 5];
-    let store = [0; 5120];
-    let mut counts = [7; 192];
-    let end = set_up_pool(
-        no_control(),
-        &mut states,
-        &mut names,
-        &pool,
-        &mut free,
-        &mut heads,
-        &mut chain,
-        &rows,
-        &store,
-        &mut counts,
-        SIZE,
-        POSITION,
-        CAP,
-    );
-    let control = end.control;
-    let answer = end.answer;
-    say(b"set up");
-    say_accepted(answer);
-    say_log(control);
-    Bench {
-        control: control,
-        states: states,
-        names: names,
-        pool: pool,
-        free: free,
-        heads: heads,
-        chain: chain,
-        rows: rows,
-        store: store,
-        counts: counts,
+impl Bench {
+    // Names, words, links and counts are lent with numbers that set up has to clear.
+    fn uncleared() -> Bench {
+        Bench {
+            control: Control {
+                size: 0,
+                hand: 0,
+                top: 0,
+                inserted: 0,
+                flushed: 0,
+                cap: 0,
+            },
+            states: [7; 3],
+            names: [7; 15],
+            pool: [7; 3072],
+            free: [7; 3],
+            heads: [7; 3],
+            chain: [7; 3],
+            rows: [1663, 5, 16384, 0, 4, 5],
+            store: [0; 5120],
+            counts: [7; 192],
+        }
     }
-}
 
-// A control record of no pool.
-fn no_control() -> Control {
-    Control {
-        size: 0,
-        hand: 0,
-        top: 0,
-        inserted: 0,
-        flushed: 0,
-        cap: 0,
+    fn clear(&mut self) -> Result<(), Refusal> {
+        self.control = set_up_pool(
+            self.control,
+            &mut self.states,
+            &mut self.names,
+            &self.pool,
+            &mut self.free,
+            &mut self.heads,
+            &mut self.chain,
+            &self.rows,
+            &self.store,
+            &mut self.counts,
+            SIZE,
+            POSITION,
+            CAP,
+        )?;
+        Ok(())
+    }
+
+    pub(crate) fn set_up(rt: &impl Print) -> Bench {
+        let mut bench = Bench::uncleared();
+        let said = Said(bench.clear());
+        let _ = println!(rt; "set up, {said}, {}", Log(bench.control));
+        bench
     }
 }

@@ -1,282 +1,165 @@
-// The calls on the bench: each takes it apart, makes the call, says what came of it, and puts it together again.
+// The calls on the bench: each prints what came of it.
 
 use crate::bench::{Bench, page};
-use crate::lend::{lend_to_checkpoint, lend_to_flush, lend_to_pin};
-use crate::text::{
-    say, say_accepted, say_holder, say_log, say_number, say_part, say_pinned, say_written,
-};
+use crate::text::{Log, Part, Said, Top};
 use bufcalls::buffer::{unpin_buffer, write_buffer};
 use bufcalls::give::give_back;
 use bufcalls::peek::peek_part;
+use bufcontrol::back::{checkpoint, flush};
 use bufcontrol::log::log_through;
+use bufcontrol::pin::pin;
 use bufmodel::holder::Holder;
 use buftag::number::BufferNumber;
 
-pub(crate) fn pin_block(bench: Bench, holder: usize, block: u32) -> Bench {
-    let mut states = bench.states;
-    let mut names = bench.names;
-    let mut pool = bench.pool;
-    let mut free = bench.free;
-    let mut heads = bench.heads;
-    let mut chain = bench.chain;
-    let rows = bench.rows;
-    let mut store = bench.store;
-    let mut counts = bench.counts;
-    let end = lend_to_pin(
-        bench.control,
-        &mut states,
-        &mut names,
-        &mut pool,
-        &mut free,
-        &mut heads,
-        &mut chain,
-        &rows,
-        &mut store,
-        &mut counts,
-        Holder(holder),
-        page(block),
-    );
-    let control = end.control;
-    say_holder(holder);
-    say_pinned(block, end);
-    Bench {
-        control: control,
-        states: states,
-        names: names,
-        pool: pool,
-        free: free,
-        heads: heads,
-        chain: chain,
-        rows: rows,
-        store: store,
-        counts: counts,
+impl Bench {
+    pub(crate) fn pin(&mut self, rt: &impl Print, holder: usize, block: u32) {
+        let said = Said(pin(
+            &mut self.control,
+            &mut self.states,
+            &mut self.names,
+            &mut self.pool,
+            &mut self.free,
+            &mut self.heads,
+            &mut self.chain,
+            &self.rows,
+            &mut self.store,
+            &mut self.counts,
+            Holder(holder),
+            page(block),
+        ));
+        let hand = self.control.hand;
+        let top = Top(self.control.top);
+        let _ = println!(rt; "holder {holder}: pin block {block}: {said}, hand {hand}, {top}");
     }
-}
 
-pub(crate) fn unpin_one(mut bench: Bench, holder: usize, buffer: usize) -> Bench {
-    let mut states = bench.states;
-    let names = bench.names;
-    let pool = bench.pool;
-    let free = bench.free;
-    let heads = bench.heads;
-    let chain = bench.chain;
-    let rows = bench.rows;
-    let store = bench.store;
-    let mut counts = bench.counts;
-    let answer = unpin_buffer(
-        bench.control,
-        &mut states,
-        &names,
-        &pool,
-        &free,
-        &heads,
-        &chain,
-        &rows,
-        &store,
-        &mut counts,
-        Holder(holder),
-        BufferNumber(buffer),
-    );
-    say_holder(holder);
-    say_number(b"unpin buffer ", buffer as u64);
-    say_accepted(answer);
-    say(b"\n");
-    bench.states = states;
-    bench.counts = counts;
-    bench
-}
+    pub(crate) fn unpin(&mut self, rt: &impl Print, holder: usize, buffer: usize) {
+        let said = Said(unpin_buffer(
+            self.control,
+            &mut self.states,
+            &self.names,
+            &self.pool,
+            &self.free,
+            &self.heads,
+            &self.chain,
+            &self.rows,
+            &self.store,
+            &mut self.counts,
+            Holder(holder),
+            BufferNumber(buffer),
+        ));
+        let _ = println!(rt; "holder {holder}: unpin buffer {buffer}, {said}");
+    }
 
-pub(crate) fn give_back_all(mut bench: Bench, holder: usize) -> Bench {
-    let mut states = bench.states;
-    let names = bench.names;
-    let pool = bench.pool;
-    let free = bench.free;
-    let heads = bench.heads;
-    let chain = bench.chain;
-    let rows = bench.rows;
-    let store = bench.store;
-    let mut counts = bench.counts;
-    let answer = give_back(
-        bench.control,
-        &mut states,
-        &names,
-        &pool,
-        &free,
-        &heads,
-        &chain,
-        &rows,
-        &store,
-        &mut counts,
-        Holder(holder),
-    );
-    say_holder(holder);
-    say(b"give back");
-    say_accepted(answer);
-    say(b"\n");
-    bench.states = states;
-    bench.counts = counts;
-    bench
-}
+    pub(crate) fn give_back(&mut self, rt: &impl Print, holder: usize) {
+        let said = Said(give_back(
+            self.control,
+            &mut self.states,
+            &self.names,
+            &self.pool,
+            &self.free,
+            &self.heads,
+            &self.chain,
+            &self.rows,
+            &self.store,
+            &mut self.counts,
+            Holder(holder),
+        ));
+        let _ = println!(rt; "holder {holder}: give back, {said}");
+    }
 
-pub(crate) fn write_to(mut bench: Bench, holder: usize, buffer: usize, position: u64) -> Bench {
-    let mut states = bench.states;
-    let names = bench.names;
-    let mut pool = bench.pool;
-    let free = bench.free;
-    let heads = bench.heads;
-    let chain = bench.chain;
-    let rows = bench.rows;
-    let store = bench.store;
-    let counts = bench.counts;
-    let answer = write_buffer(
-        bench.control,
-        &mut states,
-        &names,
-        &mut pool,
-        &free,
-        &heads,
-        &chain,
-        &rows,
-        &store,
-        &counts,
-        Holder(holder),
-        BufferNumber(buffer),
-        10,
-        b"rye",
-        position,
-    );
-    say_holder(holder);
-    say_number(b"write to buffer ", buffer as u64);
-    say_number(b" at ", position);
-    say_accepted(answer);
-    say(b"\n");
-    bench.states = states;
-    bench.pool = pool;
-    bench
-}
+    pub(crate) fn write(&mut self, rt: &impl Print, holder: usize, buffer: usize, position: u64) {
+        let said = Said(write_buffer(
+            self.control,
+            &mut self.states,
+            &self.names,
+            &mut self.pool,
+            &self.free,
+            &self.heads,
+            &self.chain,
+            &self.rows,
+            &self.store,
+            &self.counts,
+            Holder(holder),
+            BufferNumber(buffer),
+            10,
+            b"rye",
+            position,
+        ));
+        let _ = println!(rt; "holder {holder}: write to buffer {buffer} at {position}, {said}");
+    }
 
-pub(crate) fn flush_one(mut bench: Bench, holder: usize, buffer: usize) -> Bench {
-    let mut states = bench.states;
-    let names = bench.names;
-    let pool = bench.pool;
-    let free = bench.free;
-    let heads = bench.heads;
-    let chain = bench.chain;
-    let rows = bench.rows;
-    let mut store = bench.store;
-    let counts = bench.counts;
-    let end = lend_to_flush(
-        bench.control,
-        &mut states,
-        &names,
-        &pool,
-        &free,
-        &heads,
-        &chain,
-        &rows,
-        &mut store,
-        &counts,
-        Holder(holder),
-        BufferNumber(buffer),
-    );
-    say_holder(holder);
-    say_number(b"flush buffer ", buffer as u64);
-    say_written(end);
-    let control = end.control;
-    bench.control = control;
-    bench.states = states;
-    bench.store = store;
-    bench
-}
+    pub(crate) fn flush(&mut self, rt: &impl Print, holder: usize, buffer: usize) {
+        let said = Said(flush(
+            &mut self.control,
+            &mut self.states,
+            &self.names,
+            &self.pool,
+            &self.free,
+            &self.heads,
+            &self.chain,
+            &self.rows,
+            &mut self.store,
+            &self.counts,
+            Holder(holder),
+            BufferNumber(buffer),
+        ));
+        let log = Log(self.control);
+        let _ = println!(rt; "holder {holder}: flush buffer {buffer}, {said}, {log}");
+    }
 
-pub(crate) fn checkpoint_all(mut bench: Bench) -> Bench {
-    let mut states = bench.states;
-    let names = bench.names;
-    let pool = bench.pool;
-    let free = bench.free;
-    let heads = bench.heads;
-    let chain = bench.chain;
-    let rows = bench.rows;
-    let mut store = bench.store;
-    let counts = bench.counts;
-    let end = lend_to_checkpoint(
-        bench.control,
-        &mut states,
-        &names,
-        &pool,
-        &free,
-        &heads,
-        &chain,
-        &rows,
-        &mut store,
-        &counts,
-    );
-    say(b"checkpoint");
-    say_written(end);
-    let control = end.control;
-    bench.control = control;
-    bench.states = states;
-    bench.store = store;
-    bench
-}
+    pub(crate) fn checkpoint(&mut self, rt: &impl Print) {
+        let said = Said(checkpoint(
+            &mut self.control,
+            &mut self.states,
+            &self.names,
+            &self.pool,
+            &self.free,
+            &self.heads,
+            &self.chain,
+            &self.rows,
+            &mut self.store,
+            &self.counts,
+        ));
+        let _ = println!(rt; "checkpoint, {said}, {}", Log(self.control));
+    }
 
-pub(crate) fn move_log(mut bench: Bench, position: u64) -> Bench {
-    let states = bench.states;
-    let names = bench.names;
-    let pool = bench.pool;
-    let free = bench.free;
-    let heads = bench.heads;
-    let chain = bench.chain;
-    let rows = bench.rows;
-    let store = bench.store;
-    let counts = bench.counts;
-    let end = log_through(
-        bench.control,
-        &states,
-        &names,
-        &pool,
-        &free,
-        &heads,
-        &chain,
-        &rows,
-        &store,
-        &counts,
-        position,
-    );
-    let control = end.control;
-    let inserted = end.inserted;
-    let flushed = end.flushed;
-    say_number(b"log through ", position);
-    say_accepted(inserted);
-    say_accepted(flushed);
-    say_log(control);
-    bench.control = control;
-    bench
-}
+    pub(crate) fn move_log(&mut self, rt: &impl Print, position: u64) {
+        let end = log_through(
+            self.control,
+            &self.states,
+            &self.names,
+            &self.pool,
+            &self.free,
+            &self.heads,
+            &self.chain,
+            &self.rows,
+            &self.store,
+            &self.counts,
+            position,
+        );
+        self.control = end.control;
+        let inserted = Said(end.inserted);
+        let flushed = Said(end.flushed);
+        let _ = println!(rt;
+            "log through {position}, {inserted}, {flushed}, {}",
+            Log(end.control)
+        );
+    }
 
-pub(crate) fn peek_block(bench: Bench, block: u32) {
-    let states = bench.states;
-    let names = bench.names;
-    let pool = bench.pool;
-    let free = bench.free;
-    let heads = bench.heads;
-    let chain = bench.chain;
-    let rows = bench.rows;
-    let store = bench.store;
-    let counts = bench.counts;
-    let part = peek_part(
-        bench.control,
-        &states,
-        &names,
-        &pool,
-        &free,
-        &heads,
-        &chain,
-        &rows,
-        &store,
-        &counts,
-        page(block),
-    );
-    say_number(b"peek block ", block as u64);
-    say_part(part);
+    pub(crate) fn peek(&self, rt: &impl Print, block: u32) {
+        let part = Part(peek_part(
+            self.control,
+            &self.states,
+            &self.names,
+            &self.pool,
+            &self.free,
+            &self.heads,
+            &self.chain,
+            &self.rows,
+            &self.store,
+            &self.counts,
+            page(block),
+        ));
+        let _ = println!(rt; "peek block {block}: {part}");
+    }
 }

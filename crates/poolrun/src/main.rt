@@ -1,152 +1,145 @@
 // Cases of document 01's bench, with document 02's holders, through those forms of the calls that no function for C reaches: the control
-// record lent by `&mut`, the part that a peek hands back, state words packed and taken apart. What is written is held to the file `stdout`.
+// record lent by `&mut`, the part that a peek hands back, state words packed and taken apart. What is written is held to the file `stdout`;
+// an output that is full or closed changes nothing else.
 
 #![tactic(auto)]
 
 mod bench;
 mod calls;
-mod lend;
 mod text;
 mod words;
 
-use bench::{Bench, set_up};
-use calls::{
-    checkpoint_all, flush_one, give_back_all, move_log, peek_block, pin_block, unpin_one, write_to,
-};
-use text::say;
-use words::{say_counts, say_word};
+use bench::Bench;
 
-fn main() {
-    let b = pinned();
-    refused(b);
-    swept(b);
-    used(b);
-    shared(b);
-    given_back(b);
-    written(b);
+fn main(rt: HostRuntime) {
+    let b = pinned(&rt);
+    refused(&rt, b);
+    swept(&rt, b);
+    used(&rt, b);
+    shared(&rt, b);
+    given_back(&rt, b);
+    written(&rt, b)
 }
 
-fn pinned() -> Bench {
-    say(b"C: three pages pinned\n");
-    let b = pin_block(set_up(), 0, 0);
-    let b = pin_block(b, 0, 1);
-    let b = pin_block(b, 0, 2);
-    say_word(b, 0);
-    say_counts(b, 0);
+fn pinned(rt: &impl Print) -> Bench {
+    let _ = println!(rt; "C: three pages pinned");
+    let mut b = Bench::set_up(rt);
+    for block in 0..3 {
+        b.pin(rt, 0, block);
+    }
+    b.print_word(rt, 0);
+    b.print_counts(rt, 0);
     b
 }
 
-fn refused(b: Bench) {
-    say(b"D: after C, a fourth\n");
-    let b = pin_block(b, 0, 3);
-    say_word(b, 0);
+fn refused(rt: &impl Print, mut b: Bench) {
+    let _ = println!(rt; "D: after C, a fourth");
+    b.pin(rt, 0, 3);
+    b.print_word(rt, 0)
 }
 
-fn swept(b: Bench) {
-    say(b"E: after C, all unpinned\n");
-    let b = unpin_all(b);
-    let b = pin_block(b, 0, 3);
-    let b = pin_block(b, 0, 0);
-    say_word(b, 0);
+fn swept(rt: &impl Print, mut b: Bench) {
+    let _ = println!(rt; "E: after C, all unpinned");
+    unpin_all(rt, &mut b);
+    b.pin(rt, 0, 3);
+    b.pin(rt, 0, 0);
+    b.print_word(rt, 0)
 }
 
-fn unpin_all(b: Bench) -> Bench {
-    let b = unpin_one(b, 0, 0);
-    let b = unpin_one(b, 0, 1);
-    unpin_one(b, 0, 2)
+fn unpin_all(rt: &impl Print, b: &mut Bench) {
+    for buffer in 0..3 {
+        b.unpin(rt, 0, buffer);
+    }
 }
 
-fn used(b: Bench) {
-    say(b"F: after C, one page pinned six times by one holder\n");
-    let b = pin_block(b, 0, 2);
-    let b = pin_block(b, 0, 2);
-    let b = pin_block(b, 0, 2);
-    let b = pin_block(b, 0, 2);
-    let b = pin_block(b, 0, 2);
-    say_word(b, 2);
-    say_counts(b, 2);
-    let b = unpin_one(b, 0, 2);
-    say_word(b, 2);
-    say_counts(b, 2);
+fn used(rt: &impl Print, mut b: Bench) {
+    let _ = println!(rt; "F: after C, one page pinned six times by one holder");
+    for _ in 0..5 {
+        b.pin(rt, 0, 2);
+    }
+    b.print_word(rt, 2);
+    b.print_counts(rt, 2);
+    b.unpin(rt, 0, 2);
+    b.print_word(rt, 2);
+    b.print_counts(rt, 2)
 }
 
-fn shared(b: Bench) {
-    say(b"F: after C, that page pinned by six holders\n");
-    let b = pin_block(b, 1, 2);
-    let b = pin_block(b, 2, 2);
-    let b = pin_block(b, 3, 2);
-    let b = pin_block(b, 4, 2);
-    let b = pin_block(b, 5, 2);
-    say_word(b, 2);
-    say_counts(b, 2);
-    say(b"H: each of them unpins it\n");
-    let b = unpin_one(b, 0, 2);
-    let b = unpin_one(b, 0, 2);
-    let b = unpin_one(b, 1, 2);
-    let b = unpin_one(b, 2, 2);
-    let b = unpin_one(b, 3, 2);
-    let b = unpin_one(b, 4, 2);
-    say_word(b, 2);
-    let b = unpin_one(b, 5, 2);
-    say_word(b, 2);
-    let b = pin_block(b, 63, 3);
-    say_word(b, 2);
-    say_counts(b, 2);
+fn shared(rt: &impl Print, mut b: Bench) {
+    let _ = println!(rt; "F: after C, that page pinned by six holders");
+    for holder in 1..=5 {
+        b.pin(rt, holder, 2);
+    }
+    b.print_word(rt, 2);
+    b.print_counts(rt, 2);
+    unshared(rt, b)
 }
 
-fn given_back(b: Bench) {
-    say(b"after C, a second holder gives back what it has\n");
-    let b = pin_block(b, 1, 1);
-    let b = pin_block(b, 1, 1);
-    let b = pin_block(b, 1, 2);
-    let b = write_to(b, 1, 1, 100);
-    let b = write_to(b, 1, 0, 100);
-    say_word(b, 1);
-    say_counts(b, 1);
-    let b = give_back_all(b, 1);
-    let b = give_back_all(b, 1);
-    let b = give_back_all(b, 64);
-    say_word(b, 1);
-    say_counts(b, 1);
-    say_counts(b, 2);
-    let b = unpin_one(b, 1, 1);
-    let b = flush_one(b, 1, 1);
-    let b = flush_one(b, 0, 1);
-    say_word(b, 1);
+fn unshared(rt: &impl Print, mut b: Bench) {
+    let _ = println!(rt; "H: each of them unpins it");
+    b.unpin(rt, 0, 2);
+    for holder in 0..=4 {
+        b.unpin(rt, holder, 2);
+    }
+    b.print_word(rt, 2);
+    b.unpin(rt, 5, 2);
+    b.print_word(rt, 2);
+    b.pin(rt, 63, 3);
+    b.print_word(rt, 2);
+    b.print_counts(rt, 2)
 }
 
-fn written(b: Bench) {
-    say(b"G, I: after C, writes\n");
-    let b = write_to(b, 0, 0, 101);
-    let b = write_to(b, 0, 0, 100);
-    let b = write_to(b, 0, 0, 99);
-    say_word(b, 0);
-    peek_block(b, 0);
-    peek_block(b, 3);
-    peek_block(b, 4);
-    let b = logged(b);
-    swept_dirty(b);
+fn given_back(rt: &impl Print, mut b: Bench) {
+    let _ = println!(rt; "after C, a second holder gives back what it has");
+    b.pin(rt, 1, 1);
+    b.pin(rt, 1, 1);
+    b.pin(rt, 1, 2);
+    b.write(rt, 1, 1, 100);
+    b.write(rt, 1, 0, 100);
+    b.print_word(rt, 1);
+    b.print_counts(rt, 1);
+    for holder in [1, 1, 64] {
+        b.give_back(rt, holder);
+    }
+    b.print_word(rt, 1);
+    b.print_counts(rt, 1);
+    b.print_counts(rt, 2);
+    b.unpin(rt, 1, 1);
+    b.flush(rt, 1, 1);
+    b.flush(rt, 0, 1);
+    b.print_word(rt, 1)
 }
 
-fn logged(b: Bench) -> Bench {
-    say(b"the log moved, and pages written back\n");
-    let b = move_log(b, 99);
-    let b = move_log(b, 300);
-    let b = write_to(b, 0, 1, 250);
-    let b = flush_one(b, 0, 1);
-    let b = flush_one(b, 0, 3);
-    let b = write_to(b, 0, 2, 300);
-    let b = checkpoint_all(b);
-    let b = checkpoint_all(b);
-    let b = move_log(b, 400);
-    say_word(b, 0);
-    b
+fn written(rt: &impl Print, mut b: Bench) {
+    let _ = println!(rt; "G, I: after C, writes");
+    for position in [101, 100, 99] {
+        b.write(rt, 0, 0, position);
+    }
+    b.print_word(rt, 0);
+    for block in [0, 3, 4] {
+        b.peek(rt, block);
+    }
+    logged(rt, &mut b);
+    swept_dirty(rt, b)
 }
 
-fn swept_dirty(b: Bench) {
-    say(b"a dirty page swept\n");
-    let b = write_to(b, 0, 0, 400);
-    let b = unpin_all(b);
-    let b = pin_block(b, 0, 3);
-    peek_block(b, 0);
+fn logged(rt: &impl Print, b: &mut Bench) {
+    let _ = println!(rt; "the log moved, and pages written back");
+    b.move_log(rt, 99);
+    b.move_log(rt, 300);
+    b.write(rt, 0, 1, 250);
+    b.flush(rt, 0, 1);
+    b.flush(rt, 0, 3);
+    b.write(rt, 0, 2, 300);
+    b.checkpoint(rt);
+    b.checkpoint(rt);
+    b.move_log(rt, 400);
+    b.print_word(rt, 0)
+}
+
+fn swept_dirty(rt: &impl Print, mut b: Bench) {
+    let _ = println!(rt; "a dirty page swept");
+    b.write(rt, 0, 0, 400);
+    unpin_all(rt, &mut b);
+    b.pin(rt, 0, 3);
+    b.peek(rt, 0)
 }

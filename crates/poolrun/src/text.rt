@@ -1,99 +1,99 @@
-// What came of a call, in words and numbers on standard output.
+// What came of a call, in words and numbers.
 
-use bufcalls::ends::WrittenEnd;
-use bufmodel::answer::{Accepted, Pinned, Written};
+use bufmodel::answer::Pinned;
 use bufmodel::control::Control;
-use bufpin::ends::PinnedEnd;
-use buftag::link::{Link, read_link};
+use bufmodel::refusal::Refusal;
+use buftag::link::Link;
+use std::fmt;
 
-pub(crate) fn say(text: &[u8]) {
-    io::write_all(1, text);
-}
+// What a call answered.
+#[derive(Clone, Copy)]
+pub(crate) struct Said<T>(pub(crate) Result<T, Refusal>);
 
-pub(crate) fn say_number(text: &[u8], n: u64) {
-    say(text);
-    io::print_decimal(1, n);
-}
+// Why it was refused.
+#[derive(Clone, Copy)]
+struct Refused(Refusal);
 
-// Whose call it is.
-pub(crate) fn say_holder(holder: usize) {
-    say_number(b"holder ", holder as u64);
-    say(b": ");
-}
-
-fn say_byte(text: &[u8], n: u8) {
-    say_number(text, n as u64);
-}
-
-fn say_if(truth: bool, text: &[u8]) {
-    if truth {
-        say(text);
+impl fmt::Display for Refused {
+    fn fmt<W: fmt::Write>(&self, f: &mut fmt::Formatter<W>) -> fmt::Result {
+        write!(f, "refused {}", u32::from(self.0))
     }
 }
 
-pub(crate) fn say_accepted(answer: Accepted) {
-    match answer {
-        Accepted::Done => say(b", done"),
-        Accepted::Refused(k) => say_number(b", refused ", k as u64),
-    }
-}
-
-pub(crate) fn say_pinned(block: u32, end: PinnedEnd) {
-    let control = end.control;
-    let answer = end.answer;
-    say_number(b"pin block ", block as u64);
-    match answer {
-        Pinned::At {
-            buffer,
-            hit,
-            wrote,
-            probes,
-        } => {
-            say_number(b": buffer ", buffer.0 as u64);
-            say_if(hit, b", hit");
-            say_if(wrote, b", wrote");
-            say_number(b", probes ", probes);
+impl fmt::Display for Said<()> {
+    fn fmt<W: fmt::Write>(&self, f: &mut fmt::Formatter<W>) -> fmt::Result {
+        match self.0 {
+            Ok(()) => write!(f, "done"),
+            Err(refusal) => write!(f, "{}", Refused(refusal)),
         }
-        Pinned::Refused(k) => say_number(b": refused ", k as u64),
     }
-    say_number(b", hand ", control.hand as u64);
-    say_top(control.top);
+}
+
+// The pages that were written back.
+impl fmt::Display for Said<u64> {
+    fn fmt<W: fmt::Write>(&self, f: &mut fmt::Formatter<W>) -> fmt::Result {
+        match self.0 {
+            Ok(pages) => write!(f, "pages {pages}"),
+            Err(refusal) => write!(f, "{}", Refused(refusal)),
+        }
+    }
+}
+
+impl fmt::Display for Said<Pinned> {
+    fn fmt<W: fmt::Write>(&self, f: &mut fmt::Formatter<W>) -> fmt::Result {
+        match self.0 {
+            Ok(pinned) => {
+                let hit = if pinned.hit { ", hit" } else { "" };
+                let wrote = if pinned.wrote { ", wrote" } else { "" };
+                write!(
+                    f,
+                    "buffer {}{hit}{wrote}, probes {}",
+                    pinned.buffer.0, pinned.probes
+                )
+            }
+            Err(refusal) => write!(f, "{}", Refused(refusal)),
+        }
+    }
 }
 
 // The top of the free list.
-fn say_top(top: i32) {
-    let Link::To(buffer) = read_link(top) else {
-        say(b", none free\n");
-        return;
-    };
-    say_number(b", top ", buffer as u64);
-    say(b"\n");
-}
+#[derive(Clone, Copy)]
+pub(crate) struct Top(pub(crate) i32);
 
-pub(crate) fn say_written(end: WrittenEnd) {
-    let control = end.control;
-    let answer = end.answer;
-    match answer {
-        Written::Pages(n) => say_number(b", pages ", n),
-        Written::Refused(k) => say_number(b", refused ", k as u64),
+impl fmt::Display for Top {
+    fn fmt<W: fmt::Write>(&self, f: &mut fmt::Formatter<W>) -> fmt::Result {
+        match Link::from(self.0) {
+            Link::To(buffer) => write!(f, "top {buffer}"),
+            _ => write!(f, "none free"),
+        }
     }
-    say_log(control);
 }
 
 // The log's positions.
-pub(crate) fn say_log(control: Control) {
-    say_number(b", inserted ", control.inserted);
-    say_number(b", flushed ", control.flushed);
-    say(b"\n");
+#[derive(Clone, Copy)]
+pub(crate) struct Log(pub(crate) Control);
+
+impl fmt::Display for Log {
+    fn fmt<W: fmt::Write>(&self, f: &mut fmt::Formatter<W>) -> fmt::Result {
+        write!(
+            f,
+            "inserted {}, flushed {}",
+            self.0.inserted, self.0.flushed
+        )
+    }
 }
 
 // How many bytes a part has, and the three that are written here.
-pub(crate) fn say_part(part: &[u8]) {
-    say_number(b": bytes ", part.len() as u64);
-    if part.len() > 12 {
-        say_byte(b", from 10 on ", part[10]);
-        say_byte(b" ", part[11]);
-        say_byte(b" ", part[12]);
+#[derive(Clone, Copy)]
+pub(crate) struct Part<'a>(pub(crate) &'a [u8]);
+
+impl fmt::Display for Part<'_> {
+    fn fmt<W: fmt::Write>(&self, f: &mut fmt::Formatter<W>) -> fmt::Result {
+        let part = self.0;
+        write!(f, "bytes {}", part.len())?;
+        if part.len() > 12 {
+            write!(f, ", from 10 on {} {} {}", part[10], part[11], part[12])?;
+        }
+        Ok(())
     }
-    say(b"\n");
 }

@@ -3,7 +3,6 @@
 ghost use Rattle.std.specs.Prelude.{◌≡◌, ◌<◌};
 
 use crate::bench::Bench;
-use crate::text::{say, say_number};
 use bufmem::counts::count_of;
 use bufmem::word::{flags_of, pack_word, pins_of, usage_of};
 use bufmodel::holder::Holder;
@@ -16,58 +15,31 @@ fn packed(w: u32) -> u32
     pack_word(pins_of(w), usage_of(w), flags_of(w))
 }
 
-fn say_hex(text: &[u8], w: u32) {
-    say(text);
-    io::print_hex(1, w as u64, 8);
-}
-
-// The word of a buffer, its fields, and the word that they make.
-pub(crate) fn say_word(bench: Bench, buffer: usize)
-    requires { buffer < 3 }
-{
-    let states = bench.states;
-    let w = states[buffer];
-    say_number(b"buffer ", buffer as u64);
-    say_hex(b": word 0x", w);
-    say_number(b", pins ", pins_of(w) as u64);
-    say_number(b", usage ", usage_of(w) as u64);
-    say_number(b", flags ", flags_of(w) as u64);
-    say_hex(b", packed 0x", packed(w));
-    say(b"\n");
-}
-
-// How many pins a holder has on a buffer.
-fn say_count(counts: &[u16], holder: usize, buffer: usize)
-    requires { (holder < 64) × (buffer < 3) }
-{
-    if buffer * 64 + holder < counts.len() {
-        say_number(
-            b" ",
-            count_of(counts, Holder(holder), BufferNumber(buffer)) as u64,
+impl Bench {
+    // The word of a buffer, its fields, and the word that they make.
+    pub(crate) fn print_word(&self, rt: &impl Print, buffer: usize)
+        requires { buffer < 3 }
+    {
+        let w = self.states[buffer];
+        let pins = pins_of(w);
+        let usage = usage_of(w);
+        let flags = flags_of(w);
+        let _ = print!(rt;
+            "buffer {buffer}: word 0x{w:08x}, pins {pins}, usage {usage}, flags {flags}"
         );
+        let _ = println!(rt; ", packed 0x{:08x}", packed(w));
     }
-}
 
-// Of the first six holders, and of the last.
-fn say_row(counts: &[u16], buffer: usize)
-    requires { buffer < 3 }
-{
-    say_number(b"buffer ", buffer as u64);
-    say(b": counts");
-    say_count(counts, 0, buffer);
-    say_count(counts, 1, buffer);
-    say_count(counts, 2, buffer);
-    say_count(counts, 3, buffer);
-    say_count(counts, 4, buffer);
-    say_count(counts, 5, buffer);
-    say(b" ..");
-    say_count(counts, 63, buffer);
-    say(b"\n");
-}
-
-pub(crate) fn say_counts(bench: Bench, buffer: usize)
-    requires { buffer < 3 }
-{
-    let counts = bench.counts;
-    say_row(&counts, buffer);
+    // How many pins the first six holders have on a buffer, and the last.
+    pub(crate) fn print_counts(&self, rt: &impl Print, buffer: usize)
+        requires { buffer < 3 }
+    {
+        let _ = print!(rt; "buffer {buffer}: counts");
+        for holder in 0..6 {
+            let count = count_of(&self.counts, Holder(holder), BufferNumber(buffer));
+            let _ = print!(rt; " {count}");
+        }
+        let last = count_of(&self.counts, Holder(63), BufferNumber(buffer));
+        let _ = println!(rt; " .. {last}");
+    }
 }

@@ -12,8 +12,8 @@ use Rattle.laws.specs.First.{Found, found, missing}
 use Rattle.laws.specs.Block.{block}
 use Rattle.buftag.specs.declared.link.Link.{Link}
 use Rattle.buftag.specs.declared.link.Link.TheVariants.{To, End, Off, Bad}
-use Rattle.buftag.specs.declared.lookup.Held.{Held}
-use Rattle.buftag.specs.declared.lookup.Held.TheVariants.{At, Nowhere}
+use Rattle.buftag.specs.Lookup.{Held}
+use Rattle.std.specs.Prelude.{Some, None}
 use Rattle.buftag.specs.declared.name.FileName.{FileName}
 use Rattle.buftag.specs.declared.name.PageName.{PageName}
 use Rattle.buftag.specs.Link.{link_of}
@@ -128,8 +128,8 @@ module _ (m : Memory) where
     -- a pin of a page that is not held: some buffer is unpinned, so a sweep finds a victim
     pin-accepted : Good m → refusal_of (pin_places m h n) ≡ 0 → (x : Held) → held_in m n ≡ x → (pin_to m h n x).refusal ≡ 0
     unfolding pin_to pin_held
-    pin-accepted g z (At b) e = refl
-    pin-accepted g z Nowhere e =
+    pin-accepted g z (Some b) e = refl
+    pin-accepted g z None e =
         new-accepted (pin-victim m h n z g e).1 (link_of m.control.top)
 
   accepted : Good m → (c : Call) → refusal_of (own_places m c) ≡ 0 → (does m c).refusal ≡ 0
@@ -164,19 +164,19 @@ module _ (m : Memory) where
 
   sum-wrong : (n : PageName) (f : Found) (h : Held) → sum_differs m n f h ≡ sum_wrong m n f h
   unfolding sum_differs sum_wrong
-  sum-wrong n (found g) (At b) = refl
-  sum-wrong n (found g) Nowhere = sym (fails-not n.block.0 (block (size m) g m.store))
+  sum-wrong n (found g) (Some b) = refl
+  sum-wrong n (found g) None = sym (fails-not n.block.0 (block (size m) g m.store))
   sum-wrong n missing h = refl
 
   pins-full : (h : ℕ) (x : Held) → count_full m h x ≡ pins_full m h x
   unfolding count_full pins_full count_at
-  pins-full h (At b) = refl
-  pins-full h Nowhere = refl
+  pins-full h (Some b) = refl
+  pins-full h None = refl
 
   all-pinned : (h : Held) → no_victim m h ≡ all_pinned m h
   unfolding no_victim all_pinned pinned pins
-  all-pinned (At b) = refl
-  all-pinned Nowhere = refl
+  all-pinned (Some b) = refl
+  all-pinned None = refl
 
   row-full : (r : Found) → file_full m.rows r ≡ row_full m r
   unfolding file_full row_full
@@ -252,8 +252,8 @@ module _ (m : Memory) where
 
     pin-refused : (x : Held) → (pin_to m o n x).refusal ≢ 0 → pin_to m o n x ≡ refused (pin_to m o n x).refusal [] m
     unfolding pin_to pin_held
-    pin-refused (At b) h = absurd (h refl)
-    pin-refused Nowhere h = new-refused (link_of m.control.top) h
+    pin-refused (Some b) h = absurd (h refl)
+    pin-refused None h = new-refused (link_of m.control.top) h
 
   does-refused : (c : Call) → (does m c).refusal ≢ 0 → does m c ≡ refused (does m c).refusal (own c) m
   does-refused (Pin o n) h = pin-refused o n (held_in m n) h

@@ -9,8 +9,8 @@ use Rattle.laws.specs.First.{Found, found}
 use Rattle.laws.proofs.Tests.{and-true}
 use Rattle.laws.proofs.Every.{all_of}
 use Rattle.buftag.specs.declared.link.Link.{Link}
-use Rattle.buftag.specs.declared.lookup.Held.{Held}
-use Rattle.buftag.specs.declared.lookup.Held.TheVariants.{At, Nowhere}
+use Rattle.buftag.specs.Lookup.{Held}
+use Rattle.std.specs.Prelude.{Some, None}
 use Rattle.buftag.specs.declared.name.PageName.{PageName}
 use Rattle.bufmodel.specs.Memory.{Memory}
 use Rattle.bufmodel.specs.Rows.{place_of}
@@ -114,8 +114,8 @@ module _ (cap many : ℕ) (m : Memory) (o : Outcome) where
 
   peek-pass : (n : PageName) (x : Held) → held_in m n ≡ x → Peeks m n o → peek_test cap many m o.answer n x ≡ true
   unfolding peek_test
-  peek-pass n (At b) e h = same-list (h.in_pool b e)
-  peek-pass n Nowhere e h = if-place _ _ (λ g q. same-list (h.in_store g e q))
+  peek-pass n (Some b) e h = same-list (h.in_pool b e)
+  peek-pass n None e h = if-place _ _ (λ g q. same-list (h.in_store g e q))
 
   -- ---- every call
   module _ (z : o.refusal ≡ 0) where

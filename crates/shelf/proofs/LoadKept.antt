@@ -9,7 +9,7 @@ use Rattle.laws.specs.First.{found, missing}
 use Rattle.laws.specs.Block.{block}
 use Rattle.laws.proofs.Tests.{eq-or-ne, never}
 use Rattle.buftag.specs.declared.link.Link.TheVariants.{To}
-use Rattle.buftag.specs.declared.lookup.Held.TheVariants.{Nowhere}
+use Rattle.std.specs.Prelude.{None}
 use Rattle.buftag.specs.declared.name.PageName.{PageName}
 use Rattle.buftag.specs.Link.{link_of}
 use Rattle.bufmodel.specs.Checksum.{bare}
@@ -47,7 +47,7 @@ view_load v o i g =
     }
 
 module _ (m : Memory) (v : View) (k : Kept m v) (o : ℕ) (few : o < max_holders) (n : PageName) (i g : ℕ)
-    (top : link_of m.control.top ≡ To i) (place : place_of m.rows n ≡ found g) (new : held_in m n ≡ Nowhere)
+    (top : link_of m.control.top ≡ To i) (place : place_of m.rows n ≡ found g) (new : held_in m n ≡ None)
     (fine : v.bad g ≡ false) where
   abbrev after : Memory
   after = loaded_for m o n i g

@@ -10,8 +10,8 @@ use Rattle.laws.specs.First.{Found, found, missing}
 use Rattle.laws.proofs.Tests.{lt-or-le}
 use Rattle.laws.proofs.First.{found-missing}
 use Rattle.laws.proofs.Every.{all-at, all-false-at}
-use Rattle.buftag.specs.declared.lookup.Held.{Held}
-use Rattle.buftag.specs.declared.lookup.Held.TheVariants.{At, Nowhere}
+use Rattle.buftag.specs.Lookup.{Held}
+use Rattle.std.specs.Prelude.{Some, None}
 use Rattle.buftag.specs.declared.name.PageName.{PageName}
 use Rattle.bufmodel.specs.Word.{pinned}
 use Rattle.bufmodel.specs.Rows.{blocks_at, row_of, place_of}
@@ -109,15 +109,15 @@ module _ (m : Memory) (o : ℕ) (n : PageName) where
       ∙ (past-place 17 _ (last_places m o (held_in m n)) (name-found m.rows n _ (past-place 19 _ _ e who).1 three four).2 sum).1
 
   -- 6: the page is not held, and every buffer is pinned
-  pub pin-stuck : refusal_of (pin_places m o n) ≡ 6 → (held_in m n ≡ Nowhere) × ((i : ℕ) → i < buffers m → pinned (word_of m i) ≡ true)
+  pub pin-stuck : refusal_of (pin_places m o n) ≡ 6 → (held_in m n ≡ None) × ((i : ℕ) → i < buffers m → pinned (word_of m i) ≡ true)
   unfolding no_victim
   pin-stuck e = go (held_in m n) refl
     where
-      go : (h : Held) → held_in m n ≡ h → (held_in m n ≡ Nowhere) × ((i : ℕ) → i < buffers m → pinned (word_of m i) ≡ true)
-      go (At b) q =
-          absurd (false≢true (last-six _ _ (pin-last (At b) q e (omega arith) (omega arith) (omega arith) (omega arith))).1)
-      go Nowhere q =
-          let six = (last-six _ _ (pin-last Nowhere q e (omega arith) (omega arith) (omega arith) (omega arith))).1 in
+      go : (h : Held) → held_in m n ≡ h → (held_in m n ≡ None) × ((i : ℕ) → i < buffers m → pinned (word_of m i) ≡ true)
+      go (Some b) q =
+          absurd (false≢true (last-six _ _ (pin-last (Some b) q e (omega arith) (omega arith) (omega arith) (omega arith))).1)
+      go None q =
+          let six = (last-six _ _ (pin-last None q e (omega arith) (omega arith) (omega arith) (omega arith))).1 in
           (q, all-at (λ i. pinned (word_of m i)) (buffers m) six)
 
 -- ---- an accepted pin
@@ -132,15 +132,15 @@ module _ (m : Memory) (o : ℕ) (n : PageName) (z : refusal_of (pin_places m o n
   pin-place = pin-found m o n z (omega arith) (omega arith) (omega arith)
 
   -- not held: some buffer is unpinned
-  pub pin-open : held_in m n ≡ Nowhere → (i : ℕ) × (i < buffers m) × (pinned (word_of m i) ≡ false)
+  pub pin-open : held_in m n ≡ None → (i : ℕ) × (i < buffers m) × (pinned (word_of m i) ≡ false)
   unfolding no_victim
   pin-open e =
-      let last = pin-last m o n Nowhere e z (omega arith) (omega arith) (omega arith) (omega arith) in
+      let last = pin-last m o n None e z (omega arith) (omega arith) (omega arith) (omega arith) in
       let later = (refusal-passed 5 _ _ (omega arith) last).1 in
       all-false-at (λ i. pinned (word_of m i)) (buffers m) (refusal-passed 6 _ [] (omega arith) later).0
 
   -- so the sweep finds a victim
-  pub pin-victim : Good m → held_in m n ≡ Nowhere → (v : ℕ) × ((sweep_all (cap_of m) m.states m.control.hand).victim ≡ found v)
+  pub pin-victim : Good m → held_in m n ≡ None → (v : ℕ) × ((sweep_all (cap_of m) m.states m.control.hand).victim ≡ found v)
   pin-victim g e =
       let u = pin-open e in
       let f = sweep-finds (cap_of m) m.states m.control.hand g.books.hand u.0 u.1 u.2 (few-used m g.books) in

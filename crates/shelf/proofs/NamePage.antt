@@ -4,8 +4,8 @@ use mathlib.Core.Path.{◌≡◌, refl, ap, ◌∙◌}
 use mathlib.Core.List.{List, ◌∷◌}
 use native.Mathlib.Omega.{arith}
 use Rattle.laws.specs.First.{Found, found, missing}
-use Rattle.buftag.specs.declared.lookup.Held.{Held}
-use Rattle.buftag.specs.declared.lookup.Held.TheVariants.{At, Nowhere}
+use Rattle.buftag.specs.Lookup.{Held}
+use Rattle.std.specs.Prelude.{Some, None}
 use Rattle.buftag.specs.declared.number.BufferNumber.{BufferNumber}
 use Rattle.buftag.specs.declared.name.PageName.{PageName}
 use Rattle.bufmodel.specs.Rows.{row_of, place_of}
@@ -51,19 +51,19 @@ names_same s n ps qs e = go (row_of s.rows n.file)
 -- ---- which buffer has the page
 module _ (m : Memory) (k : Good m) (n : PageName) (g : ℕ) (e : place_of m.rows n ≡ found g) where
   -- the one that the look-up names
-  pub held-has : (b : BufferNumber) → held_in m n ≡ At b → Has m b.0 g
+  pub held-has : (b : BufferNumber) → held_in m n ≡ Some b → Has m b.0 g
   held-has b h =
       let p = held_at m n b h in
       record { below = p.0; full = p.1; place = ap (place_of m.rows) p.2 ∙ e }
 
   -- none, where it names none
-  pub held-nobody : held_in m n ≡ Nowhere → Nobody m g
+  pub held-nobody : held_in m n ≡ None → Nobody m g
   held-nobody h i x = held_none m n h i x.full (place_same m.rows k.sizes.rows (name_of m i) n x.place e)
 
   -- and it names none, where none has it
-  pub nobody-held : Nobody m g → held_in m n ≡ Nowhere
+  pub nobody-held : Nobody m g → held_in m n ≡ None
   nobody-held none = go (held_in m n) refl
     where
-      go : (h : Held) → held_in m n ≡ h → h ≡ Nowhere
-      go (At b) q = absurd (none b.0 (held-has b q))
-      go Nowhere q = refl
+      go : (h : Held) → held_in m n ≡ h → h ≡ None
+      go (Some b) q = absurd (none b.0 (held-has b q))
+      go None q = refl

@@ -10,8 +10,8 @@ use Rattle.laws.specs.First.{Found, found}
 use Rattle.laws.proofs.First.{found-same}
 use Rattle.buftag.specs.declared.link.Link.{Link}
 use Rattle.buftag.specs.declared.link.Link.TheVariants.{To, End}
-use Rattle.buftag.specs.declared.lookup.Held.{Held}
-use Rattle.buftag.specs.declared.lookup.Held.TheVariants.{At, Nowhere}
+use Rattle.buftag.specs.Lookup.{Held}
+use Rattle.std.specs.Prelude.{Some, None}
 use Rattle.buftag.specs.declared.number.BufferNumber.{BufferNumber}
 use Rattle.buftag.specs.declared.name.PageName.{PageName}
 use Rattle.bufmodel.specs.Memory.{Memory, word_of, page_of}
@@ -73,13 +73,13 @@ chosen {m} {o'} answer rest e a a' k k' =
     same_left (a ∙ ap answer e ∙ sym a') k (subst (λ y. LeavesIt m o' (rest y)) (sym e) k')
 
 -- ---- a pin
-held-clash : {A : Type 0} {h : Held} {b : BufferNumber} → h ≡ At b → h ≡ Nowhere → A
+held-clash : {A : Type 0} {h : Held} {b : BufferNumber} → h ≡ Some b → h ≡ None → A
 held-clash e f = absurd (let z : ◌≡◌ {A = ℕ} 0 1 = cc in omega arith)
 
 link-clash : {A : Type 0} {l : Link} {i : ℕ} → l ≡ To i → l ≡ End → A
 link-clash e f = absurd (let z : ◌≡◌ {A = ℕ} 0 1 = cc in omega arith)
 
-same_at : {h : Held} {b c : BufferNumber} → h ≡ At b → h ≡ At c → b ≡ c
+same_at : {h : Held} {b c : BufferNumber} → h ≡ Some b → h ≡ Some c → b ≡ c
 same_at e f = cc
 
 same-to : {l : Link} {i j : ℕ} → l ≡ To i → l ≡ To j → i ≡ j
@@ -153,8 +153,8 @@ module _ {m : Memory} {n : PageName} {o o' : Outcome} {g : ℕ} (e : place_of m.
   same-peek p p' = go (held_in m n) refl
     where
       go : (h : Held) → held_in m n ≡ h → o.answer ≡ o'.answer
-      go (At b) q = p.in_pool b q ∙ sym (p'.in_pool b q)
-      go Nowhere q = p.in_store g q e ∙ sym (p'.in_store g q e)
+      go (Some b) q = p.in_pool b q ∙ sym (p'.in_pool b q)
+      go None q = p.in_store g q e ∙ sym (p'.in_store g q e)
 
 -- ---- every call
 -- an answer of one word is decided by that word

@@ -5,8 +5,8 @@ use mathlib.Core.Bool.{false}
 use mathlib.Core.List.{List}
 use native.Mathlib.Omega.{arith}
 use Rattle.laws.specs.First.{Found, found, missing}
-use Rattle.buftag.specs.declared.lookup.Held.{Held}
-use Rattle.buftag.specs.declared.lookup.Held.TheVariants.{At, Nowhere}
+use Rattle.buftag.specs.Lookup.{Held}
+use Rattle.std.specs.Prelude.{Some, None}
 use Rattle.buftag.specs.declared.name.PageName.{PageName}
 use Rattle.bufmodel.specs.Rows.{place_of}
 use Rattle.bufmodel.specs.Memory.{Memory}
@@ -23,8 +23,8 @@ module _ (m : Memory) (v : View) (k : Kept m v) (n : PageName) where
   -- the two tests are one
   sum-bad : (f : Found) → place_of m.rows n ≡ f → (h : Held) → held_in m n ≡ h → sum_differs m n f h ≡ is_bad (shelf_of m v) f
   unfolding sum_differs is_bad
-  sum-bad (found g) e (At b) q = sym (k.same b.0 g (held-has m k.good n g e b q)).fine
-  sum-bad (found g) e Nowhere q = sym (k.passed n g e)
+  sum-bad (found g) e (Some b) q = sym (k.same b.0 g (held-has m k.good n g e b q)).fine
+  sum-bad (found g) e None q = sym (k.passed n g e)
   sum-bad missing e h q = refl
 
   page-bad : sum_differs m n (place_of m.rows n) (held_in m n) ≡ is_bad (shelf_of m v) (place_of m.rows n)

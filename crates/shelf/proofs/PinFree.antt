@@ -6,7 +6,7 @@ use mathlib.Core.List.{List, [], ◌∷◌}
 use Rattle.laws.specs.First.{found}
 use Rattle.laws.proofs.Tests.{never}
 use Rattle.buftag.specs.declared.link.Link.TheVariants.{To}
-use Rattle.buftag.specs.declared.lookup.Held.TheVariants.{Nowhere}
+use Rattle.std.specs.Prelude.{None}
 use Rattle.buftag.specs.declared.name.PageName.{PageName}
 use Rattle.buftag.specs.Link.{link_of}
 use Rattle.bufmodel.specs.Rows.{store_blocks, place_of}
@@ -27,7 +27,7 @@ use Rattle.shelf.proofs.NamePage.{held-nobody}
 use Rattle.shelf.proofs.LoadKept.{kept-load}
 use Rattle.shelf.proofs.PinAccepted.{PinAccepted, new-rule, pin-accepted}
 
-module _ (m : Memory) (v : View) (k : Kept m v) (o : ℕ) (few : o < max_holders) (n : PageName) (i g : ℕ) (new : held_in m n ≡ Nowhere)
+module _ (m : Memory) (v : View) (k : Kept m v) (o : ℕ) (few : o < max_holders) (n : PageName) (i g : ℕ) (new : held_in m n ≡ None)
     (top : link_of m.control.top ≡ To i) (place : place_of m.rows n ≡ found g) (fine : v.bad g ≡ false) where
   abbrev answer : List ℕ
   answer = i ∷ 0 ∷ 0 ∷ 0 ∷ []

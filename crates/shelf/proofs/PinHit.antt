@@ -11,7 +11,7 @@ use Rattle.laws.specs.Sum.{ind}
 use Rattle.laws.specs.First.{found, missing}
 use Rattle.laws.proofs.Tests.{never}
 use Rattle.laws.proofs.Sum.{ind-one}
-use Rattle.buftag.specs.declared.lookup.Held.TheVariants.{At}
+use Rattle.std.specs.Prelude.{Some}
 use Rattle.buftag.specs.declared.name.PageName.{PageName}
 use Rattle.buftag.specs.declared.number.BufferNumber.{BufferNumber}
 use Rattle.bufmodel.specs.Word.{pins, pinned}
@@ -38,7 +38,7 @@ use Rattle.shelf.proofs.MemoryPlaces.{pin-holder, pin-place}
 use Rattle.shelf.proofs.PinPlaces.{pin-number}
 use Rattle.shelf.proofs.PinAccepted.{pin-accepted}
 
-module _ (m : Memory) (v : View) (k : Kept m v) (o : ℕ) (n : PageName) (b : BufferNumber) (e : held_in m n ≡ At b)
+module _ (m : Memory) (v : View) (k : Kept m v) (o : ℕ) (n : PageName) (b : BufferNumber) (e : held_in m n ≡ Some b)
     (z : refusal_of (pin_places m o n) ≡ 0) where
   -- the answer, the word, the holder's count, and the place of the page
   abbrev answer : List ℕ

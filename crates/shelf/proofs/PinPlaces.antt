@@ -10,8 +10,8 @@ use borrow.Author.Tests.{le-leb, lt-leb}
 use Rattle.laws.specs.First.{Found, found}
 use Rattle.laws.proofs.Tests.{lt-or-le, true-or-false}
 use Rattle.laws.proofs.Every.{all-fails}
-use Rattle.buftag.specs.declared.lookup.Held.{Held}
-use Rattle.buftag.specs.declared.lookup.Held.TheVariants.{At, Nowhere}
+use Rattle.buftag.specs.Lookup.{Held}
+use Rattle.std.specs.Prelude.{Some, None}
 use Rattle.buftag.specs.declared.name.PageName.{PageName}
 use Rattle.bufmodel.specs.Word.{pinned}
 use Rattle.bufmodel.specs.Rows.{place_of}
@@ -58,7 +58,7 @@ module _ (m : Memory) (v : View) (k : Kept m v) where
   unfolding count_full
   full-nobody o g few x = ap (λ (c : ℕ). eqb c max_count) (k.unpinned g x o few)
 
-  six-nobody : (g : ℕ) → Nobody m g → no_buffer (shelf_of m v) (found g) ≡ no_victim m Nowhere
+  six-nobody : (g : ℕ) → Nobody m g → no_buffer (shelf_of m v) (found g) ≡ no_victim m None
   unfolding no_buffer
   six-nobody g x =
       ap (λ (t : Bool). not t && eqb (pinned_pages (shelf_of m v)) (buffers m)) (pins-nobody m v k g x) ∙ sym (no-victim m v k)
@@ -66,10 +66,10 @@ module _ (m : Memory) (v : View) (k : Kept m v) where
   tests_same : (o : ℕ) → o < max_holders → (n : PageName) (g : ℕ) → place_of m.rows n ≡ found g → (h : Held) → held_in m n ≡ h
       → refusal_of (last_places m o h) ≡ refusal_of (shelf_places (shelf_of m v) o (found g))
   unfolding pin.count_full no_victim
-  tests_same o few n g e (At b) q =
+  tests_same o few n g e (Some b) q =
       let h = held-has m k.good n g e b q in
       refusal-same 5 _ _ (sym (full-has o b.0 g few h)) (refusal-same 6 [] [] (sym (six-has b.0 g h)) refl)
-  tests_same o few n g e Nowhere q =
+  tests_same o few n g e None q =
       let x = held-nobody m k.good n g e q in
       refusal-same 5 _ _ (sym (full-nobody o g few x)) (refusal-same 6 [] [] (sym (six-nobody g x)) refl)
 

@@ -10,7 +10,7 @@ use Rattle.laws.specs.Block.{block}
 use Rattle.laws.proofs.First.{found-same}
 use Rattle.laws.proofs.Tests.{and_right}
 use Rattle.buftag.specs.declared.link.Link.TheVariants.{End}
-use Rattle.buftag.specs.declared.lookup.Held.TheVariants.{Nowhere}
+use Rattle.std.specs.Prelude.{None}
 use Rattle.buftag.specs.declared.name.PageName.{PageName}
 use Rattle.buftag.specs.Link.{link_of}
 use Rattle.bufmodel.specs.Word.{pinned, dirty}
@@ -71,7 +71,7 @@ module _ (m : Memory) (v : View) (k : Kept m v) (w h : ℕ) (own : Has m w h) (f
       (nobody-held (release m w) released.good n g released-place (λ i x. none i (has-release m w own.below i g x).1)) fine
 
 -- ---- the victim
-module _ (m : Memory) (v : View) (k : Kept m v) (o : ℕ) (few : o < max_holders) (n : PageName) (w g : ℕ) (new : held_in m n ≡ Nowhere)
+module _ (m : Memory) (v : View) (k : Kept m v) (o : ℕ) (few : o < max_holders) (n : PageName) (w g : ℕ) (new : held_in m n ≡ None)
     (top : link_of m.control.top ≡ End) (place : place_of m.rows n ≡ found g) (fine : v.bad g ≡ false) where
   abbrev s : Swept
   s = sweep_of m

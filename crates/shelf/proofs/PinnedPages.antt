@@ -10,7 +10,7 @@ use Rattle.laws.specs.Sum.{ind, count}
 use Rattle.laws.specs.First.{Found, found, missing}
 use Rattle.laws.proofs.Tests.{and_left, and_right, and-true, same_tests}
 use Rattle.laws.proofs.Sum.{sum_same, ind-none, count-parts, count-only, count-nobody, count-all}
-use Rattle.buftag.specs.declared.lookup.Held.TheVariants.{Nowhere}
+use Rattle.std.specs.Prelude.{None}
 use Rattle.bufmodel.specs.Word.{pinned}
 use Rattle.bufmodel.specs.Rows.{store_blocks, place_of}
 use Rattle.bufmodel.specs.Memory.{Memory, buffers, word_of, name_of}
@@ -87,6 +87,6 @@ module _ (m : Memory) where
       (λ h. eq-eqb _ _ (pinned_count m v k ∙ all-pinned.1 h))
 
   -- and so 6 is refused to a page that is not held
-  pub no-victim : (v : View) → Kept m v → no_victim m Nowhere ≡ eqb (pinned_pages (shelf_of m v)) (buffers m)
+  pub no-victim : (v : View) → Kept m v → no_victim m None ≡ eqb (pinned_pages (shelf_of m v)) (buffers m)
   unfolding no_victim
   no-victim v k = sym (pages-full v k)

@@ -11,7 +11,7 @@ use borrow.Author.Tests.{eq-eqb, ne_eqb, eqb-false, leb-false, ltb-false}
 use Rattle.laws.specs.First.{Found, found, missing}
 use Rattle.laws.proofs.Tests.{eq-or-ne, or-neither}
 use Rattle.laws.proofs.Block.{length-block}
-use Rattle.buftag.specs.declared.lookup.Held.{Held}
+use Rattle.buftag.specs.Lookup.{Held}
 use Rattle.buftag.specs.declared.name.FileName.{FileName}
 use Rattle.buftag.specs.declared.name.PageName.{PageName}
 use Rattle.bufmodel.specs.Word.{pins, dirty}

@@ -14,8 +14,8 @@ use Rattle.laws.proofs.Tests.{eq-or-ne}
 use Rattle.laws.proofs.Block.{length-block}
 use Rattle.buftag.specs.declared.link.Link.{Link}
 use Rattle.buftag.specs.declared.link.Link.TheVariants.{To, End}
-use Rattle.buftag.specs.declared.lookup.Held.{Held}
-use Rattle.buftag.specs.declared.lookup.Held.TheVariants.{At, Nowhere}
+use Rattle.buftag.specs.Lookup.{Held}
+use Rattle.std.specs.Prelude.{Some, None}
 use Rattle.buftag.specs.declared.name.PageName.{PageName}
 use Rattle.buftag.specs.declared.number.BufferNumber.{BufferNumber}
 use Rattle.buftag.specs.Name.{bucket_of}
@@ -87,7 +87,7 @@ module _ (m : Memory) (k : Good m) (h : ℕ) (n : PageName) where
       (eq-or-ne i 6)
 
   -- ---- held
-  hit-sought : h < 64 → (b : BufferNumber) → held_in m n ≡ At b → Sought m h n (cap_of m) (buffers m) (pin_held m h b.0)
+  hit-sought : h < 64 → (b : BufferNumber) → held_in m n ≡ Some b → Sought m h n (cap_of m) (buffers m) (pin_held m h b.0)
   unfolding pin_held count_at
   hit-sought few b e =
       let c = counts_by m h b.0 in
@@ -101,7 +101,7 @@ module _ (m : Memory) (k : Good m) (h : ℕ) (n : PageName) where
       }
 
   -- ---- not held, and the page is at place g
-  module _ (few : h < 64) (new : held_in m n ≡ Nowhere) (g : ℕ) (place : place_of m.rows n ≡ found g) where
+  module _ (few : h < 64) (new : held_in m n ≡ None) (g : ℕ) (place : place_of m.rows n ≡ found g) where
     -- the page's bucket and block
     in-heads : bucket_of n (length m.heads) < length m.heads
     in-heads = bucket-lt n (length m.heads) (omega (arith, k.sizes.least, k.sizes.wide))
@@ -258,7 +258,7 @@ module _ (m : Memory) (k : Good m) (h : ℕ) (n : PageName) where
     abbrev page : (g : ℕ) × (place_of m.rows n ≡ found g)
     page = pin-place m h n z
 
-    module _ (new : held_in m n ≡ Nowhere) where
+    module _ (new : held_in m n ≡ None) where
       -- some buffer is unpinned, so a sweep finds a victim
       swept-sought : link_of m.control.top ≡ End
           → Sought m h n (cap_of m) (buffers m) (pin_swept m h n (sweep_all (cap_of m) m.states m.control.hand))
@@ -285,8 +285,8 @@ module _ (m : Memory) (k : Good m) (h : ℕ) (n : PageName) where
     accepted-sought = go (held_in m n) refl
       where
         go : (x : Held) → held_in m n ≡ x → Sought m h n (cap_of m) (buffers m) (pin_to m h n x)
-        go (At b) e = hit-sought (pin-holder m h n z) b e
-        go Nowhere e = new-sought e
+        go (Some b) e = hit-sought (pin-holder m h n z) b e
+        go None e = new-sought e
 
   -- ---- refused or accepted
   pub pin-sought : Sought m h n (cap_of m) (buffers m) (step m (Pin h n))

@@ -8,7 +8,7 @@ use lib.ListN.{length}
 use lib.Dec.{eqb}
 use borrow.Author.Tests.{ne_eqb}
 use Rattle.laws.proofs.Tests.{and_left, and_right}
-use Rattle.buftag.specs.declared.lookup.Held.TheVariants.{Nowhere}
+use Rattle.std.specs.Prelude.{None}
 use Rattle.bufmodel.specs.Rows.{place_of}
 use Rattle.bufmodel.specs.Memory.{Memory, with_store, with_hand}
 use Rattle.bufmodel.specs.Sizes.{sized_for}
@@ -219,7 +219,7 @@ moves-unseen c m own answer =
 -- is of any lent memory, shuts them out
 abbrev pub verifies_held : Pool
 verifies_held =
-    pins (λ m c o. let bad = refused 17 [] m in cond (sum_differs m c.page (place_of m.rows c.page) Nowhere) bad o)
+    pins (λ m c o. let bad = refused 17 [] m in cond (sum_differs m c.page (place_of m.rows c.page) None) bad o)
 
 -- the page of stock is pinned, and its block in the store is bad
 abbrev holding : Lent

@@ -5,8 +5,8 @@ use mathlib.Core.Bool.{false}
 use mathlib.Core.List.{List, []}
 use Rattle.laws.specs.First.{found}
 use Rattle.laws.specs.Block.{block}
-use Rattle.buftag.specs.declared.lookup.Held.{Held}
-use Rattle.buftag.specs.declared.lookup.Held.TheVariants.{At, Nowhere}
+use Rattle.buftag.specs.Lookup.{Held}
+use Rattle.std.specs.Prelude.{Some, None}
 use Rattle.buftag.specs.declared.name.PageName.{PageName}
 use Rattle.bufmodel.specs.Checksum.{bare}
 use Rattle.bufmodel.specs.Rows.{place_of}
@@ -28,7 +28,7 @@ use Rattle.shelf.proofs.PagePlaces.{page-number, page-neither, page-passed}
 
 -- the part in the store, where the place is known
 part-store : (m : Memory) (n : PageName) {g : ℕ} → place_of m.rows n ≡ found g
-    → part (done (part_of m n Nowhere) [] m) ≡ block (size m) g m.store
+    → part (done (part_of m n None) [] m) ≡ block (size m) g m.store
 unfolding part_of offset_of part_in part_at part block
 part-store m n e = rw e
 
@@ -46,14 +46,14 @@ module _ (m : Memory) (v : View) (k : Kept m v) (n : PageName) where
   peek-part : (g : ℕ) → place_of m.rows n ≡ found g → (h : Held) → held_in m n ≡ h
       → bare (part (done (part_of m n h) [] m)) ≡ bare (v.bytes g)
   unfolding part_of part_in part_at part block
-  peek-part g e (At b) q = sym (k.same b.0 g (held-has m k.good n g e b q)).bytes
-  peek-part g e Nowhere q = ap bare (part-store m n e) ∙ sym (k.stored n g e (held-nobody m k.good n g e q))
+  peek-part g e (Some b) q = sym (k.same b.0 g (held-has m k.good n g e b q)).bytes
+  peek-part g e None q = ap bare (part-store m n e) ∙ sym (k.stored n g e (held-nobody m k.good n g e q))
 
   -- the answer: which, and an offset
   two-words : (h : Held) → (which offset : ℕ) × (part_of m n h ≡ two which offset)
   unfolding part_of
-  two-words (At b) = (1, _, refl)
-  two-words Nowhere = (0, _, refl)
+  two-words (Some b) = (1, _, refl)
+  two-words None = (0, _, refl)
 
   peek-accepted : refuses (shelf_of m v) (Peek n) ≡ 0 → (g : ℕ) → place_of m.rows n ≡ found g
       → Accepted m v (Peek n) (part_of m n (held_in m n)) [] m

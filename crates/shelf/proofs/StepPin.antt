@@ -7,8 +7,8 @@ use mathlib.Core.List.{[]}
 use Rattle.laws.specs.First.{Found, found}
 use Rattle.buftag.specs.declared.link.Link.{Link}
 use Rattle.buftag.specs.declared.link.Link.TheVariants.{To, End}
-use Rattle.buftag.specs.declared.lookup.Held.{Held}
-use Rattle.buftag.specs.declared.lookup.Held.TheVariants.{At, Nowhere}
+use Rattle.buftag.specs.Lookup.{Held}
+use Rattle.std.specs.Prelude.{Some, None}
 use Rattle.buftag.specs.declared.name.PageName.{PageName}
 use Rattle.buftag.specs.Link.{link_of}
 use Rattle.buftag.specs.declared.number.BufferNumber.{BufferNumber}
@@ -32,7 +32,7 @@ use Rattle.shelf.proofs.PinVictim.{sweep_of, victim-accepted}
 
 module _ (m : Memory) (v : View) (k : Kept m v) (o : ℕ) (n : PageName) (z : refusal_of (pin_places m o n) ≡ 0) where
   -- held
-  held-ended : (b : BufferNumber) → held_in m n ≡ At b → Ended m v (Pin o n) (pin_to m o n (At b))
+  held-ended : (b : BufferNumber) → held_in m n ≡ Some b → Ended m v (Pin o n) (pin_to m o n (Some b))
   unfolding pin_to pin_held
   held-ended b e = accepted-ended m v (Pin o n) _ [] _ (hit-accepted m v k o n b e z)
 
@@ -50,7 +50,7 @@ module _ (m : Memory) (v : View) (k : Kept m v) (o : ℕ) (n : PageName) (z : re
   fine : v.bad place.0 ≡ false
   fine = page-fine m v k n _ (pin-page m o n z) place.0 place.1
 
-  module _ (new : held_in m n ≡ Nowhere) where
+  module _ (new : held_in m n ≡ None) where
     -- from the free list
     free_ended : (i : ℕ) → link_of m.control.top ≡ To i → Ended m v (Pin o n) (pin_free m o n i)
     unfolding pin_free
@@ -87,8 +87,8 @@ module _ (m : Memory) (v : View) (k : Kept m v) (o : ℕ) (n : PageName) (z : re
   pin-ended = go (held_in m n) refl
     where
       go : (h : Held) → held_in m n ≡ h → Ended m v (Pin o n) (pin_to m o n h)
-      go (At b) e = held-ended b e
-      go Nowhere e = new-ended e
+      go (Some b) e = held-ended b e
+      go None e = new-ended e
 
 pub pin-step : (m : Memory) (v : View) → Kept m v → (o : ℕ) (n : PageName) → Ended m v (Pin o n) (step m (Pin o n))
 unfolding step pin

@@ -4,8 +4,8 @@ use Rattle.std.specs.Prelude.{ℕ, ◌+◌, ◌*◌, ◌%◌, ◌≡◌, ◌≢�
 use Rattle.laws.specs.Every.{all, any}
 use Rattle.laws.specs.First.{Found, found, missing}
 use Rattle.laws.specs.Block.{block}
-use Rattle.buftag.specs.declared.lookup.Held.{Held}
-use Rattle.buftag.specs.declared.lookup.Held.TheVariants.{At, Nowhere}
+use Rattle.buftag.specs.Lookup.{Held}
+use Rattle.std.specs.Prelude.{Some, None}
 use Rattle.buftag.specs.declared.name.PageName.{PageName}
 use Rattle.bufmodel.specs.Position.{position}
 use Rattle.bufmodel.specs.Rows.{blocks_at, capacity_at, row_of, place_of}
@@ -52,18 +52,18 @@ module _ (m : Memory) where
 
   -- 17, not held, the block's checksum differs
   unfoldable pub sum_wrong : PageName → Found → Held → Bool
-  sum_wrong n (found g) Nowhere = fails n.block.0 (block (size m) g m.store)
-  sum_wrong n (found g) (At b) = false
+  sum_wrong n (found g) None = fails n.block.0 (block (size m) g m.store)
+  sum_wrong n (found g) (Some b) = false
   sum_wrong n missing h = false
 
   -- 5, held, this holder's count is full; 6, not held, every buffer pinned
   unfoldable pub pins_full : ℕ → Held → Bool
-  pins_full h (At b) = eqb (private_count b.0 h) 65535
-  pins_full h Nowhere = false
+  pins_full h (Some b) = eqb (private_count b.0 h) 65535
+  pins_full h None = false
 
   unfoldable pub all_pinned : Held → Bool
-  all_pinned (At b) = false
-  all_pinned Nowhere = all (buffers m) (λ i. not (eqb (pin_count i) 0))
+  all_pinned (Some b) = false
+  all_pinned None = all (buffers m) (λ i. not (eqb (pin_count i) 0))
 
   -- 13, blocks = capacity
   unfoldable pub row_full : Found → Bool

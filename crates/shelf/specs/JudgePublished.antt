@@ -5,8 +5,8 @@ use Rattle.laws.specs.Sum.{count}
 use Rattle.laws.specs.First.{Found, found, missing}
 use Rattle.buftag.specs.declared.link.Link.{Link}
 use Rattle.buftag.specs.declared.link.Link.TheVariants.{To, End, Off, Bad}
-use Rattle.buftag.specs.declared.lookup.Held.{Held as HeldAt}
-use Rattle.buftag.specs.declared.lookup.Held.TheVariants.{At, Nowhere}
+use Rattle.buftag.specs.Lookup.{Held as HeldAt}
+use Rattle.std.specs.Prelude.{Some, None}
 use Rattle.buftag.specs.declared.name.PageName.{PageName}
 use Rattle.buftag.specs.Link.{link_of}
 use Rattle.bufmodel.specs.Word.{dirty}
@@ -97,11 +97,11 @@ module _ (cap many : ℕ) (m : Memory) where
   new_marks h n Bad = marks_of m
 
   unfoldable pub pin_marks : ℕ → PageName → HeldAt → Marks
-  pin_marks h n (At b) =
+  pin_marks h n (Some b) =
       let i = b.0 in
       let c = counts_by m h i in
       other_pins (with i (cond (eqb c 0) (more_pins cap (word_of m i)) (word_of m i)) (word_of m)) h (with i (c + 1) (counts_by m h))
-  pin_marks h n Nowhere = new_marks h n (link_of m.control.top)
+  pin_marks h n None = new_marks h n (link_of m.control.top)
 
   unfoldable pub marks_after : Call → Marks
   marks_after (Pin h n) = pin_marks h n (held_in m n)
@@ -145,12 +145,12 @@ module _ (cap many : ℕ) (m : Memory) where
   new_blocks Bad = blocks_of m
 
   unfoldable pub pin_pages : PageName → HeldAt → ℕ → List ℕ
-  pin_pages n (At b) = page_of m
-  pin_pages n Nowhere = new_pages n (link_of m.control.top)
+  pin_pages n (Some b) = page_of m
+  pin_pages n None = new_pages n (link_of m.control.top)
 
   unfoldable pub pin_blocks : HeldAt → ℕ → List ℕ
-  pin_blocks (At b) = blocks_of m
-  pin_blocks Nowhere = new_blocks (link_of m.control.top)
+  pin_blocks (Some b) = blocks_of m
+  pin_blocks None = new_blocks (link_of m.control.top)
 
   unfoldable pub pages_after : Call → ℕ → List ℕ
   pages_after (Pin h n) = pin_pages n (held_in m n)
@@ -193,12 +193,12 @@ module _ (cap many : ℕ) (m : Memory) where
     new_test Bad = false
 
     unfoldable pub pin_test : HeldAt → Bool
-    pin_test (At b) = same_list a (b.0 ∷ 1 ∷ 0 ∷ 0 ∷ [])
-    pin_test Nowhere = new_test (link_of m.control.top)
+    pin_test (Some b) = same_list a (b.0 ∷ 1 ∷ 0 ∷ 0 ∷ [])
+    pin_test None = new_test (link_of m.control.top)
 
     unfoldable pub peek_test : PageName → HeldAt → Bool
-    peek_test n (At b) = same_list a (two 1 (b.0 * size m))
-    peek_test n Nowhere = if_place (place_of m.rows n) (λ g. same_list a (two 0 (g * size m)))
+    peek_test n (Some b) = same_list a (two 1 (b.0 * size m))
+    peek_test n None = if_place (place_of m.rows n) (λ g. same_list a (two 0 (g * size m)))
 
     unfoldable pub said_tests : List ℕ → Call → List Test
     said_tests bytes (Pin h n) = test Probes (pin_test (held_in m n)) ∷ []

@@ -6,7 +6,7 @@ use Rattle.laws.specs.Sum.{count}
 use Rattle.laws.specs.First.{found, missing, first}
 use Rattle.laws.specs.Block.{block}
 use Rattle.buftag.specs.declared.link.Link.TheVariants.{To, End, Off, Bad}
-use Rattle.buftag.specs.declared.lookup.Held.TheVariants.{At, Nowhere}
+use Rattle.std.specs.Prelude.{Some, None}
 use Rattle.buftag.specs.declared.number.BufferNumber.{BufferNumber}
 use Rattle.buftag.specs.declared.name.FileName.{FileName}
 use Rattle.buftag.specs.declared.name.PageName.{PageName}
@@ -49,9 +49,9 @@ pub record Numbers : Type 0 where
   -- Bucket = hash modulo B
   pub bucket : (n : PageName) (b : ℕ) → bucket_of n b ≡ hash_of n % b
   -- A look-up answers either the buffer that has the page or that none has
-  pub held : (m : Memory) (n : PageName) (b : BufferNumber) → held_in m n ≡ At b
+  pub held : (m : Memory) (n : PageName) (b : BufferNumber) → held_in m n ≡ Some b
       → (b.0 < length m.states) × (get_or m.states b.0 0 ≢ 0) × (name_at m.names b.0 ≡ n)
-  pub nowhere : (m : Memory) (n : PageName) → held_in m n ≡ Nowhere → (i : ℕ) → get_or m.states i 0 ≢ 0 → name_at m.names i ≢ n
+  pub nowhere : (m : Memory) (n : PageName) → held_in m n ≡ None → (i : ℕ) → get_or m.states i 0 ≢ 0 → name_at m.names i ≢ n
   -- ---- State word
   -- Bits 0 to 17 pin count, 18 to 21 usage count
   pub pin_count : (w : ℕ) → pins w ≡ w % 262144

@@ -6,7 +6,7 @@ use Rattle.laws.specs.Sum.{count}
 use Rattle.laws.specs.First.{Found, found, missing}
 use Rattle.laws.specs.Block.{block}
 use Rattle.buftag.specs.declared.link.Link.TheVariants.{To, End}
-use Rattle.buftag.specs.declared.lookup.Held.TheVariants.{At, Nowhere}
+use Rattle.std.specs.Prelude.{Some, None}
 use Rattle.buftag.specs.declared.number.BufferNumber.{BufferNumber}
 use Rattle.buftag.specs.declared.name.FileName.{FileName}
 use Rattle.buftag.specs.declared.name.PageName.{PageName}
@@ -223,18 +223,18 @@ module _ (m : Memory) where
 
     pub data Probes (cap : ℕ) (o : Outcome) : ℕ → Type 0 where
       -- none on a hit: the buffer that has the page; hit, nothing written
-      hit : {b : BufferNumber} → held_in m n ≡ At b → o.refusal ≡ 0 → o.answer ≡ b.0 ∷ 1 ∷ 0 ∷ 0 ∷ []
+      hit : {b : BufferNumber} → held_in m n ≡ Some b → o.refusal ≡ 0 → o.answer ≡ b.0 ∷ 1 ∷ 0 ∷ 0 ∷ []
           → Hits cap h b.0 o
           → Probes cap o 0
       -- or from the free list: its top; loaded from the store, nothing written
-      free : {i g : ℕ} → held_in m n ≡ Nowhere → link_of m.control.top ≡ To i → o.refusal ≡ 0 → o.answer ≡ i ∷ 0 ∷ 0 ∷ 0 ∷ []
+      free : {i g : ℕ} → held_in m n ≡ None → link_of m.control.top ≡ To i → o.refusal ≡ 0 → o.answer ≡ i ∷ 0 ∷ 0 ∷ 0 ∷ []
           → place_of m.rows n ≡ found g
           → Leaves o (loaded i (marks_of m)) (with i (blocks_of g) (page_of m)) blocks_of
           → Probes cap o 0
       -- or at a refusal before a victim is sought
       early : o.refusal ≢ 0 → o.refusal ≢ 6 → Probes cap o 0
       -- those of a sweep that gave the buffer, and left words and hand; loaded, and written if the victim was dirty
-      taken : {s : Swept} {v g : ℕ} → held_in m n ≡ Nowhere → link_of m.control.top ≡ End → o.refusal ≡ 0
+      taken : {s : Swept} {v g : ℕ} → held_in m n ≡ None → link_of m.control.top ≡ End → o.refusal ≡ 0
           → Sweeps (buffers m) 0 m.control.hand m.states s
           → s.victim ≡ found v
           → o.answer ≡ v ∷ 0 ∷ cond (dirty (word_of m v)) 1 0 ∷ s.probes ∷ []
@@ -243,7 +243,7 @@ module _ (m : Memory) where
           (with v (blocks_of g) (page_of m)) (backed v blocks_of)
           → Probes cap o s.probes
       -- those of a sweep that found all pinned
-      stuck : {s : Swept} → held_in m n ≡ Nowhere → link_of m.control.top ≡ End → o.refusal ≡ 6
+      stuck : {s : Swept} → held_in m n ≡ None → link_of m.control.top ≡ End → o.refusal ≡ 6
           → Sweeps (buffers m) 0 m.control.hand m.states s
           → s.victim ≡ missing
           → Probes cap o s.probes
@@ -260,8 +260,8 @@ module _ (m : Memory) where
   module _ (n : PageName) where
     -- ---- peek: 1 for the pool's page if held, 0 for the store's block, and a byte offset
     pub record Peeks (o : Outcome) : Type 0 where
-      pub in_pool : (b : BufferNumber) → held_in m n ≡ At b → o.answer ≡ two 1 (b.0 * size m)
-      pub in_store : (g : ℕ) → held_in m n ≡ Nowhere → place_of m.rows n ≡ found g → o.answer ≡ two 0 (g * size m)
+      pub in_pool : (b : BufferNumber) → held_in m n ≡ Some b → o.answer ≡ two 1 (b.0 * size m)
+      pub in_store : (g : ℕ) → held_in m n ≡ None → place_of m.rows n ≡ found g → o.answer ≡ two 0 (g * size m)
 
   -- ---- drop: the file's buffers below j, rising, are emptied
   module _ (f : FileName) where

@@ -3,9 +3,6 @@ use Rattle.buftrace.specs.Report.{printed}
 use Rattle.buftrace.proofs.ReportLaws.{printed-of}
 use Rattle.bufcost.proofs.sum_up.Goals as goal
 
-pub returns : goal.returns
-returns c =
-    let p = c.put_line in record {
-      prefix_len = p.ensures.prefix_len;
-      out_after = p.ensures.out_after ∙ sym (printed-of _ _ _) ∙ ap printed c.finish-end.ensures.held_after;
-    }
+pub returns-clause-out_after : goal.returns-clause-out_after
+returns-clause-out_after c =
+    c.put_line.ensures.out_after ∙ sym (printed-of c.finish-end.ensures.ready) ∙ ap printed c.finish-end.ensures.held_after

@@ -1,15 +1,9 @@
 use Rattle.bufbooks.specs.Buffers.{buffer_test}
-use Rattle.bufmodel.specs.Memory.{memory}
+use Rattle.bufmodel.specs.View.{memory_of}
 use Rattle.laws.specs.Every.{all}
-use Prim.Native.Nat.{◌-◌, ◌≤◌}
-use lib.ListN.{length}
 use mathlib.Core.Bool.{true}
-use mathlib.Core.List.{[]}
 use mathlib.Core.Path.{◌≡◌}
 use Rattle.bufbooks.proofs.buffers.buffers_ok.Given as goal
 
 abbrev pub invariant-loop-i : goal.invariant-loop-i
-invariant-loop-i l = (l.i ≤ length l.states) × (all l.i (buffer_test (memory l.control l.states l.names l.pool [] l.heads l.chain l.rows [])) ≡ true)
-
-abbrev pub decreases-loop-i : goal.decreases-loop-i
-decreases-loop-i l = length l.states - l.i
+invariant-loop-i l = all l.i (buffer_test (memory_of l.lent)) ≡ true

@@ -1,4 +1,3 @@
-use Rattle.bufmem.specs.Rows.{found_row}
 use Rattle.bufmodel.proofs.RowsLaws.{row_is}
 use Rattle.bufmodel.proofs.SizesLaws.{rows-say}
 use Rattle.bufmodel.specs.Rows.{files, file_at, row_of}
@@ -8,9 +7,10 @@ use Rattle.bufbooks.proofs.buffers.row_near.Goals as goal
 
 -- a row of the file is the one that is found by it
 pub returns-then-is_file : goal.returns-then-is_file
-unfolding found_row files
+unfolding files
 returns-then-is_file c =
     let a = c.args in
     let rows = a.rows.now in
-    let same = (says-same-file (file_at rows a.guess) a.file).holds (sym c.is_file.ensures ∙ c.if-is_file.true) in
-    sym (row_is rows ((rows-say rows).holds c.requires) a.guess c.if-near-rows.true) ∙ ap (row_of rows) same
+    let near = c.from-near.result in
+    let same = (says-same-file (file_at rows near) a.file).holds (sym c.is_file.ensures ∙ c.if-is_file.true) in
+    sym (row_is rows ((rows-say rows).holds c.requires) near c.if-near-rows.true) ∙ ap (row_of rows) same

@@ -31,7 +31,7 @@ hash_within-requires c =
 pub bounds-all-row : goal.bounds-all-row
 unfolding files
 bounds-all-row c =
-    omega (arith, c.loop-row-test.true, c.loop-row.invariant.1, ((rows-say c.args.rows.now).holds c.requires).few)
+    omega (arith, c.loop-row-test.true, c.loop-row.invariant.0, ((rows-say c.args.rows.now).holds c.requires).few)
 
 same : {a b c d : ℕ} → a ≡ b → c ≡ d → begun a c ≡ begun b d
 same e f = rw (e, f)
@@ -50,7 +50,7 @@ joined c =
           (new ∙ sym (same w.tablespace-is w.database-is), new)
       | else-file-tablespace w ↦
           let kept = or-neither (not (eqb file.tablespace l.tablespace)) _ w.if-file-tablespace.false in
-          let old = w.start-is ∙ l.invariant.2 in
+          let old = w.start-is ∙ l.invariant.1 in
           (old ∙ sym (same w.tablespace-is w.database-is), old ∙ sym (same (eqb-true _ _ (not-false _ kept.0)) (eqb-true _ _ (not-false _ kept.1))))
     ]
 
@@ -60,12 +60,11 @@ loop-row-preserved c =
     let whole = ap (fnv (word_bytes file.relation ++ word_bytes file.fork)) (joined c).1 in
     let new = c.hash_within.ensures ∙ whole ∙ ap (λ x. fnv (file_bytes x) fnv_start) c.file_at-file.ensures in (
       search rules,
-      search rules,
       (joined c).0,
-      below_more _ c.loop-row.row (λ r m. get_or-set_other c.loop-row.all c.loop-row.row r _ 0 (omega arith) ∙ c.loop-row.invariant.3 r m)
+      below_more _ c.loop-row.row (λ r m. get_or-set_other c.loop-row.all c.loop-row.row r _ 0 (omega arith) ∙ c.loop-row.invariant.2 r m)
           (get_or-set_same c.loop-row.all c.loop-row.row _ 0 (bounds-all-row c) ∙ new),
     )
 
 pub returns : goal.returns
 unfolding files
-returns c r l = c.loop-row.invariant.3 r (search rules)
+returns c r l = c.loop-row.invariant.2 r (search rules)

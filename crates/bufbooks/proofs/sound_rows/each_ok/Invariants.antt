@@ -4,11 +4,7 @@ use Rattle.bufbooks.proofs.RowsLaws.{Marked}
 use lib.ListN.{length}
 use mathlib.Core.Bool.{true}
 use mathlib.Core.Path.{◌≡◌}
-use Prim.Native.Nat.{◌≤◌, ◌-◌}
 use Rattle.bufbooks.proofs.sound_rows.each_ok.Given as goal
 
 abbrev pub invariant-loop-row : goal.invariant-loop-row
-invariant-loop-row l = (l.row ≤ l.n) × (length l.marks ≡ 256) × Marked l.rows l.marks l.row × (all l.row (sound_row l.rows) ≡ true)
-
-abbrev pub decreases-loop-row : goal.decreases-loop-row
-decreases-loop-row l = l.n - l.row
+invariant-loop-row l = (length l.marks ≡ 256) × Marked l.rows l.marks l.row × (all l.row (sound_row l.rows) ≡ true)

@@ -6,6 +6,6 @@ pub returns-then-count-eq1 : goal.returns-then-count-eq1
 unfolding less_word
 returns-then-count-eq1 c = rw (eq-eqb _ 1 c.if-count-eq1.true) c.pin_less.ensures
 
-pub returns : goal.returns
+pub returns-else-count-eq1 : goal.returns-else-count-eq1
 unfolding less_word
-returns c = rw (ne_eqb _ 1 c.if-count-eq1.false)
+returns-else-count-eq1 c = rw (ne_eqb _ 1 c.if-count-eq1.false)

@@ -1,154 +1,42 @@
 use native.Mathlib.Omega.{arith}
 use mathlib.Core.Logic.{◌≢◌}
-use mathlib.Core.Path.{sym, ap, ◌∙◌}
-use Prim.Native.Nat.{ℕ}
+use mathlib.Core.Path.{refl, sym, ap, ◌∙◌}
+use Rattle.std.proofs.lemmas.Result.{err_from_is_err_and}
 use Rattle.bufmodel.specs.Word.{pinned}
-use Rattle.bufmodel.specs.Memory.{Memory, memory, with_counts}
 use Rattle.bufmodel.specs.Calls.{less_word}
-use Rattle.bufmodel.proofs.AnsweredLaws.{promised, unpin-answers}
-use Rattle.bufcalls.proofs.BufferLaws.{Held, buffer_held, held_in_is, held-count, held-pinned, unpin-refused, unpin-done}
+use Rattle.bufcalls.proofs.BufferLaws.{buffer_held, held_in_is, held-count, held-pinned, unpin-refused, unpin-done}
 use Rattle.bufcalls.proofs.buffer.unpin_buffer.Goals as goal
 
-abbrev lent : goal.Then-k-ne0 → Memory
-lent r =
-    let a = r.args in
-    with_counts a.counts.now
-    (memory a.control a.states.now a.names.now a.pool.now a.free.now a.heads.now a.chain.now
-    a.rows.now a.store.now)
-
-abbrev who : goal.Then-k-ne0 → ℕ
-who r = r.args.holder.0
-
-abbrev at : goal.Then-k-ne0 → ℕ
-at r = r.args.buffer.0
-
-pub returns-then-k-ne0 : goal.returns-then-k-ne0
-returns-then-k-ne0 c =
-    let t = promised (unpin-answers _ _ _) (unpin-refused (lent c) (who c) (at c) c.buffer_refusal-k.ensures c.if-k-ne0.true) in
-    record { value = t.0; result_value = t.1.0; result_value_2 = t.1.1.0; store_after = t.1.1.1 }
-
-abbrev lent-2 : goal.Else-k-ne0 → Memory
-lent-2 r =
-    let a = r.args in
-    with_counts a.counts.now
-    (memory a.control a.states.now a.names.now a.pool.now a.free.now a.heads.now a.chain.now
-    a.rows.now a.store.now)
-
-abbrev who-2 : goal.Else-k-ne0 → ℕ
-who-2 r = r.args.holder.0
-
-abbrev at-2 : goal.Else-k-ne0 → ℕ
-at-2 r = r.args.buffer.0
-
-held : (c : goal.Else-k-ne0) → Held (lent-2 c) (who-2 c) (at-2 c)
-held c = buffer_held (lent-2 c) (who-2 c) (at-2 c) c.buffer_refusal-k.ensures c.if-k-ne0.false
+pub returns-in_err-buffer_refusal : goal.returns-in_err-buffer_refusal
+returns-in_err-buffer_refusal c =
+    let p = err_from_is_err_and c.from_residual.result c.from_residual.ensures.1 in
+    rw (p.1, p.2) (let t = unpin-refused _ _ _ _ c.in_err-buffer_refusal.ensures in
+    record { value = t.0; number = t.1; words = t.2; store_after = t.3 })
 
 pub count_of-count-requires : goal.count_of-count-requires
-count_of-count-requires c = held_in_is _ _ _ (held c)
-
-abbrev lent-3 : goal.After-count_of-count → Memory
-lent-3 r =
-    let a = r.args in
-    with_counts a.counts.now
-    (memory a.control a.states.now a.names.now a.pool.now a.free.now a.heads.now a.chain.now
-    a.rows.now a.store.now)
-
-abbrev who-3 : goal.After-count_of-count → ℕ
-who-3 r = r.args.holder.0
-
-abbrev at-3 : goal.After-count_of-count → ℕ
-at-3 r = r.args.buffer.0
-
-held-2 : (c : goal.After-count_of-count) → Held (lent-3 c) (who-3 c) (at-3 c)
-held-2 c = buffer_held (lent-3 c) (who-3 c) (at-3 c) c.buffer_refusal-k.ensures c.if-k-ne0.false
+count_of-count-requires c = held_in_is _ _ _ (buffer_held _ _ _ c.in_ok-buffer_refusal.ensures refl)
 
 pub state_of-requires : goal.state_of-requires
-state_of-requires c = (held-2 c).within
-
-abbrev lent-4 : goal.After-state_of → Memory
-lent-4 r =
-    let a = r.args in
-    with_counts a.counts.now
-    (memory a.control a.states.now a.names.now a.pool.now a.free.now a.heads.now a.chain.now
-    a.rows.now a.store.now)
-
-abbrev who-4 : goal.After-state_of → ℕ
-who-4 r = r.args.holder.0
-
-abbrev at-4 : goal.After-state_of → ℕ
-at-4 r = r.args.buffer.0
-
-held-3 : (c : goal.After-state_of) → Held (lent-4 c) (who-4 c) (at-4 c)
-held-3 c = buffer_held (lent-4 c) (who-4 c) (at-4 c) c.buffer_refusal-k.ensures c.if-k-ne0.false
+state_of-requires c = (buffer_held _ _ _ c.in_ok-buffer_refusal.ensures refl).within
 
 pub less_word-word-requires : goal.less_word-word-requires
-less_word-word-requires c =
-    ap pinned c.state_of.ensures ∙ held-pinned _ _ _ (held-3 c)
-
-abbrev lent-5 : goal.After-put_state-arg-1 → Memory
-lent-5 r =
-    let a = r.args in
-    with_counts a.counts.now
-    (memory a.control a.states.now a.names.now a.pool.now a.free.now a.heads.now a.chain.now
-    a.rows.now a.store.now)
-
-abbrev who-5 : goal.After-put_state-arg-1 → ℕ
-who-5 r = r.args.holder.0
-
-abbrev at-5 : goal.After-put_state-arg-1 → ℕ
-at-5 r = r.args.buffer.0
-
-held-4 : (c : goal.After-put_state-arg-1) → Held (lent-5 c) (who-5 c) (at-5 c)
-held-4 c = buffer_held (lent-5 c) (who-5 c) (at-5 c) c.buffer_refusal-k.ensures c.if-k-ne0.false
+less_word-word-requires c = ap pinned c.state_of.ensures ∙ held-pinned _ _ _ (buffer_held _ _ _ c.in_ok-buffer_refusal.ensures refl)
 
 pub put_state-requires : goal.put_state-requires
-put_state-requires c = (held-4 c).within
-
-abbrev lent-6 : goal.After-put_count-arg-1 → Memory
-lent-6 r =
-    let a = r.args in
-    with_counts a.counts.now
-    (memory a.control a.states.now a.names.now a.pool.now a.free.now a.heads.now a.chain.now
-    a.rows.now a.store.now)
-
-abbrev who-6 : goal.After-put_count-arg-1 → ℕ
-who-6 r = r.args.holder.0
-
-abbrev at-6 : goal.After-put_count-arg-1 → ℕ
-at-6 r = r.args.buffer.0
-
-held-5 : (c : goal.After-put_count-arg-1) → Held (lent-6 c) (who-6 c) (at-6 c)
-held-5 c = buffer_held (lent-6 c) (who-6 c) (at-6 c) c.buffer_refusal-k.ensures c.if-k-ne0.false
+put_state-requires c = (buffer_held _ _ _ c.in_ok-buffer_refusal.ensures refl).within
 
 -- the holder has a pin
 pub overflow_sub-count : goal.overflow_sub-count
 overflow_sub-count c =
-    let some : c.count_of-count.result ≢ 0 = λ z. held-count _ _ _ (held-5 c) (sym c.count_of-count.ensures ∙ z) in
+    let h = held-count _ _ _ (buffer_held _ _ _ c.in_ok-buffer_refusal.ensures refl) in
+    let some : c.count_of-count.result ≢ 0 = λ z. h (sym c.count_of-count.ensures ∙ z) in
     omega arith
 
 pub put_count-requires : goal.put_count-requires
-put_count-requires c =
-    held_in_is _ _ _ (held-5 c)
-
-abbrev lent-7 : goal.After-slice_known-4-1 → Memory
-lent-7 r =
-    let a = r.args in
-    with_counts a.counts.now
-    (memory a.control a.states.now a.names.now a.pool.now a.free.now a.heads.now a.chain.now
-    a.rows.now a.store.now)
-
-abbrev who-7 : goal.After-slice_known-4-1 → ℕ
-who-7 r = r.args.holder.0
-
-abbrev at-7 : goal.After-slice_known-4-1 → ℕ
-at-7 r = r.args.buffer.0
-
-held-6 : (c : goal.After-slice_known-4-1) → Held (lent-7 c) (who-7 c) (at-7 c)
-held-6 c = buffer_held (lent-7 c) (who-7 c) (at-7 c) c.buffer_refusal-k.ensures c.if-k-ne0.false
+put_count-requires c = held_in_is _ _ _ (buffer_held _ _ _ c.in_ok-buffer_refusal.ensures refl)
 
 pub returns : goal.returns
 returns c =
-    let t = promised (unpin-answers _ _ _)
-    (unpin-done (lent-7 c) (who-7 c) (at-7 c) (held-6 c) c.count_of-count.ensures
-    (c.less_word-word.ensures ∙ ap (less_word c.count_of-count.result) c.state_of.ensures) c.put_state.ensures c.put_count.ensures) in
-    record { value = t.0; result_value = t.1.0; result_value_2 = t.1.1.0; store_after = t.1.1.1 }
+    let t = unpin-done _ _ _ (buffer_held _ _ _ c.in_ok-buffer_refusal.ensures refl) c.count_of-count.ensures
+    (c.less_word-word.ensures ∙ ap (less_word c.count_of-count.result) c.state_of.ensures) c.put_state.ensures c.put_count.ensures in
+    record { value = t.0; number = t.1; words = t.2; store_after = t.3 }

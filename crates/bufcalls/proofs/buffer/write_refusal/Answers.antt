@@ -1,4 +1,4 @@
-use borrow.Author.Tests.{leb-true, leb-false, lt-ltb, le-ltb, eq-eqb, ne_eqb}
+use borrow.Author.Tests.{leb-true, leb-false, lt-ltb, le-ltb}
 use lib.Dec.{ltb}
 use lib.ListN.{length}
 use mathlib.Core.Bool.{Bool, true, false, ◌||◌}
@@ -34,16 +34,16 @@ within c = leb-true _ _ (sym c.range_ok.ensures ∙ c.if-not-range_ok.false)
 pub returns-then-from-lt8 : goal.returns-then-from-lt8
 returns-then-from-lt8 c = sym (refusal-at 9 _ (in_head _ _ _ (within c) c.if-from-lt8.true))
 
-within-2 : (c : goal.Then-bytes-eq0) → let a = c.args in a.from + length a.bytes.now ≤ a.control.size
+within-2 : (c : goal.Then-is_empty) → let a = c.args in a.from + length a.bytes.now ≤ a.control.size
 within-2 c = leb-true _ _ (sym c.range_ok.ensures ∙ c.if-not-range_ok.false)
 
-passed : (c : goal.Then-bytes-eq0)
+passed : (c : goal.Then-is_empty)
     → let a = c.args in
     range a.control.size a.from (a.from + length a.bytes.now) ≡ false
 passed c = in_body _ _ _ (within-2 c) c.if-from-lt8.false
 
-pub returns-then-bytes-eq0 : goal.returns-then-bytes-eq0
-returns-then-bytes-eq0 c = sym (refusal-past 9 _ (passed c) ∙ refusal-at 10 _ (eq-eqb _ _ c.if-bytes-eq0.true))
+pub returns-then-is_empty : goal.returns-then-is_empty
+returns-then-is_empty c = sym (refusal-past 9 _ (passed c) ∙ refusal-at 10 _ (sym c.is_empty.ensures ∙ c.if-is_empty.true))
 
 within-3 : (c : goal.Then-position-control) → let a = c.args in a.from + length a.bytes.now ≤ a.control.size
 within-3 c = leb-true _ _ (sym c.range_ok.ensures ∙ c.if-not-range_ok.false)
@@ -56,7 +56,7 @@ passed-2 c = in_body _ _ _ (within-3 c) c.if-from-lt8.false
 pub returns-then-position-control : goal.returns-then-position-control
 returns-then-position-control c =
     sym
-    (refusal-past 9 _ (passed-2 c) ∙ refusal-past 10 _ (ne_eqb _ _ c.if-bytes-eq0.false) ∙ refusal-at 11 _ (lt-ltb _ _ c.if-position-control.true))
+    (refusal-past 9 _ (passed-2 c) ∙ refusal-past 10 _ (sym c.is_empty.ensures ∙ c.if-is_empty.false) ∙ refusal-at 11 _ (lt-ltb _ _ c.if-position-control.true))
 
 within-4 : (c : goal.Then-position-page_position) → let a = c.args in a.from + length a.bytes.now ≤ a.control.size
 within-4 c = leb-true _ _ (sym c.range_ok.ensures ∙ c.if-not-range_ok.false)
@@ -69,7 +69,7 @@ passed-3 c = in_body _ _ _ (within-4 c) c.if-from-lt8.false
 pub returns-then-position-page_position : goal.returns-then-position-page_position
 returns-then-position-page_position c =
     sym
-    (refusal-past 9 _ (passed-3 c) ∙ refusal-past 10 _ (ne_eqb _ _ c.if-bytes-eq0.false) ∙ refusal-past 11 _ (le-ltb _ _ c.if-position-control.false)
+    (refusal-past 9 _ (passed-3 c) ∙ refusal-past 10 _ (sym c.is_empty.ensures ∙ c.if-is_empty.false) ∙ refusal-past 11 _ (le-ltb _ _ c.if-position-control.false)
     ∙ refusal-at 12 [] (sym (ap (ltb _) c.page_position.ensures) ∙ lt-ltb _ _ c.if-position-page_position.true))
 
 within-5 : (c : goal.Else-position-page_position) → let a = c.args in a.from + length a.bytes.now ≤ a.control.size
@@ -83,5 +83,5 @@ passed-4 c = in_body _ _ _ (within-5 c) c.if-from-lt8.false
 pub returns : goal.returns
 returns c =
     sym
-    (refusal-past 9 _ (passed-4 c) ∙ refusal-past 10 _ (ne_eqb _ _ c.if-bytes-eq0.false) ∙ refusal-past 11 _ (le-ltb _ _ c.if-position-control.false)
+    (refusal-past 9 _ (passed-4 c) ∙ refusal-past 10 _ (sym c.is_empty.ensures ∙ c.if-is_empty.false) ∙ refusal-past 11 _ (le-ltb _ _ c.if-position-control.false)
     ∙ refusal-past 12 [] (sym (ap (ltb _) c.page_position.ensures) ∙ le-ltb _ _ c.if-position-page_position.false) ∙ refusal-none)

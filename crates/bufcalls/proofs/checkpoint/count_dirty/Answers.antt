@@ -1,23 +1,25 @@
-use borrow.Author.Rules.{rules}
-use mathlib.Core.Path.{sym, ◌∙◌}
 use native.Mathlib.Omega.{arith}
+use mathlib.Core.Path.{sym, ◌∙◌}
+use mathlib.Core.Bool.{Bool}
+use Prim.Native.Nat.{ℕ}
+use lib.ListN.{get_or}
 use Rattle.laws.proofs.Sum.{count_none, count-hit, count-miss, count-le}
+use Rattle.bufmodel.specs.Word.{dirty}
 use Rattle.bufcalls.proofs.checkpoint.count_dirty.Goals.{else-is_dirty, then-is_dirty}
-use Rattle.bufcalls.proofs.checkpoint.count_dirty.Invariants.{marked}
 use Rattle.bufcalls.proofs.checkpoint.count_dirty.Goals as goal
 
-pub loop-i-init : goal.loop-i-init
-loop-i-init c = (search rules, sym (count_none _))
+pub loop-w-init : goal.loop-w-init
+loop-w-init c = sym (count_none _)
 
 pub overflow_add-n : goal.overflow_add-n
-overflow_add-n c =
-    omega (arith, count-le (marked c.args.states.now) c.loop-i.i)
+overflow_add-n c = omega (arith, count-le (λ (i : ℕ). dirty (get_or c.args.states.now i 0)) c.loop-w.w-index)
 
-pub loop-i-preserved : goal.loop-i-preserved
-loop-i-preserved c =
-    let p = marked c.args.states.now in
-    let i = c.loop-i.i in
-    let h = c.is_dirty.ensures in (
-      search rules,
-      elim c.if-is_dirty.branch [ then-is_dirty w ↦ omega (arith, count-hit p i (sym h ∙ w.if-is_dirty.true)) | else-is_dirty w ↦ omega (arith, count-miss p i (sym h ∙ w.if-is_dirty.false)) ],
-    )
+pub loop-w-preserved : goal.loop-w-preserved
+loop-w-preserved c =
+    let p : ℕ → Bool = λ i. dirty (get_or c.args.states.now i 0) in
+    let i = c.loop-w.w-index in
+    let h = c.is_dirty.ensures in
+    elim c.if-is_dirty.branch [
+      | then-is_dirty w ↦ omega (arith, count-hit p i (sym h ∙ w.if-is_dirty.true))
+      | else-is_dirty w ↦ omega (arith, count-miss p i (sym h ∙ w.if-is_dirty.false))
+    ]

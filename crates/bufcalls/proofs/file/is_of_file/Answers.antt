@@ -1,5 +1,4 @@
-use lib.ListN.{get_or}
-use mathlib.Core.Path.{◌≡◌, sym, ap, ◌∙◌}
+use mathlib.Core.Path.{sym, ap, ◌∙◌}
 use mathlib.Core.Bool.{not}
 use Rattle.laws.proofs.Tests.{and_last}
 use Rattle.buftag.specs.declared.name.PageName.{PageName}
@@ -8,25 +7,16 @@ use Rattle.bufmodel.specs.Word.{empty}
 use Rattle.bufcalls.specs.File.{held_of}
 use Rattle.bufcalls.proofs.file.is_of_file.Goals as goal
 
--- the test is that of the buffer's word
-blank : (c : goal.Then-is_empty)
-    → let a = c.args in
-    c.is_empty.result ≡ empty (get_or a.states.now a.buffer.0 0)
-blank c = c.is_empty.ensures ∙ ap empty c.state_of.ensures
-
-pub returns-then-is_empty : goal.returns-then-is_empty
+pub returns-then-not-is_empty : goal.returns-then-not-is_empty
 unfolding held_of
-returns-then-is_empty c = rw (sym (blank c) ∙ c.if-is_empty.true)
-
--- the test is that of the buffer's word
-blank-2 : (c : goal.After-same_file)
-    → let a = c.args in
-    c.is_empty.result ≡ empty (get_or a.states.now a.buffer.0 0)
-blank-2 c = c.is_empty.ensures ∙ ap empty c.state_of.ensures
-
-pub returns : goal.returns
-unfolding held_of
-returns c =
+returns-then-not-is_empty c =
+    let blank = c.is_empty.ensures ∙ ap empty c.state_of.ensures in
     let f = c.args.file in
-    and_last (ap not (sym (blank-2 c) ∙ c.if-is_empty.false))
-    (c.same_file.ensures ∙ ap (λ (n : PageName). same_file n.file f) c.stored-name.ensures)
+    and_last (ap not (sym blank ∙ c.if-not-is_empty.true))
+    (c.same_file.ensures ∙ ap (λ (n : PageName). same_file n.file f) c.stored.ensures)
+
+pub returns-else-not-is_empty : goal.returns-else-not-is_empty
+unfolding held_of
+returns-else-not-is_empty c =
+    let blank = c.is_empty.ensures ∙ ap empty c.state_of.ensures in
+    rw (c.if-not-is_empty.false, sym blank ∙ c.if-not-is_empty.false)

@@ -6,6 +6,6 @@ pub returns-then-count-eq0 : goal.returns-then-count-eq0
 unfolding given_word
 returns-then-count-eq0 c = rw (eq-eqb _ 0 c.if-count-eq0.true)
 
-pub returns : goal.returns
+pub returns-else-count-eq0 : goal.returns-else-count-eq0
 unfolding given_word
-returns c = rw (ne_eqb _ 0 c.if-count-eq0.false) c.pin_less.ensures
+returns-else-count-eq0 c = rw (ne_eqb _ 0 c.if-count-eq0.false) c.pin_less.ensures

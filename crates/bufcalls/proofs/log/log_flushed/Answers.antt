@@ -1,46 +1,34 @@
 use borrow.Author.Tests.{lt-ltb, le-ltb}
 use mathlib.Core.List.{[]}
-use mathlib.Core.Path.{◌∙◌, ap}
-use native.Mathlib.Omega.{arith}
-use Rattle.bufmodel.specs.declared.control.Control.{Control}
-use Rattle.bufmodel.specs.Memory.{memory, with_counts}
+use mathlib.Core.Path.{◌∙◌, refl, ap}
+use Rattle.std.proofs.lemmas.Result.{err_from_is_err_and}
+use Rattle.bufmodel.specs.declared.refusal.Refusal.TheVariants.{FlushedBeyond}
+use Rattle.bufmodel.specs.Memory.{with_control}
+use Rattle.bufmodel.specs.View.{memory_of}
 use Rattle.bufmodel.specs.Calls.{log_flushed}
 use Rattle.bufmodel.proofs.OutcomeLaws.{refusal-at, refusal-past, refusal-none}
 use Rattle.bufmodel.proofs.GoodLaws.{passed-good}
-use Rattle.bufmodel.proofs.AnswerLaws.{end-first, end-own, end-done, accepted-refused, accepted-done}
-use Rattle.bufmodel.proofs.AnsweredLaws.{promised, flushed-answers}
+use Rattle.bufmodel.proofs.AnswerLaws.{refused-first, refused-own, end-done, accepted-refused, accepted-done}
 use Rattle.bufcalls.proofs.log.log_flushed.Goals as goal
 
-pub returns-then-k-ne0 : goal.returns-then-k-ne0
+pub returns-in_err-refusal : goal.returns-in_err-refusal
 unfolding log_flushed
-returns-then-k-ne0 c =
-    rw c.refused.ensures
-    (let t = (promised (flushed-answers _ _)
-    (accepted-refused c.if-k-ne0.true (end-first _ _ _ _ c.refusal-k.ensures c.if-k-ne0.true))) in
-    record { answer_value = t.0; answer_value_2 = t.1.0; answer_value_3 = t.1.1.0; store_value = t.1.1.1 })
+returns-in_err-refusal c =
+    let p = err_from_is_err_and c.from_residual.result c.from_residual.ensures.1 in
+    rw (p.1, p.2)
+    (let t = accepted-refused _ (refused-first _ _ _ _ _ c.in_err-refusal.ensures) in
+    record { value = t.0; number = t.1; words = t.2; after = t.3 })
 
-pub returns-then-position-control : goal.returns-then-position-control
+pub returns-then-position-lent : goal.returns-then-position-lent
 unfolding log_flushed
-returns-then-position-control c =
-    rw c.refused-then-position-control.ensures
-    (let t = (promised (flushed-answers _ _)
-    (accepted-refused (λ e. omega arith)
-    (end-own _ _ _ _ (passed-good _ c.refusal-k.ensures c.if-k-ne0.false) (refusal-at 16 [] (lt-ltb _ _ c.if-position-control.true))
-    (λ e. omega arith)))) in
-    record { answer_value = t.0; answer_value_2 = t.1.0; answer_value_3 = t.1.1.0; store_value = t.1.1.1 })
+returns-then-position-lent c =
+    let t = accepted-refused FlushedBeyond
+    (refused-own _ _ _ _ FlushedBeyond (passed-good _ c.in_ok-refusal.ensures refl) (refusal-at 16 [] (lt-ltb _ _ c.if-position-lent.true))) in
+    record { value = t.0; number = t.1; words = t.2; after = t.3 }
 
 pub returns : goal.returns
 unfolding log_flushed
 returns c =
-    let a = c.args in
-    let none = refusal-past 16 [] (le-ltb _ _ c.if-position-control.false) ∙ refusal-none in
-    let end = accepted-done (end-done _ _ _ _ (passed-good _ c.refusal-k.ensures c.if-k-ne0.false) none) in
-    let t = promised (flushed-answers _ _) (
-      end.0,
-      ap (λ (x : Control).
-          with_counts a.counts.now
-          (memory x a.states.now a.names.now a.pool.now a.free.now a.heads.now a.chain.now
-          a.rows.now a.store.now)) c.flushed_to.ensures
-          ∙ end.1,
-    ) in
-    record { answer_value = t.0; answer_value_2 = t.1.0; answer_value_3 = t.1.1.0; store_value = t.1.1.1 }
+    let t = accepted-done
+    (end-done _ _ _ _ (passed-good _ c.in_ok-refusal.ensures refl) (refusal-past 16 [] (le-ltb _ _ c.if-position-lent.false) ∙ refusal-none)) in
+    record { value = t.0; number = t.1; words = t.2; after = ap (λ x. with_control x (memory_of c.args.lent.now)) c.flushed_to.ensures ∙ t.3 }

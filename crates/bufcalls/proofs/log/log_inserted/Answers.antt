@@ -1,37 +1,32 @@
 use borrow.Author.Tests.{lt-ltb, le-ltb}
 use mathlib.Core.List.{[]}
-use mathlib.Core.Path.{◌∙◌}
-use native.Mathlib.Omega.{arith}
+use mathlib.Core.Path.{◌∙◌, refl}
+use Rattle.std.proofs.lemmas.Result.{err_from_is_err_and}
+use Rattle.bufmodel.specs.declared.refusal.Refusal.TheVariants.{LogShorter}
 use Rattle.bufmodel.specs.Calls.{log_inserted}
 use Rattle.bufmodel.proofs.OutcomeLaws.{refusal-at, refusal-past, refusal-none}
 use Rattle.bufmodel.proofs.GoodLaws.{passed-good}
-use Rattle.bufmodel.proofs.AnswerLaws.{end-first, end-own, end-done, accepted-refused, accepted-done}
-use Rattle.bufmodel.proofs.AnsweredLaws.{promised, inserted-answers}
+use Rattle.bufmodel.proofs.AnswerLaws.{refused-first, refused-own, end-done, accepted-refused, accepted-done}
 use Rattle.bufcalls.proofs.log.log_inserted.Goals as goal
 
-pub returns-then-k-ne0 : goal.returns-then-k-ne0
+pub returns-in_err-refusal : goal.returns-in_err-refusal
 unfolding log_inserted
-returns-then-k-ne0 c =
-    rw c.refused.ensures
-    (let t = (promised (inserted-answers _ _)
-    (accepted-refused c.if-k-ne0.true (end-first _ _ _ _ c.refusal-k.ensures c.if-k-ne0.true))) in
-    record { answer_value = t.0; answer_value_2 = t.1.0; answer_value_3 = t.1.1.0; store_value = t.1.1.1 })
+returns-in_err-refusal c =
+    let p = err_from_is_err_and c.from_residual.result c.from_residual.ensures.1 in
+    rw (p.1, p.2)
+    (let t = accepted-refused _ (refused-first _ _ _ _ _ c.in_err-refusal.ensures) in
+    record { value = t.0; number = t.1; words = t.2; after = t.3 })
 
-pub returns-then-position-control : goal.returns-then-position-control
+pub returns-then-position-lent : goal.returns-then-position-lent
 unfolding log_inserted
-returns-then-position-control c =
-    rw c.refused-then-position-control.ensures
-    (let t = (promised (inserted-answers _ _)
-    (accepted-refused (λ e. omega arith)
-    (end-own _ _ _ _ (passed-good _ c.refusal-k.ensures c.if-k-ne0.false) (refusal-at 15 [] (lt-ltb _ _ c.if-position-control.true))
-    (λ e. omega arith)))) in
-    record { answer_value = t.0; answer_value_2 = t.1.0; answer_value_3 = t.1.1.0; store_value = t.1.1.1 })
+returns-then-position-lent c =
+    let t = accepted-refused LogShorter
+    (refused-own _ _ _ _ LogShorter (passed-good _ c.in_ok-refusal.ensures refl) (refusal-at 15 [] (lt-ltb _ _ c.if-position-lent.true))) in
+    record { value = t.0; number = t.1; words = t.2; after = t.3 }
 
 pub returns : goal.returns
 unfolding log_inserted
 returns c =
-    let t = promised (inserted-answers _ _)
-    (accepted-done
-    (end-done _ _ _ _ (passed-good _ c.refusal-k.ensures c.if-k-ne0.false)
-    (refusal-past 15 [] (le-ltb _ _ c.if-position-control.false) ∙ refusal-none))) in
-    record { answer_value = t.0; answer_value_2 = t.1.0; answer_value_3 = t.1.1.0; store_value = t.1.1.1 }
+    let t = accepted-done
+    (end-done _ _ _ _ (passed-good _ c.in_ok-refusal.ensures refl) (refusal-past 15 [] (le-ltb _ _ c.if-position-lent.false) ∙ refusal-none)) in
+    record { value = t.0; number = t.1; words = t.2; after = t.3 }

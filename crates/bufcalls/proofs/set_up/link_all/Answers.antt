@@ -26,10 +26,9 @@ loop-i-preserved c =
     let l = c.loop-i in
     let n = length c.args.links.now in
     let v = to_z w32 (l.i + 1) in (
-      search rules,
-      length-set l.links l.i v ∙ l.invariant.1,
+      length-set l.links l.i v ∙ l.invariant.0,
       fill_more (pos 0) l.i v l.links (free_links 0 n) (search rules)
-          (index_back (l.i + 1) (search rules) ∙ sym (next-at 0 n l.i (l.i + 1) (search rules) (omega arith))) l.invariant.2,
+          (index_back (l.i + 1) (search rules) ∙ sym (next-at 0 n l.i (l.i + 1) (search rules) (omega arith))) l.invariant.1,
     )
 
 last-at : (i j : ℕ) → get_or (free_links i (suc j)) j (pos 0) ≡ none
@@ -46,8 +45,8 @@ returns c =
     let l = c.loop-i in
     let n = length c.args.links.now in
     let full : Filled (pos 0) (n - 1) l.links (free_links 0 n) =
-    subst (λ (k : ℕ). Filled (pos 0) k l.links (free_links 0 n)) (omega arith) l.invariant.2 in
+    subst (λ (k : ℕ). Filled (pos 0) k l.links (free_links 0 n)) (omega arith) l.invariant.1 in
     fill_done (pos 0) (n - 1 + 1) (set l.links (n - 1) none) (free_links 0 n)
-    (length-set l.links (n - 1) none ∙ l.invariant.1 ∙ sym (length-free_links 0 n))
+    (length-set l.links (n - 1) none ∙ l.invariant.0 ∙ sym (length-free_links 0 n))
     (omega (arith, length-set l.links (n - 1) none))
     (fill_more (pos 0) (n - 1) none l.links (free_links 0 n) (search rules) (sym (last-is n (search rules))) full)

@@ -1,13 +1,10 @@
 use lib.IntN.{pos}
 use lib.ListN.{length}
 use mathlib.Core.Path.{◌≡◌}
-use Prim.Native.Nat.{◌-◌, ◌≤◌}
 use Rattle.bufmodel.specs.Calls.{free_links}
 use Rattle.laws.proofs.Fill.{Filled}
 use Rattle.bufcalls.proofs.set_up.link_all.Given as goal
 
 abbrev pub invariant-loop-i : goal.invariant-loop-i
-invariant-loop-i l = (l.i ≤ l.last) × (length l.links ≡ length l.initial.links) × Filled (pos 0) l.i l.links (free_links 0 (length l.initial.links))
-
-abbrev pub decreases-loop-i : goal.decreases-loop-i
-decreases-loop-i l = l.last - l.i
+invariant-loop-i l =
+    (length l.links ≡ length l.initial.links) × Filled (pos 0) l.i l.links (free_links 0 (length l.initial.links))

@@ -1,8 +1,10 @@
+use borrow.Author.Rules.{rules}
 use lib.IntN.{ℤ, pos}
 use lib.ListN.{length, replicate}
 use mathlib.Core.Bool.{true, false, not}
 use mathlib.Core.List.{List, [], ◌∷◌}
 use mathlib.Core.Path.{◌≡◌, sym, ◌∙◌, ap}
+use Rattle.bufmodel.specs.declared.refusal.Refusal.TheVariants.{Sizes, Cap}
 use native.Mathlib.Omega.{arith}
 use Prim.Native.Nat.{ℕ}
 use Rattle.buftag.specs.Link.{none}
@@ -14,7 +16,6 @@ use Rattle.bufmodel.specs.Calls.{free_links, fresh, set_up}
 use Rattle.bufmodel.proofs.SizesLaws.{sizes-say}
 use Rattle.bufmodel.proofs.OutcomeLaws.{refusal-at, refusal-past, refusal-none, outcome-refused, outcome-done}
 use Rattle.bufmodel.proofs.AnswerLaws.{accepted-refused, accepted-done}
-use Rattle.bufmodel.proofs.AnsweredLaws.{promised, set-up-answers}
 use Rattle.bufcalls.proofs.set_up.set_up_pool.Goals as goal
 
 module _ (m : Memory) (p at cap : ℕ) where
@@ -51,78 +52,45 @@ module _ (m : Memory) (p at cap : ℕ) where
         let z = (sizes-say p m).holds e in
         rw (s, n, f, b, c, k, z.names, z.free) (outcome-done [] m _ (past ∙ refusal-past 18 [] (ap not h) ∙ refusal-none))
 
-abbrev lent : goal.After-refused → Memory
-lent s =
-    let a = s.args in
-    with_counts a.counts.now
-    (memory a.control a.states.now a.names.now a.pool.now a.free.now a.heads.now a.chain.now
-    a.rows.now a.store.now)
-
 pub returns-then-not-sizes_ok : goal.returns-then-not-sizes_ok
 unfolding sized sized_for
 returns-then-not-sizes_ok c =
-    rw c.refused.ensures
-    (let t = (promised (set-up-answers _ _ _ _)
-    (accepted-refused (λ z. omega arith)
-    (unfit (lent c) c.args.size c.args.position c.args.cap
-    (sym c.sizes_ok.ensures ∙ c.if-not-sizes_ok.true)))) in
-    record { answer_value = t.0; answer_value_2 = t.1.0; answer_value_3 = t.1.1.0; store_after = t.1.1.1 })
-
-abbrev lent-2 : goal.After-refused-then-not-cap_ok → Memory
-lent-2 s =
-    let a = s.args in
+    let a = c.args in
+    let m =
     with_counts a.counts.now
-    (memory a.control a.states.now a.names.now a.pool.now a.free.now a.heads.now a.chain.now
-    a.rows.now a.store.now)
-
--- what the test of the sizes said
-passed : (c : goal.After-refused-then-not-cap_ok) → sized_for c.args.size (lent-2 c) ≡ true
-unfolding sized sized_for
-passed c = sym c.sizes_ok.ensures ∙ c.if-not-sizes_ok.false
+    (memory a.control a.states.now a.names.now a.pool.now a.free.now a.heads.now a.chain.now a.rows.now a.store.now) in
+    let t = accepted-refused Sizes (unfit m a.size a.position a.cap (sym c.sizes_ok.ensures ∙ c.if-not-sizes_ok.true)) in
+    record { value = t.0; number = t.1; words = t.2; store_after = t.3 }
 
 pub returns-then-not-cap_ok : goal.returns-then-not-cap_ok
-returns-then-not-cap_ok c =
-    rw c.refused-then-not-cap_ok.ensures
-    (let t = (promised (set-up-answers _ _ _ _)
-    (accepted-refused (λ z. omega arith)
-    (capless (lent-2 c) c.args.size c.args.position c.args.cap (passed c)
-    (sym c.cap_ok.ensures ∙ c.if-not-cap_ok.true)))) in
-    record { answer_value = t.0; answer_value_2 = t.1.0; answer_value_3 = t.1.1.0; store_after = t.1.1.1 })
-
-abbrev lent-3 : goal.After-link_all-arg-1 → Memory
-lent-3 s =
-    let a = s.args in
-    with_counts a.counts.now
-    (memory a.control a.states.now a.names.now a.pool.now a.free.now a.heads.now a.chain.now
-    a.rows.now a.store.now)
-
--- what the test of the sizes said
-passed-2 : (c : goal.After-link_all-arg-1) → sized_for c.args.size (lent-3 c) ≡ true
 unfolding sized sized_for
-passed-2 c = sym c.sizes_ok.ensures ∙ c.if-not-sizes_ok.false
+returns-then-not-cap_ok c =
+    let a = c.args in
+    let m =
+    with_counts a.counts.now
+    (memory a.control a.states.now a.names.now a.pool.now a.free.now a.heads.now a.chain.now a.rows.now a.store.now) in
+    let t = accepted-refused Cap
+    (capless m a.size a.position a.cap (sym c.sizes_ok.ensures ∙ c.if-not-sizes_ok.false) (sym c.cap_ok.ensures ∙ c.if-not-cap_ok.true)) in
+    record { value = t.0; number = t.1; words = t.2; store_after = t.3 }
 
 pub link_all-requires : goal.link_all-requires
+unfolding sized sized_for
 link_all-requires c =
-    let z = (sizes-say c.args.size (lent-3 c)).holds (passed-2 c) in
+    let a = c.args in
+    let m =
+    with_counts a.counts.now
+    (memory a.control a.states.now a.names.now a.pool.now a.free.now a.heads.now a.chain.now a.rows.now a.store.now) in
+    let z = (sizes-say a.size m).holds (sym c.sizes_ok.ensures ∙ c.if-not-sizes_ok.false) in
     (omega (arith, z.free, z.least), omega (arith, z.free, z.most))
 
-abbrev lent-4 : goal.After-slice_known-6-1 → Memory
-lent-4 s =
-    let a = s.args in
-    with_counts a.counts.now
-    (memory a.control a.states.now a.names.now a.pool.now a.free.now a.heads.now a.chain.now
-    a.rows.now a.store.now)
-
--- what the test of the sizes said
-passed-3 : (c : goal.After-slice_known-6-1) → sized_for c.args.size (lent-4 c) ≡ true
-unfolding sized sized_for
-passed-3 c = sym c.sizes_ok.ensures ∙ c.if-not-sizes_ok.false
-
 pub returns : goal.returns
+unfolding sized sized_for
 returns c =
-    let t = promised (set-up-answers _ _ _ _)
-    (accepted-done
-    (fit (lent-4 c) c.args.size c.args.position c.args.cap (passed-3 c)
-    (sym c.cap_ok.ensures ∙ c.if-not-cap_ok.false) c.clear_words.ensures c.clear_words-2.ensures
-    c.link_all.ensures c.clear_links.ensures c.clear_links-2.ensures c.clear_counts.ensures)) in
-    record { answer_value = t.0; answer_value_2 = t.1.0; answer_value_3 = t.1.1.0; store_after = t.1.1.1 }
+    let a = c.args in
+    let m =
+    with_counts a.counts.now
+    (memory a.control a.states.now a.names.now a.pool.now a.free.now a.heads.now a.chain.now a.rows.now a.store.now) in
+    let t = accepted-done
+    (fit m a.size a.position a.cap (sym c.sizes_ok.ensures ∙ c.if-not-sizes_ok.false) (sym c.cap_ok.ensures ∙ c.if-not-cap_ok.false)
+    (search rules) (search rules) c.link_all.ensures (search rules) (search rules) (search rules)) in
+    record { value = t.0; number = t.1; words = t.2; store_after = t.3 }

@@ -1,13 +1,6 @@
-use Rattle.std.proofs.Common.{rules}
-use mir.Syntax.{w32}
-use mir.Val.{SFits}
-use Rattle.buftag.proofs.SignedLaws.{bits_back}
 use Rattle.bufmodel.proofs.FixedLaws.{checkpoint-fixed}
 use Rattle.bufcontrol.proofs.StoredLaws.{stored}
 use Rattle.bufcontrol.proofs.back.checkpoint.Goals as goal
 
-pub returns-clause-store_after : goal.returns-clause-store_after
-returns-clause-store_after c =
-    let d = c.checkpoint_pool-end.result.control in
-    let f : SFits w32 c.checkpoint_pool-end.result.control.top = search rules in
-    rw (bits_back _ f) (stored c.args.control.now d _ _ _ _ _ _ _ _ _ _ c.checkpoint_pool-end.ensures.store_after (checkpoint-fixed _))
+pub store_back-requires : goal.store_back-requires
+store_back-requires c = stored c.in_ok-written.ensures.store_after (checkpoint-fixed _)

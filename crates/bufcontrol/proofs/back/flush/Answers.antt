@@ -1,13 +1,6 @@
-use Rattle.std.proofs.Common.{rules}
-use mir.Syntax.{w32}
-use mir.Val.{SFits}
-use Rattle.buftag.proofs.SignedLaws.{bits_back}
 use Rattle.bufmodel.proofs.FixedLaws.{flush-fixed}
 use Rattle.bufcontrol.proofs.StoredLaws.{stored}
 use Rattle.bufcontrol.proofs.back.flush.Goals as goal
 
-pub returns-clause-store_after : goal.returns-clause-store_after
-returns-clause-store_after c =
-    let d = c.flush_buffer-end.result.control in
-    let f : SFits w32 c.flush_buffer-end.result.control.top = search rules in
-    rw (bits_back _ f) (stored c.args.control.now d _ _ _ _ _ _ _ _ _ _ c.flush_buffer-end.ensures.store_after (flush-fixed _ c.args.holder.0 c.args.buffer.0))
+pub store_back-requires : goal.store_back-requires
+store_back-requires c = stored c.in_ok-end.ensures.store_after (flush-fixed _ c.args.holder.0 c.args.buffer.0)

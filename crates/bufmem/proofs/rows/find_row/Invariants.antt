@@ -1,12 +1,9 @@
 use Rattle.bufmodel.specs.Rows.{file_at}
 use Rattle.buftag.specs.Name.{same_file}
-use Rattle.laws.specs.First.{first, missing}
+use mathlib.Core.Bool.{false}
 use mathlib.Core.Path.{◌≡◌}
-use Prim.Native.Nat.{◌≤◌, ◌-◌}
+use Prim.Native.Nat.{ℕ, ◌*◌, ◌<◌}
 use Rattle.bufmem.proofs.rows.find_row.Given as goal
 
-abbrev pub invariant-loop-row : goal.invariant-loop-row
-invariant-loop-row l = (l.row ≤ l.n) × (first l.row (λ r. same_file (file_at l.rows r) l.file) ≡ missing)
-
-abbrev pub decreases-loop-row : goal.decreases-loop-row
-decreases-loop-row l = l.n - l.row
+abbrev pub invariant-loop-pair : goal.invariant-loop-pair
+invariant-loop-pair l = (k : ℕ) → k < 2 * l.pair → same_file (file_at l.rows k) l.file ≡ false

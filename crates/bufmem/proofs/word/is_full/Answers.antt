@@ -1,7 +1,5 @@
 use Rattle.bufmem.proofs.WordLaws.{full-tests}
-use Rattle.bufmodel.specs.Word.{usage, flags}
 use Rattle.bufmem.proofs.word.is_full.Goals as goal
 
 pub returns : goal.returns
-unfolding usage flags
-returns c = full-tests c.args.cap c.args.w c.ranges.w.fits
+returns c = rw (c.flags_of-flags.ensures, c.usage_of.ensures) (full-tests c.args.cap c.args.w c.ranges.w.fits)

@@ -23,7 +23,7 @@ pub returns-in_default : goal.returns-in_default
 unfolding put_at
 returns-in_default c =
     let a = c.args in
-    ap (put_at a.control.size _ a.store.now) (sym (found-other _ c.in_default.not-At) ∙ place c)
+    ap (put_at a.control.size _ a.store.now) (sym (found-other _ c.in_default.not-Ok) ∙ place c)
 
 -- what the search for the page's place answered
 place-2 : (c : goal.After-page_to_store-arg-2-1)
@@ -34,9 +34,9 @@ place-2 c = ap found_place c.place_of.ensures ∙ found-placed _ _ ∙ ap (place
 pub page_to_store-requires : goal.page_to_store-requires
 unfolding found_place
 page_to_store-requires c =
-    let e = sym (place-2 c) ∙ ap found_place c.in-At.is in
+    let e = sym (place-2 c) ∙ ap found_place c.in-Ok.is in
     let r = (rows-say c.args.rows.now).holds c.requires.rows in
-    let g = c.in-At.g in (
+    let g = c.in-Ok.g in (
       c.requires.page,
       block_in c.args.control.size _ g c.args.store.now c.requires.store (place-in c.args.rows.now r _ e),
       c.requires.pool,
@@ -52,7 +52,7 @@ pub returns : goal.returns
 unfolding put_at found_place
 returns c =
     let a = c.args in
-    let e = sym (place-3 c) ∙ ap found_place c.in-At.is in
+    let e = sym (place-3 c) ∙ ap found_place c.in-Ok.is in
     let page = block a.control.size a.buffer.0 a.pool.now in
     let name = c.stored-name.ensures in
     c.page_to_store.ensures

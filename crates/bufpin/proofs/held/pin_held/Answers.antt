@@ -1,5 +1,5 @@
 use Prim.Native.Nat.{◌+◌}
-use mathlib.Core.Path.{refl, sym, ◌∙◌, ap}
+use mathlib.Core.Path.{sym, ◌∙◌, ap}
 use lib.ListN.{get_or, set}
 use borrow.Author.Tests.{eq-eqb, ne_eqb}
 use Rattle.bufmodel.specs.Counts.{max_count, count_at, set_count}
@@ -12,7 +12,7 @@ unfolding held_at held_words held_counts
 returns-then-count c =
     let had = count_at c.args.counts.now c.args.buffer.0 c.args.holder.0 in
     let e = eq-eqb had max_count (sym c.count_of-count.ensures ∙ c.if-count.true) in
-    rw c.pin_refused.ensures (record { control_value = refl; answer_value = rw e; states_after = rw e; counts_after = rw e })
+    record { value = rw e; states_after = rw e; counts_after = rw e }
 
 pub returns : goal.returns
 unfolding held_at held_words held_counts
@@ -24,8 +24,7 @@ returns c =
     let e = ne_eqb (count_at counts b c.args.holder.0) max_count (λ z. c.if-count.false (read ∙ z)) in
     let word = ap (λ x. set words b (held_word c.args.control.cap x (get_or words b 0))) read in
     let count = ap (λ x. set_count counts b c.args.holder.0 (x + 1)) read in record {
-      control_value = refl;
-      answer_value = rw e;
+      value = rw e;
       states_after = rw e (c.count_first.ensures ∙ word);
       counts_after = rw e (c.put_count.ensures ∙ count);
     }

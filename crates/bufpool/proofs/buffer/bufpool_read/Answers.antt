@@ -5,7 +5,7 @@ use Rattle.bufpool.proofs.CallLaws.{read-early, read_left}
 use Rattle.bufpool.proofs.buffer.bufpool_read.Goals as goal
 
 pub returns-then-answer-ne-ANSWER_WORDS : goal.returns-then-answer-ne-ANSWER_WORDS
-returns-then-answer-ne-ANSWER_WORDS c = export-answer _ _ _ _ c.if-answer-ne-ANSWER_WORDS.true
+returns-then-answer-ne-ANSWER_WORDS c = rw c.from.ensures (export-answer _ _ _ _ c.if-answer-ne-ANSWER_WORDS.true)
 
 pub returns-then-control-ne-CONTROL_WORDS : goal.returns-then-control-ne-CONTROL_WORDS
 returns-then-control-ne-CONTROL_WORDS c =
@@ -13,10 +13,10 @@ returns-then-control-ne-CONTROL_WORDS c =
 
 pub returns : goal.returns
 returns c =
-    let p = c.put_accepted.ensures in
-    let u = c.read_buffer-answered.ensures in
+    let p = c.put_answer.ensures in
+    let u = c.read_buffer-given.ensures in
     let is = c.read_control.ensures in
     let early = read-early _ _ _ _ in
     rw u.out_after
     (export-left _ _ _ _ c.if-answer-ne-ANSWER_WORDS.false c.if-control-ne-CONTROL_WORDS.false (call-read _ _ _ early _ is) (read-answers _ _ _ _ _)
-    (p.value ∙ u.result_value) (p.answer_after ∙ u.result_value_2) (read_left _ _ _ _ _) early is refl)
+    (p.value ∙ u.number) (p.answer_after ∙ u.words) (read_left _ _ _ _ _) early is refl)

@@ -1,8 +1,5 @@
 use native.Mathlib.Omega.{arith}
-use mathlib.Core.Bool.{true}
-use mathlib.Core.Path.{◌≡◌, sym, ap, ◌∙◌}
-use lib.ListN.{length}
-use Rattle.bufmodel.specs.Sizes.{permitted}
+use mathlib.Core.Path.{sym, ap, ◌∙◌}
 use Rattle.bufmodel.specs.Outcome.{one}
 use Rattle.bufmodel.proofs.SizesLaws.{permitted-within}
 use Rattle.bufpool.proofs.ChecksumLaws.{sum-slice, sum-size, sum_done}
@@ -11,7 +8,7 @@ use Rattle.bufpool.proofs.checksum.bufpool_checksum.Goals as goal
 pub returns-then-answer-ne-ANSWER_WORDS : goal.returns-then-answer-ne-ANSWER_WORDS
 returns-then-answer-ne-ANSWER_WORDS c =
     let t = let a = c.args in sum-slice a.page.now a.answer.now a.block c.if-answer-ne-ANSWER_WORDS.true in
-    record { value = t.0; answer_after = t.1 }
+    rw c.from.ensures (record { value = t.0; answer_after = t.1 })
 
 pub returns-then-not-size_ok : goal.returns-then-not-size_ok
 returns-then-not-size_ok c =
@@ -19,25 +16,17 @@ returns-then-not-size_ok c =
     let d =
     sum-size a.page.now a.answer.now a.block c.if-answer-ne-ANSWER_WORDS.false
     (sym c.size_ok.ensures ∙ c.if-not-size_ok.true) in record {
-      value = d.0;
-      answer_after = c.put_words.ensures ∙ d.1;
+      value = c.refuse.ensures.value ∙ d.0;
+      answer_after = c.refuse.ensures.answer_after ∙ d.1;
     }
 
--- the page's length is permitted
-size : (c : goal.Else-not-size_ok) → permitted (length c.args.page.now) ≡ true
-size c = sym c.size_ok.ensures ∙ c.if-not-size_ok.false
-
 pub page_checksum-sum-requires : goal.page_checksum-sum-requires
-page_checksum-sum-requires c = omega (arith, (permitted-within (size c)).0)
-
--- the page's length is permitted
-size-2 : (c : goal.After-slice_known-2-1) → permitted (length c.args.page.now) ≡ true
-size-2 c = sym c.size_ok.ensures ∙ c.if-not-size_ok.false
+page_checksum-sum-requires c = omega (arith, (permitted-within (sym c.size_ok.ensures ∙ c.if-not-size_ok.false)).0)
 
 pub returns : goal.returns
 returns c =
     let a = c.args in
-    let d = sum_done a.page.now a.answer.now a.block c.if-answer-ne-ANSWER_WORDS.false (size-2 c) in record {
-      value = d.0;
-      answer_after = c.put_words-2.ensures ∙ ap one c.page_checksum-sum.ensures ∙ d.1;
+    let d = sum_done a.page.now a.answer.now a.block c.if-answer-ne-ANSWER_WORDS.false (sym c.size_ok.ensures ∙ c.if-not-size_ok.false) in record {
+      value = c.put_answer.ensures.value ∙ d.0;
+      answer_after = c.put_answer.ensures.answer_after ∙ ap one (c.from-2.ensures ∙ c.page_checksum-sum.ensures) ∙ d.1;
     }

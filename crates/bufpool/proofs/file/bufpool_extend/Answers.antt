@@ -5,7 +5,7 @@ use Rattle.bufpool.proofs.CallLaws.{extend-early}
 use Rattle.bufpool.proofs.file.bufpool_extend.Goals as goal
 
 pub returns-then-answer-ne-ANSWER_WORDS : goal.returns-then-answer-ne-ANSWER_WORDS
-returns-then-answer-ne-ANSWER_WORDS c = export-answer _ _ _ _ c.if-answer-ne-ANSWER_WORDS.true
+returns-then-answer-ne-ANSWER_WORDS c = rw c.from.ensures (export-answer _ _ _ _ c.if-answer-ne-ANSWER_WORDS.true)
 
 pub returns-then-control-ne-CONTROL_WORDS : goal.returns-then-control-ne-CONTROL_WORDS
 returns-then-control-ne-CONTROL_WORDS c =
@@ -13,10 +13,10 @@ returns-then-control-ne-CONTROL_WORDS c =
 
 pub returns : goal.returns
 returns c =
-    let p = c.put_extended.ensures in
-    let u = c.extend_file-answered.ensures in
+    let p = c.put_answer.ensures in
+    let u = c.extend_file-given.ensures in
     let is = c.read_control.ensures in
     let early = extend-early _ in
     rw (← c.file_name-file.ensures)
     (export-left _ _ _ _ c.if-answer-ne-ANSWER_WORDS.false c.if-control-ne-CONTROL_WORDS.false (call-read _ _ _ early _ is) (extend-answers _ _)
-    (p.value ∙ u.result_value) (p.answer_after ∙ u.result_value_2) u.store_after early is refl)
+    (p.value ∙ u.number) (p.answer_after ∙ u.words) u.store_after early is refl)

@@ -5,7 +5,7 @@ use Rattle.bufpool.proofs.CallLaws.{flushed-early}
 use Rattle.bufpool.proofs.log.bufpool_log_flushed.Goals as goal
 
 pub returns-then-answer-ne-ANSWER_WORDS : goal.returns-then-answer-ne-ANSWER_WORDS
-returns-then-answer-ne-ANSWER_WORDS c = export-answer _ _ _ _ c.if-answer-ne-ANSWER_WORDS.true
+returns-then-answer-ne-ANSWER_WORDS c = rw c.from.ensures (export-answer _ _ _ _ c.if-answer-ne-ANSWER_WORDS.true)
 
 pub returns-then-control-ne-CONTROL_WORDS : goal.returns-then-control-ne-CONTROL_WORDS
 returns-then-control-ne-CONTROL_WORDS c =
@@ -13,9 +13,9 @@ returns-then-control-ne-CONTROL_WORDS c =
 
 pub returns : goal.returns
 returns c =
-    let p = c.put_accepted-r.ensures in
-    let u = c.log_flushed-end.ensures in
+    let p = c.put_record.ensures in
+    let u = c.log_flushed-given.ensures in
     let read = call-read _ _ _ (flushed-early _) _ c.read_control.ensures in
-    rw c.keep_control.ensures
+    rw (p.control_after c.read_control.result)
     (export-made _ _ _ _ c.if-answer-ne-ANSWER_WORDS.false c.if-control-ne-CONTROL_WORDS.false read (flushed-answers _ _)
-    (p.value ∙ u.answer_value_2) (p.answer_after ∙ u.answer_value_3) u.store_value)
+    (p.value ∙ u.number) (p.answer_after ∙ u.words) u.after)

@@ -5,7 +5,7 @@ use Rattle.bufpool.proofs.CallLaws.{set-up-read}
 use Rattle.bufpool.proofs.set_up.bufpool_set_up.Goals as goal
 
 pub returns-then-answer-ne-ANSWER_WORDS : goal.returns-then-answer-ne-ANSWER_WORDS
-returns-then-answer-ne-ANSWER_WORDS c = export-answer _ _ _ _ c.if-answer-ne-ANSWER_WORDS.true
+returns-then-answer-ne-ANSWER_WORDS c = rw c.from.ensures (export-answer _ _ _ _ c.if-answer-ne-ANSWER_WORDS.true)
 
 pub returns-then-control-ne-CONTROL_WORDS : goal.returns-then-control-ne-CONTROL_WORDS
 returns-then-control-ne-CONTROL_WORDS c =
@@ -13,8 +13,8 @@ returns-then-control-ne-CONTROL_WORDS c =
 
 pub returns : goal.returns
 returns c =
-    let p = c.put_accepted-r.ensures in
-    let u = c.set_up_pool-end.ensures in
-    rw c.keep_control.ensures
+    let p = c.put_record.ensures in
+    let u = c.set_up_pool-given.ensures in
+    rw (p.control_after c.read_control.result)
     (export-made _ _ _ _ c.if-answer-ne-ANSWER_WORDS.false c.if-control-ne-CONTROL_WORDS.false (set-up-read _ _ _ _ _) (set-up-answers _ _ _ _)
-    (p.value ∙ u.answer_value_2) (p.answer_after ∙ u.answer_value_3) u.store_after)
+    (p.value ∙ u.number) (p.answer_after ∙ u.words) u.store_after)

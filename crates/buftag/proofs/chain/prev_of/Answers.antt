@@ -1,37 +1,40 @@
-use borrow.Author.Rules.{rules}
+use Rattle.std.proofs.Common.{◌≡◌, ◌-◌, pos, sym, ◌∙◌, ap, length, arith}
+use Rattle.buftag.specs.Link.{is_to, link_at}
 use Rattle.buftag.proofs.LeaveSteps.{prev-none, prev-other, prev-past, prev-hit, prev-on}
-use Rattle.buftag.specs.Link.{is_to}
-use mathlib.Core.Path.{◌≡◌, sym, ◌∙◌, ap}
-use native.Mathlib.Omega.{arith}
+use Rattle.buftag.proofs.SignedLaws.{link-back}
 use Rattle.buftag.proofs.chain.prev_of.Goals as goal
+use Rattle.buftag.proofs.chain.prev_of.Goals.{After-from-at}
 
-pub returns-in_default : goal.returns-in_default
-returns-in_default c =
-    let l = c.loop-left in
-    sym (prev-other _ _ l.left l.at c.in_default.not-To) ∙ l.invariant.1
+-- what the link of the place says
+next : (c : After-from-at) → c.from-at.result ≡ link_at c.args.chain.now c.in-To.p
+next c =
+    link-back c.args.chain.now c.in-To.p c.from-at.ensures (record { sfits = omega arith }) (c.in_ok-get.ensures.lookup.3.1 (pos 0))
 
-pub returns-then-p-chain : goal.returns-then-p-chain
-returns-then-p-chain c =
-    let l = c.loop-left in
-    sym (prev-past _ _ l.left _ c.if-p-chain.true) ∙ (rw c.in-To.is at l.invariant.1)
+pub returns-in_default-clause-value : goal.returns-in_default-clause-value
+returns-in_default-clause-value c = sym (prev-other _ _ _ c.loop.at c.in_default.not-To) ∙ c.loop.invariant
 
-pub returns-then-leads_to : goal.returns-then-leads_to
-returns-then-leads_to c =
-    let l = c.loop-left in
-    let t = sym (c.leads_to.ensures ∙ ap (is_to c.args.i) c.link_at-at.ensures) ∙ c.if-leads_to.true in
-    sym (prev-hit _ _ l.left _ (omega arith) (omega arith) t) ∙ (rw c.in-To.is at l.invariant.1)
+pub returns-in_err-get-clause-value : goal.returns-in_err-get-clause-value
+returns-in_err-get-clause-value c =
+    c.from_residual.ensures ∙ sym (prev-past _ _ _ _ c.in_err-get.ensures.lookup.3) ∙ (rw c.in-To.is at c.loop.invariant)
 
-pub loop-left-preserved : goal.loop-left-preserved
-loop-left-preserved c =
-    let l = c.loop-left in
-    let t = sym (c.leads_to.ensures ∙ ap (is_to c.args.i) c.link_at-at.ensures) ∙ c.if-leads_to.false in (
-      search rules,
-      rw c.link_at-at.ensures
-          (sym (prev-on _ _ l.left _ (omega arith) (omega arith) t) ∙ (rw c.in-To.is at l.invariant.1)),
-    )
+pub returns-then-leads_to-clause-value : goal.returns-then-leads_to-clause-value
+returns-then-leads_to-clause-value c =
+    let e = next (goal.at.returns-then-leads_to-clause-value c).After-from-at in
+    sym
+    (prev-hit _ _ _ _ (omega arith) c.in_ok-get.ensures.lookup.3.0
+    (sym (c.leads_to.ensures ∙ ap (is_to c.args.i) e) ∙ c.if-leads_to.true))
+    ∙ (rw c.in-To.is at c.loop.invariant)
 
-pub returns : goal.returns
-returns c =
-    let l = c.loop-left in
-    let none_left : l.left ≡ 0 = omega arith in
-    sym (prev-none _ _ l.at) ∙ (rw none_left at l.invariant.1)
+pub loop-preserved : goal.loop-preserved
+loop-preserved c =
+    let e = next (goal.at.loop-preserved c).After-from-at in
+    rw e
+    (sym
+    (prev-on _ _ _ _ (omega arith) c.in_ok-get.ensures.lookup.3.0
+    (sym (c.leads_to.ensures ∙ ap (is_to c.args.i) e) ∙ c.if-leads_to.false))
+    ∙ (rw c.in-To.is at c.loop.invariant))
+
+pub returns-clause-value : goal.returns-clause-value
+returns-clause-value c =
+    let none_left : length c.args.chain.now - c.loop.counter ≡ 0 = omega arith in
+    sym (prev-none _ _ c.loop.at) ∙ (rw none_left at c.loop.invariant)

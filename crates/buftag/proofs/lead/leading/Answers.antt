@@ -1,35 +1,39 @@
-use Rattle.laws.proofs.Sum.{count_none, count-hit, count-miss, count-done, count-le}
+use Rattle.std.proofs.Common.{◌≡◌, ◌+◌, pos, Bool, true, false, not, get_or, refl, sym, ap, ◌∙◌, arith}
+use mir.Val.{bool_byte}
+use Rattle.laws.specs.Sum.{ind, count}
+use Rattle.laws.proofs.Sum.{count_none, count-le, sum-one-more}
 use Rattle.buftag.specs.Check.{leading}
 use Rattle.buftag.proofs.SignedLaws.{end_test}
-use native.Mathlib.Omega.{arith}
-use lib.IntN.{pos}
-use lib.ListN.{get_or}
-use mathlib.Core.Bool.{not}
-use mathlib.Core.Path.{ap, sym, ◌∙◌}
-use borrow.Author.Rules.{rules}
-use borrow.Author.Tests.{eq-eqb, ne_eqb}
 use Rattle.buftag.proofs.lead.leading.Invariants.{on}
 use Rattle.buftag.proofs.lead.leading.Goals as goal
-use Rattle.buftag.proofs.lead.leading.Goals.{then-links-i, else-links-i}
 
-pub loop-i-init : goal.loop-i-init
-loop-i-init c = (search rules, sym (count_none _))
+byte-ind : (b : Bool) → bool_byte (not b) ≡ ind (not b)
+byte-ind true = refl
+byte-ind false = refl
 
-pub loop-i-preserved : goal.loop-i-preserved
-loop-i-preserved c =
+-- one link more is counted
+more : (c : goal.After-from-many) → c.loop-link.many + c.from-many.result ≡ count (c.loop-link.link-index + 1) (on c.args.links.now)
+unfolding count
+more c =
     let links = c.args.links.now in
-    let i = c.loop-i.i in
-    let told = sym (end_test (get_or links i (pos 0)) (record { sfits = c.t7-1.given })) in (
-      search rules,
-      elim c.if-links-i.branch [
-        | then-links-i w ↦ omega (arith, w.many-is, count-hit (on links) i (ap not (told ∙ ne_eqb _ _ w.if-links-i.true)))
-        | else-links-i w ↦ omega (arith, w.many-is, count-miss (on links) i (ap not (told ∙ eq-eqb _ _ w.if-links-i.false)))
-      ],
+    let i = c.loop-link.link-index in
+    let told = end_test (get_or links i (pos 0)) (record { sfits = omega arith }) in
+    omega (
+      arith,
+      c.loop-link.invariant,
+      c.from-many.ensures ∙ byte-ind _ ∙ ap (λ b. ind (not b)) told,
+      sum-one-more (λ k. ind (on links k)) i,
     )
 
+pub loop-link-init : goal.loop-link-init
+loop-link-init c = sym (count_none _)
+
 pub overflow_add-many : goal.overflow_add-many
-overflow_add-many c = omega (arith, count-le (on c.args.links.now) c.loop-i.i)
+overflow_add-many c = omega (arith, more c, count-le (on c.args.links.now) (c.loop-link.link-index + 1))
+
+pub loop-link-preserved : goal.loop-link-preserved
+loop-link-preserved c = more c
 
 pub returns : goal.returns
 unfolding leading
-returns c = count-done _ _ _ _ c.loop-i.invariant.0 (search rules) c.loop-i.invariant.1
+returns c = c.loop-link.invariant ∙ ap (λ k. count k (on c.args.links.now)) (omega arith)

@@ -5,4 +5,4 @@ use Rattle.buftag.proofs.name.bucket.Goals as goal
 
 pub returns : goal.returns
 unfolding bucket_of
-returns c = ap (λ h. h % c.args.buckets) c.hash-h.ensures.value_2
+returns c = ap (λ h. h % c.args.buckets) c.hash.ensures.value_2

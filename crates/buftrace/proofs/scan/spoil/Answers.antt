@@ -1,10 +1,5 @@
-use borrow.Author.Rules.{rules}
-use mathlib.Core.Path.{refl}
 use Rattle.buftrace.proofs.ReaderLaws.{spoilt-becomes}
 use Rattle.buftrace.proofs.scan.spoil.Goals as goal
 
-pub returns : goal.returns
-returns c = record {
-  value = refl;
-  becomes = spoilt-becomes _ (search rules);
-}
+pub returns-clause-becomes : goal.returns-clause-becomes
+returns-clause-becomes c = spoilt-becomes _ c.requires
