@@ -6,7 +6,7 @@ import re
 import shutil
 import sys
 
-FUNCTION = re.compile(r'^(?:#\[(?:[^\[\]]|\[[^\[\]]*\])*\]\n)*(?:pub )?(?:extern "C" )?fn .*?^\}\n', re.M | re.S)
+FUNCTION = re.compile(r'^(?:#\[(?:[^\[\]]|\[[^\[\]]*\])*\]\n)*(?:pub )?(?:(?:extern "C" )?fn|impl) .*?^\}\n', re.M | re.S)
 GHOST_USE = re.compile(r'^ghost use .*?;\n', re.M | re.S)
 USE = re.compile(r'^((?:pub )?use [\w:]+::)(\{[^}]*\}|\w+);\n', re.M)
 

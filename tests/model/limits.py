@@ -96,18 +96,25 @@ def answers():
         yield call, tuple(range(5, 5 + (0, 1, ANSWER_WORDS - 1, ANSWER_WORDS, ANSWER_WORDS + 1, 8)[k % 6]))
 
 
+REFUSALS = ('Sizes', 'Books', 'NoFile', 'NoBlock', 'PinCount', 'AllPinned', 'NoBuffer', 'NotPinned', 'Range', 'NoBytes', 'NotInserted',
+            'Earlier', 'FileFull', 'FilePinned', 'LogShorter', 'FlushedBeyond', 'Checksum', 'Cap', 'NoHolder')
+
+
 def enums():
-    """The answers' enums of the code: what gives a number or words, a case, and what the paper has for it."""
+    """The answers of the code: what gives a number or words, a case, and what the paper has for it."""
     buffer = '(record { 0 = 5 })'
-    for enum, case, words in [
-            ('pinned', f'At {buffer} true false 7', [5, 1, 0, 7]), ('pinned', f'At {buffer} false true 0', [5, 0, 1, 0]),
-            ('written', 'Pages 6', [6, 0, 0, 0]), ('peeked', 'InPool 1024', [1, 1024, 0, 0]), ('peeked', 'InStore 2048', [0, 2048, 0, 0]),
-            ('extended', f'Block {buffer}', [5, 0, 0, 0]), ('accepted', 'Done', [0, 0, 0, 0])]:
-        yield f'{enum}_number', f'({enum}.TheVariants.{case})', 0
-        yield f'{enum}_words', f'({enum}.TheVariants.{case})', words
-    for enum in ('pinned', 'written', 'peeked', 'extended', 'accepted'):
-        yield f'{enum}_number', f'({enum}.TheVariants.Refused 13)', 13
-        yield f'{enum}_words', f'({enum}.TheVariants.Refused 13)', [0, 0, 0, 0]
+    pin = '(record { buffer = %s; hit = %s; wrote = %s; probes = %d })'
+    for answer, case, words in [
+            ('pinned', pin % (buffer, 'true', 'false', 7), [5, 1, 0, 7]), ('pinned', pin % (buffer, 'false', 'true', 0), [5, 0, 1, 0]),
+            ('written', '6', [6, 0, 0, 0]), ('peeked', '(InPool 1024)', [1, 1024, 0, 0]), ('peeked', '(InStore 2048)', [0, 2048, 0, 0]),
+            ('extended', buffer, [5, 0, 0, 0]), ('accepted', '(tt {0})', [0, 0, 0, 0])]:
+        yield f'{answer}_number', f'(Ok {case})', 0
+        yield f'{answer}_words', f'(Ok {case})', words
+    for answer in ('pinned', 'written', 'peeked', 'extended', 'accepted'):
+        yield f'{answer}_number', '(Err FileFull)', 13
+        yield f'{answer}_words', '(Err FileFull)', [0, 0, 0, 0]
+    for number, why in enumerate(REFUSALS, 1):
+        yield 'accepted_number', f'(Err {why})', number
 
 
 def sums():

@@ -20,11 +20,11 @@ use Rattle.bufmodel.specs.Sizes.{sound_rows}
 use Rattle.bufmodel.specs.Calls.{set_up}
 use Rattle.bufmodel.specs.Step.{Call, Pin, Unpin, Read, Write, Flush, GiveBack, Checkpoint, Peek, Extend, Drop, LogInserted, LogFlushed}
 use Rattle.bufmodel.specs.Lent.{Lent}
-use Rattle.bufmodel.specs.declared.answer.Pinned as pinned
-use Rattle.bufmodel.specs.declared.answer.Written as written
-use Rattle.bufmodel.specs.declared.answer.Peeked as peeked
-use Rattle.bufmodel.specs.declared.answer.Extended as extended
-use Rattle.bufmodel.specs.declared.answer.Accepted as accepted
+use Rattle.std.specs.Prelude.{Ok, Err}
+use Rattle.bufmodel.specs.declared.answer.Peeked.TheVariants.{InPool, InStore}
+use Rattle.bufmodel.specs.declared.refusal.Refusal.TheVariants.{Sizes, Books, NoFile, NoBlock, PinCount, AllPinned, NoBuffer, NotPinned}
+use Rattle.bufmodel.specs.declared.refusal.Refusal.TheVariants.{Range, NoBytes, NotInserted, Earlier, FileFull, FilePinned, LogShorter}
+use Rattle.bufmodel.specs.declared.refusal.Refusal.TheVariants.{FlushedBeyond, Checksum, Cap, NoHolder}
 use Rattle.bufmodel.specs.Answer.{pinned_number, pinned_words, written_number, written_words, peeked_number, peeked_words}
 use Rattle.bufmodel.specs.Answer.{extended_number, extended_words, accepted_number, accepted_words}
 use Rattle.shelf.specs.Shelf.{Shelf}

@@ -1,5 +1,6 @@
 """alone.py FOLDER [CRATE..]: whether each edit FOLDER/CRATE/must-fail/FUNCTION-SLIP.edit changes this function alone: its body, or its clauses
-where no other function of the crate calls it. The sources are crates/CRATE/src.
+where no other function of the crate calls it. The sources are crates/CRATE/src. A function of an impl is TYPE.FUNCTION. An edit whose function
+another does the work of now has a line in moved.txt.
 
 Prints a line for each crate, and then 'N passed, M failed'."""
 import glob
@@ -7,7 +8,8 @@ import os
 import re
 import sys
 
-FUNCTION = re.compile(r'(?:^(?:pub )?(?:extern "C" )?|(?<=\} ))fn (\w+)', re.M)
+FUNCTION = re.compile(r'(?:^(?:    )?(?:pub(?:\(crate\))? )?(?:extern "C" )?|(?<=\} ))fn (\w+)', re.M)
+HEADER = re.compile(r'^(?:pub )?(impl|trait)\b([^{]*)\{', re.M)
 # An edit is of one line: what it leaves of the older body may stand behind the function under this name, which nothing calls.
 LEFT = 'what_was_here'
 CLAUSE = re.compile(r'\b(?:requires|ensures)(?:\s+\w+)?\s*$')
@@ -50,14 +52,28 @@ def parts(text):
             body = text.index('{', at)
             clause = CLAUSE.search(text, at, body)
             at = closed(text, body)
-            if not clause:
+            if not clause or text[at:].lstrip().startswith(';'):
                 break
-        found[match[1]] = (' '.join(text[match.start():body].split()), ' '.join(text[body:at].split()))
+        name = match[1]
+        if match[0].startswith('    '):
+            header = [head for head in HEADER.finditer(text, 0, match.start())][-1]
+            name = header[2].split()[-1] + '.' + name
+        found[name] = (' '.join(text[match.start():body].split()), ' '.join(text[body:at].split()))
     return found, ' '.join(USE.sub('', between + text[at:]).split())
 
 
+def moved():
+    """The edits that stand on another function than their name says: CRATE/EDIT, and that function."""
+    with open(os.path.join(os.path.dirname(__file__), 'moved.txt'), encoding='utf8') as lines:
+        return dict(line.split() for line in lines if not line.startswith('#'))
+
+
+MOVED = moved()
+
+
 def whats_wrong(crate, path):
-    name = os.path.basename(path).partition('-')[0]
+    edit = os.path.basename(path)
+    name = MOVED.get(crate + '/' + edit.removesuffix('.edit'), edit.partition('-')[0])
     was, now = {}, {}
     for file, old, new in pairs(path):
         if file not in was:
@@ -77,7 +93,7 @@ def whats_wrong(crate, path):
     if changed != {name}:
         return 'changes ' + (' '.join(sorted(changed)) or 'nothing')
     sources = glob.glob('crates/%s/src/**/*.rt' % crate, recursive=True)
-    calls = sum(len(re.findall(r'\b%s\(' % name, open(path, encoding='utf8').read())) for path in sources)
+    calls = sum(len(re.findall(r'\b%s\(' % name.rpartition('.')[2], open(path, encoding='utf8').read())) for path in sources)
     return 'changes a contract that others call' if clauses and calls != 1 else ''
 
 

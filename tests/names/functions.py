@@ -15,7 +15,9 @@ class Function:
         self.types = types  # of each variable
         self.ends = types[:count + 1]  # the result, then what it takes
         self.named = named  # the types of a struct's fields, or of an enum's
-        self.calls, self.cuts = calls, cuts
+        self.calls = calls
+        # by itself, or by the library
+        self.cuts = cuts or any(re.search('::to_[bln]e_bytes$', call) for call in calls)
 
 
 def parts(node):
@@ -147,7 +149,7 @@ def of_file(name, text):
                     [written_type(one[1]) for one in elements(parsed(found[record['locals']])[0], '◌∷◌')],
                     {symbol(one[0]): written_shape(one[2]) for one in elements(rows, '◌∷◌')},
                     {'::'.join([crate] + path.split('.')) for crate, path in
-                     re.findall(r'(?m)^use Rattle\.(\w+)\.proofs\.(\S+)\.Symbol\b', text)},
+                     re.findall(r'(?m)^use Rattle\.(?:std\.below\.)?(\w+)\.proofs\.(\S+)\.Symbol\b', text)},
                     any(node[0] == 'cast' and node[-1] == 'w8' for body in own for node in parts(body)))
 
 
