@@ -57,7 +57,7 @@ def parts(text):
         name = match[1]
         if match[0].startswith('    '):
             header = [head for head in HEADER.finditer(text, 0, match.start())][-1]
-            name = header[2].split()[-1] + '.' + name
+            name = header[2].split()[-1].partition('<')[0] + '.' + name
         found[name] = (' '.join(text[match.start():body].split()), ' '.join(text[body:at].split()))
     return found, ' '.join(USE.sub('', between + text[at:]).split())
 

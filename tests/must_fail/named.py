@@ -38,13 +38,13 @@ def functions(crate):
 
 
 def of_impls(crate):
-    """The functions that a crate's types have by traits, as TYPE.FUNCTION. A program's are its own."""
+    """The functions that a crate's types have by traits, and their public ones, as TYPE.FUNCTION. A program's are its own."""
     for path in sorted(glob.glob('crates/%s/src/**/*.rt' % crate, recursive=True)):
         if os.path.exists('crates/%s/src/main.rt' % crate):
             return
         for head, body in IMPL.findall(open(path, encoding='utf8').read()):
-            for name in re.findall(r'^    fn (\w+)', body, re.M):
-                yield head.split()[-1] + '.' + name
+            for name in re.findall(r'^    (?:pub fn|fn) (\w+)', body, re.M):
+                yield head.split()[-1].partition('<')[0] + '.' + name
 
 
 def main():

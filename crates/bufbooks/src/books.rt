@@ -5,9 +5,11 @@ ghost use Rattle.bufmodel.specs.View.{memory_of};
 ghost use Rattle.bufbooks.specs.Buffers.{Fitting};
 ghost use Rattle.bufbooks.specs.Books.{books_test};
 
-use crate::buffers::{buffers_ok, tables_of};
+use crate::buffers::buffers_ok;
 use crate::lists::lists_ok;
+use crate::tables::tables_of;
 use bufmem::word::cap_ok;
+use bufmodel::rows::SoundRows;
 use bufmodel::view::PoolView;
 
 // Whether they are sound.
@@ -21,5 +23,5 @@ pub fn books_ok(lent: &PoolView<'_>) -> bool
         && control.hand < lent.states.len()
         && control.flushed <= control.inserted
         && lists_ok(lent)
-        && buffers_ok(lent, &tables_of(lent.rows))
+        && buffers_ok(lent, &tables_of(SoundRows { words: lent.rows }))
 }

@@ -1,50 +1,27 @@
 // The pass over the buffers: each one's log position, name and place in its chain.
 
-ghost use Rattle.std.specs.Prelude.{◌≡◌, true, ◌+◌, ◌*◌, ◌≤◌, ◌<◌, length};
+ghost use Rattle.std.specs.Prelude.{◌≡◌, ◌+◌, ◌*◌, ◌≤◌, ◌<◌, length};
 ghost use Rattle.laws.specs.Every.{all};
 ghost use Rattle.buftag.specs.Bucket.{Masks};
 ghost use Rattle.buftag.specs.Names.{name_words};
 ghost use Rattle.bufmodel.specs.Rows.{row_of};
 ghost use Rattle.bufmodel.specs.View.{memory_of};
-ghost use Rattle.bufmodel.specs.Sizes.{max_buffers, max_buckets, sound_rows};
+ghost use Rattle.bufmodel.specs.Sizes.{max_buffers, max_buckets};
 ghost use Rattle.bufmem.specs.Rows.{found_row};
-ghost use Rattle.bufbooks.specs.Hashes.{Hashed};
 ghost use Rattle.bufbooks.specs.Buffers.{low_test, held_test, buffer_test};
 
-use crate::guesses::{SLOTS, guess_rows, slot_of};
-use crate::hashes::hash_rows;
-use crate::sound_rows::MAX_FILES;
+use crate::guesses::slot_of;
+use crate::tables::Tables;
 use bufmem::page::page_position;
 use bufmem::rows::{ROW_WORDS, find_row, has_block, is_file};
 use bufmem::word::{is_dirty, is_empty};
+use bufmodel::rows::SoundRows;
 use bufmodel::view::PoolView;
 use buftag::bucket::{bucket_by, mask_of};
 use buftag::check::is_first;
 use buftag::name::{FileName, hash_short};
 use buftag::names::{holds, no_name, stored};
 use buftag::number::BufferNumber;
-
-// What a call makes of the rows once, and looks up for each buffer.
-#[derive(Drop)]
-pub struct Tables {
-    // The hash of each row's file.
-    pub hashes: [u32; MAX_FILES],
-    // Which row a file is likely to have, by its slot.
-    pub guesses: [u8; SLOTS],
-}
-
-#[tactic(auto, using(crate::proofs::SizesLaws::rows_few), unfolding(bufmodel::specs::Rows::files))]
-pub fn tables_of(rows: &[u32]) -> Tables
-    requires { sound_rows rows.now ≡ true }
-    ensures { Hashed rows.now result.hashes }
-{
-    let mut hashes = [0; MAX_FILES];
-    hash_rows(rows, &mut hashes);
-    Tables {
-        hashes,
-        guesses: guess_rows(rows, [0; SLOTS]),
-    }
-}
 
 // Whether a buffer in use is clean, or its log position is at most inserted.
 #[tactic(auto, unfolding(crate::specs::Buffers::low_test))]
@@ -57,10 +34,10 @@ fn is_low(lent: &PoolView<'_>, w: u32, buffer: BufferNumber) -> bool
 }
 
 // The row of a file, by a guess that need not be right.
-fn row_near(rows: &[u32], guess: u8, file: FileName) -> Option<usize>
-    requires { sound_rows rows.now ≡ true }
-    ensures { found_row result ≡ row_of rows.now file }
+fn row_near(rows: SoundRows<'_>, guess: u8, file: FileName) -> Option<usize>
+    ensures { found_row result ≡ row_of rows.entry.words.now file }
 {
+    let rows = rows.words;
     let near = usize::from(guess);
     if near < rows.len() / ROW_WORDS && is_file(rows, near, file) {
         return Some(near);
@@ -70,21 +47,24 @@ fn row_near(rows: &[u32], guess: u8, file: FileName) -> Option<usize>
 
 // Whether a buffer's name names a block that its file has, and a look-up of it finds the buffer.
 #[tactic(auto, using(crate::proofs::BuffersLaws::held), unfolding(bufmodel::specs::Rows::files))]
-fn held_ok(lent: &PoolView<'_>, tables: &Tables, mask: Option<u32>, buffer: BufferNumber) -> bool
+fn held_ok(
+    lent: &PoolView<'_>,
+    tables: &Tables<'_>,
+    mask: Option<u32>,
+    buffer: BufferNumber,
+) -> bool
     requires { (0 < length lent.now.heads.now) × (length lent.now.heads.now ≤ max_buckets)
         × (length lent.now.chain.now ≤ max_buffers)
         × Masks (length lent.now.heads.now) mask
-        × (length lent.now.names.now ≡ name_words * length lent.now.chain.now) × (buffer.0 < length lent.now.chain.now)
-        × (sound_rows lent.now.rows.now ≡ true)
-        × Hashed lent.now.rows.now tables.now.hashes }
-    ensures { result ≡ held_test lent.now.names.now lent.now.heads.now lent.now.chain.now lent.now.rows.now buffer.0 }
+        × (length lent.now.names.now ≡ name_words * length lent.now.chain.now) × (buffer.0 < length lent.now.chain.now) }
+    ensures { result ≡ held_test lent.now.names.now lent.now.heads.now lent.now.chain.now tables.now.rows.words.now buffer.0 }
 {
     let name = stored(lent.names, buffer);
     let guess = tables.guesses[slot_of(name.file)];
-    let Some(row) = row_near(lent.rows, guess, name.file) else {
+    let Some(row) = row_near(tables.rows, guess, name.file) else {
         return false;
     };
-    if !has_block(lent.rows, row, name.block) {
+    if !has_block(tables.rows.words, row, name.block) {
         return false;
     }
     let hash = hash_short(tables.hashes[row], name.block);
@@ -94,14 +74,13 @@ fn held_ok(lent: &PoolView<'_>, tables: &Tables, mask: Option<u32>, buffer: Buff
 
 // Whether every buffer's page and name are sound.
 #[tactic(auto, using(crate::proofs::TurnsLaws::turns_all), unfolding(crate::specs::Buffers::buffer_test, bufmodel::specs::Books::empty_at))]
-pub fn buffers_ok(lent: &PoolView<'_>, tables: &Tables) -> bool
+pub fn buffers_ok(lent: &PoolView<'_>, tables: &Tables<'_>) -> bool
     requires { (8 ≤ lent.now.control.size) × (0 < length lent.now.heads.now) × (length lent.now.heads.now ≤ max_buckets)
         × (length lent.now.states.now ≤ max_buffers)
         × (length lent.now.names.now ≡ name_words * length lent.now.states.now)
         × (length lent.now.pool.now ≡ length lent.now.states.now * lent.now.control.size)
         × (length lent.now.chain.now ≡ length lent.now.states.now)
-        × (sound_rows lent.now.rows.now ≡ true)
-        × Hashed lent.now.rows.now tables.now.hashes }
+        × (lent.now.rows.now ≡ tables.now.rows.words.now) }
     ensures { result ≡ all (length lent.now.states.now) (buffer_test (memory_of lent.now)) }
 {
     let mask = mask_of(lent.heads.len() as u32);

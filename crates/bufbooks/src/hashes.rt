@@ -1,18 +1,17 @@
 // The hash of each row's file, once for a call: a page's name takes its block's four bytes more.
 
-ghost use Rattle.std.specs.Prelude.{◌≡◌, true};
-ghost use Rattle.bufmodel.specs.Sizes.{sound_rows};
 ghost use Rattle.bufbooks.specs.Hashes.{Hashed};
 
 use crate::sound_rows::MAX_FILES;
 use bufmem::rows::{ROW_WORDS, file_at};
+use bufmodel::rows::SoundRows;
 use buftag::name::{hash_database, hash_within};
 
 // Files of one database stand together, mostly: its eight bytes are hashed where it is another than the row before has.
-pub fn hash_rows(rows: &[u32], hashes: &mut [u32; MAX_FILES])
-    requires { sound_rows rows.now ≡ true }
-    ensures { Hashed rows.now hashes.new }
+pub fn hash_rows(rows: SoundRows<'_>, hashes: &mut [u32; MAX_FILES])
+    ensures { Hashed rows.entry.words.now hashes.new }
 {
+    let rows = rows.words;
     // Lent, as nothing that asks for a hash makes an array; as a slice, whose length a proof knows.
     let all = &mut hashes[..];
     let mut tablespace = 0;

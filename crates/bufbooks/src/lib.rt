@@ -12,4 +12,5 @@ pub mod lent;
 pub mod lists;
 pub mod sizes;
 pub mod sound_rows;
+pub mod tables;
 pub mod words;

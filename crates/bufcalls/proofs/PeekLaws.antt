@@ -27,7 +27,7 @@ use Rattle.bufmodel.specs.Memory.{Memory, buffers, size}
 use Rattle.bufmodel.specs.Outcome.{Outcome, checked, done, refused}
 use Rattle.bufmodel.specs.Pin.{held_in}
 use Rattle.bufmodel.specs.Calls.{offset_of, part_of, part_in, part_at, part, peek}
-use Rattle.bufmodel.specs.Answer.{number_of, words_of, peek_words, answer_at, peeked_at, peeked_of}
+use Rattle.bufmodel.specs.Answer.{result_number, result_words, peek_words, answer_at, peeked_at, peeked_of}
 use Rattle.bufmodel.proofs.OutcomeLaws.{refusal-none}
 use Rattle.bufmodel.proofs.GoodLaws.{Good, passed-good}
 use Rattle.bufmodel.proofs.RefusalLaws.{refusal-not0}
@@ -40,7 +40,7 @@ use Rattle.bufmem.proofs.SeekLaws.{name-at, page-refused, page-held, page-passes
 
 -- ---- what the code answers: the answer with its number and words
 abbrev pub Says : Memory → PageName → Result Peeked Refusal → Type 0
-Says m n r = (r ≡ peeked_of (peek m n)) × (number_of r ≡ (peek m n).refusal) × (words_of peek_words r ≡ (peek m n).answer)
+Says m n r = (r ≡ peeked_of (peek m n)) × (result_number r ≡ (peek m n).refusal) × (result_words peek_words r ≡ (peek m n).answer)
 
 module _ (m : Memory) (n : PageName) where
   says_refused : (r : Refusal) → peek m n ≡ refused (refusal_number r) [] m → Says m n (Err r)

@@ -5,7 +5,7 @@ ghost use Rattle.laws.specs.Sum.{count};
 ghost use Rattle.bufmodel.specs.Word.{dirty};
 ghost use Rattle.bufmodel.specs.Memory.{memory, with_counts};
 ghost use Rattle.bufmodel.specs.Moves.{write_up_to};
-ghost use Rattle.bufmodel.specs.Answer.{written_number, written_words, written_of, answer_of, control_of};
+ghost use Rattle.bufmodel.specs.Answer.{written_number, written_words, written_of, answer_of, ended_control};
 ghost use Rattle.bufmodel.specs.Calls.{checkpoint};
 ghost use Rattle.bufcalls.specs.Checkpoint.{Stored};
 
@@ -82,7 +82,7 @@ pub fn checkpoint_pool(
         (memory control states.old names.now pool.now free.now heads.now
         chain.now rows.now store.old))).answer }
     ensures store_after { with_counts counts.now
-        (memory (control_of control result) states.new names.now pool.now free.now
+        (memory (ended_control control result) states.new names.now pool.now free.now
         heads.now chain.now rows.now store.new)
         ≡ (checkpoint
         (with_counts counts.now

@@ -2,7 +2,7 @@
 
 ghost use Rattle.std.specs.Prelude.{◌≡◌};
 ghost use Rattle.bufmodel.specs.Memory.{memory, with_counts};
-ghost use Rattle.bufmodel.specs.Answer.{written_number, written_words, written_of, answer_of, control_of};
+ghost use Rattle.bufmodel.specs.Answer.{written_number, written_words, written_of, answer_of, ended_control};
 ghost use Rattle.bufmodel.specs.Calls.{flush};
 
 use crate::buffer::buffer_refusal;
@@ -49,7 +49,7 @@ pub fn flush_buffer(
         (memory control states.old names.now pool.now free.now heads.now
         chain.now rows.now store.old)) holder.0 buffer.0).answer }
     ensures store_after { with_counts counts.now
-        (memory (control_of control result) states.new names.now pool.now free.now
+        (memory (ended_control control result) states.new names.now pool.now free.now
         heads.now chain.now rows.now store.new)
         ≡ (flush
         (with_counts counts.now

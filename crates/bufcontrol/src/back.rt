@@ -1,4 +1,4 @@
-// Write-back: flush and checkpoint.
+// Write-back: flush and checkpoint. Both change words and store alone, so that the other slices are lent to look at, one by one.
 
 ghost use Rattle.std.specs.Prelude.{◌≡◌};
 ghost use Rattle.bufmodel.specs.Memory.{memory, with_counts};

@@ -13,7 +13,7 @@ const PRIME_FOURTH: u32 = 1345077009;
 pub fn wrapping_mul(a: u32, b: u32) -> u32
     ensures { result ≡ a * b % 2 ^ 32 }
 {
-    ((a as u64) * (b as u64) % 4294967296) as u32
+    (u64::from(a) * u64::from(b) % 4294967296) as u32
 }
 
 // One byte on top of a hash.

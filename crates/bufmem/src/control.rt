@@ -15,7 +15,7 @@ pub const ANSWER_WORDS: usize = 4;
 // -1 as a control word: 64 one bits.
 const ONE_BITS: u64 = u64::MAX;
 
-// A number that is no link.
+// A number that is no link: the record has links as C has them, not an Option.
 const NO_LINK: i32 = -3;
 
 // The top of the free list. A word that is no link is made a number that is none.

@@ -8,7 +8,7 @@ use Rattle.bufmodel.specs.declared.refusal.Refusal.{Refusal}
 use Rattle.bufmodel.specs.Memory.{Memory}
 use Rattle.bufmodel.specs.Outcome.{Outcome, Place, zeros, one, refusal_of, checked, done, refused, outcome}
 use Rattle.bufmodel.specs.Refusal.{refusal_number, refusal_at}
-use Rattle.bufmodel.specs.Answer.{answer_at, number_of, words_of, done_words, accepted_at, written_at}
+use Rattle.bufmodel.specs.Answer.{answer_at, result_number, result_words, done_words, accepted_at, written_at}
 use Rattle.bufmodel.proofs.RefusalLaws.{refusal-not0, refusal-back}
 use Rattle.bufmodel.proofs.OutcomeLaws.{outcome-done, outcome-refused}
 use Rattle.bufmodel.proofs.GoodLaws.{Good, checked-good, checked-early}
@@ -61,7 +61,7 @@ bytes-refused r = ap (λ (x : Outcome). x.bytes) (sym r)
 -- ---- what is promised of the end of a call o: its answer, with number and words, and the memory afterwards
 abbrev pub Ends : {T : Type 0} → (T → List ℕ) → (List ℕ → T) → Result T Refusal → Memory → Outcome → Type 0
 Ends words of r after o =
-    (r ≡ answer_at of o.refusal o.answer) × (number_of r ≡ o.refusal) × (words_of words r ≡ o.answer) × (after ≡ o.after)
+    (r ≡ answer_at of o.refusal o.answer) × (result_number r ≡ o.refusal) × (result_words words r ≡ o.answer) × (after ≡ o.after)
 
 module _ {T : Type 0} (words : T → List ℕ) (of : List ℕ → T) {m : Memory} {e : Outcome} {bytes : List ℕ} where
   pub refused-all : (r : Refusal) → e ≡ refused (refusal_number r) bytes m → Ends words of (Err r) m e

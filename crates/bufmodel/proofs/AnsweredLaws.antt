@@ -20,7 +20,7 @@ use Rattle.bufmodel.specs.Word.{dirty}
 use Rattle.bufmodel.specs.Memory.{Memory, word_of}
 use Rattle.bufmodel.specs.Outcome.{Outcome, one, done, refused, outcome}
 use Rattle.bufmodel.specs.declared.refusal.Refusal.{Refusal}
-use Rattle.bufmodel.specs.Answer.{number_of, words_of, answer_at, pin_words, peek_words, extend_words, done_words}
+use Rattle.bufmodel.specs.Answer.{result_number, result_words, answer_at, pin_words, peek_words, extend_words, done_words}
 use Rattle.bufmodel.specs.Answer.{pinned_at, written_at, peeked_at, extended_at, accepted_at}
 use Rattle.bufmodel.proofs.RefusalLaws.{number-back, refusal-below, checked-below}
 use Rattle.bufmodel.specs.Sweep.{Swept}
@@ -39,8 +39,8 @@ by-case P (suc k) bytes m o l p q = q k l
 
 -- the case's number and words are the outcome's, the caller's own bytes are known, and a refused call leaves the memory
 pub record Answers {T : Type 0} (words : T → List ℕ) (of : List ℕ → T) (left : List ℕ) (m : Memory) (o : Outcome) : Type 0 where
-  pub same_number : number_of (answer_at of o.refusal o.answer) ≡ o.refusal
-  pub same-words : words_of words (answer_at of o.refusal o.answer) ≡ o.answer
+  pub same_number : result_number (answer_at of o.refusal o.answer) ≡ o.refusal
+  pub same-words : result_words words (answer_at of o.refusal o.answer) ≡ o.answer
   pub same_bytes : left ≡ o.bytes
   pub kept : o.refusal ≢ 0 → o.after ≡ m
 
@@ -48,12 +48,12 @@ module _ {T : Type 0} {words : T → List ℕ} {of : List ℕ → T} {left : Lis
     (answers : Answers words of left m o) {a : Result T Refusal} where
   -- an answer a that is this case has number and words
   pub answered : a ≡ answer_at of o.refusal o.answer
-      → (a ≡ answer_at of o.refusal o.answer) × ((number_of a ≡ o.refusal) × (words_of words a ≡ o.answer))
-  answered e = (e, (ap number_of e ∙ answers.same_number, ap (words_of words) e ∙ answers.same-words))
+      → (a ≡ answer_at of o.refusal o.answer) × ((result_number a ≡ o.refusal) × (result_words words a ≡ o.answer))
+  answered e = (e, (ap result_number e ∙ answers.same_number, ap (result_words words) e ∙ answers.same-words))
 
   -- and where more is shown, as what memory the call leaves
   pub promised : {X : Type 0} → (a ≡ answer_at of o.refusal o.answer) × X
-      → (a ≡ answer_at of o.refusal o.answer) × ((number_of a ≡ o.refusal) × ((words_of words a ≡ o.answer) × X))
+      → (a ≡ answer_at of o.refusal o.answer) × ((result_number a ≡ o.refusal) × ((result_words words a ≡ o.answer) × X))
   promised p = let s = answered p.0 in (p.0, (s.1.0, (s.1.1, p.1)))
 
 -- ---- an outcome that is done, or that leaves the memory

@@ -12,22 +12,22 @@ use Rattle.bufmodel.specs.Refusal.{refusal_number, refusal_at}
 use Rattle.bufmodel.specs.Outcome.{Outcome, zeros, one, two}
 
 -- ---- an answer's number, 0 where the call is accepted, and its words, zeros where it is refused
-abbrev pub number_of : {T : Type 0} → Result T Refusal → ℕ
-number_of (Ok x) = 0
-number_of (Err refusal) = refusal_number refusal
+abbrev pub result_number : {T : Type 0} → Result T Refusal → ℕ
+result_number (Ok x) = 0
+result_number (Err refusal) = refusal_number refusal
 
-abbrev pub words_of : {T : Type 0} → (T → List ℕ) → Result T Refusal → List ℕ
-words_of words (Ok x) = words x
-words_of words (Err refusal) = zeros
+abbrev pub result_words : {T : Type 0} → (T → List ℕ) → Result T Refusal → List ℕ
+result_words words (Ok x) = words x
+result_words words (Err refusal) = zeros
 
 -- ---- what a call left beside the memory: its answer, and the control record, which a refused call hands back
 abbrev pub answer_of : {T : Type 0} → Result (Ended T) Refusal → Result T Refusal
 answer_of (Ok end) = Ok end.answer
 answer_of (Err refusal) = Err refusal
 
-abbrev pub control_of : {T : Type 0} → Control → Result (Ended T) Refusal → Control
-control_of before (Ok end) = end.control
-control_of before (Err refusal) = before
+abbrev pub ended_control : {T : Type 0} → Control → Result (Ended T) Refusal → Control
+ended_control before (Ok end) = end.control
+ended_control before (Err refusal) = before
 
 -- of a call that answers nothing beside: that it was done, and the control record
 abbrev pub done_of : Result Control Refusal → Result (Unit {0}) Refusal
@@ -58,35 +58,35 @@ done_words x = zeros
 
 -- ---- document 01's number and words of each kind of answer
 abbrev pub pinned_number : Result Pinned Refusal → ℕ
-pinned_number = number_of
+pinned_number = result_number
 
 abbrev pub pinned_words : Result Pinned Refusal → List ℕ
-pinned_words = words_of pin_words
+pinned_words = result_words pin_words
 
 -- flush and checkpoint: the count written
 abbrev pub written_number : Result ℕ Refusal → ℕ
-written_number = number_of
+written_number = result_number
 
 abbrev pub written_words : Result ℕ Refusal → List ℕ
-written_words = words_of one
+written_words = result_words one
 
 abbrev pub peeked_number : Result Peeked Refusal → ℕ
-peeked_number = number_of
+peeked_number = result_number
 
 abbrev pub peeked_words : Result Peeked Refusal → List ℕ
-peeked_words = words_of peek_words
+peeked_words = result_words peek_words
 
 abbrev pub extended_number : Result BlockNumber Refusal → ℕ
-extended_number = number_of
+extended_number = result_number
 
 abbrev pub extended_words : Result BlockNumber Refusal → List ℕ
-extended_words = words_of extend_words
+extended_words = result_words extend_words
 
 abbrev pub accepted_number : Result (Unit {0}) Refusal → ℕ
-accepted_number = number_of
+accepted_number = result_number
 
 abbrev pub accepted_words : Result (Unit {0}) Refusal → List ℕ
-accepted_words = words_of done_words
+accepted_words = result_words done_words
 
 -- ---- the case of an outcome: refused with its number, or accepted with its words
 unfoldable pub answer_at : {T : Type 0} → (List ℕ → T) → ℕ → List ℕ → Result T Refusal

@@ -8,4 +8,5 @@ pub mod answer;
 pub mod control;
 pub mod holder;
 pub mod refusal;
+pub mod rows;
 pub mod view;

@@ -4,3 +4,4 @@ pub mod TakenLaws
 pub mod VictimLaws
 pub mod NewLaws
 pub mod PinLaws
+pub mod SeenLaws

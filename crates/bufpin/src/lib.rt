@@ -1,4 +1,6 @@
-// Pin, by value. It checks first, in the table's order, and changes nothing where it refuses.
+// Pin, the control record by value. It checks first, in the table's order, and changes nothing where it refuses.
+// That the memory is sized and sound stands in a clause of each part: a ghost field of a struct with loans in it has to hold at each write
+// through them, and in the midst of a move the memory is not sound.
 
 #![tactic(auto)]
 

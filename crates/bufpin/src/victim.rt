@@ -6,13 +6,14 @@ ghost use Rattle.buftag.specs.declared.link.Link.TheVariants.{End};
 ghost use Rattle.buftag.specs.Link.{link_of};
 ghost use Rattle.bufmodel.specs.Word.{pinned, dirty, empty};
 ghost use Rattle.bufmodel.specs.Rows.{place_of};
-ghost use Rattle.bufmodel.specs.Memory.{memory, with_counts};
+ghost use Rattle.bufmodel.specs.Memory.{with_counts};
+ghost use Rattle.bufmodel.specs.View.{memory_in, SameLoans};
 ghost use Rattle.bufmodel.specs.Counts.{max_holders, set_count};
 ghost use Rattle.bufmodel.specs.Sizes.{sized};
 ghost use Rattle.bufmodel.specs.Books.{sound};
 ghost use Rattle.bufmodel.specs.Sweep.{sweep_all};
 ghost use Rattle.bufmodel.specs.Moves.{write_back, release, load};
-ghost use Rattle.bufmodel.specs.Answer.{answer_of, control_of, pinned_of};
+ghost use Rattle.bufmodel.specs.Answer.{answer_of, ended_control, pinned_of};
 ghost use Rattle.bufmodel.specs.Pin.{pin_swept};
 ghost use Rattle.bufpin.specs.Victim.{loaded_at};
 
@@ -23,6 +24,7 @@ use bufmodel::answer::{Ended, Pinned};
 use bufmodel::control::Control;
 use bufmodel::holder::Holder;
 use bufmodel::refusal::Refusal;
+use bufmodel::view::SlicesMut;
 use bufmoves::back::write_back;
 use bufmoves::exchange::{load_page, release_buffer};
 use bufmoves::sweep::{Victim, sweep};
@@ -33,51 +35,39 @@ use buftag::number::BufferNumber;
 // holder's count of it becomes 1.
 fn pin_victim(
     control: Control,
-    states: &mut [u32],
-    names: &mut [u32],
-    pool: &mut [u8],
-    free: &mut [i32],
-    heads: &mut [i32],
-    chain: &mut [i32],
-    rows: &[u32],
-    store: &mut [u8],
-    counts: &mut [u16],
+    lent: &mut SlicesMut<'_>,
     holder: Holder,
     name: PageName,
     g: usize,
     victim: BufferNumber,
     probes: u64,
 ) -> Ended<Pinned>
-    requires { (sized
-        (with_counts counts.old
-        (memory control states.old names.old pool.old free.old heads.old chain.old rows.now store.old)) ≡ true)
-        × (sound
-        (with_counts counts.old
-        (memory control states.old names.old pool.old free.old heads.old chain.old rows.now store.old)) ≡ true)
-        × (victim.0 < length states.old)
-        × (empty (get_or states.old victim.0 0) ≡ false)
-        × (pinned (get_or states.old victim.0 0) ≡ false)
-        × (place_of rows.now name ≡ found g)
+    requires { (sized (memory_in control lent.old) ≡ true) × (sound (memory_in control lent.old) ≡ true)
+        × (victim.0 < length lent.old.states.now)
+        × (empty (get_or lent.old.states.now victim.0 0) ≡ false)
+        × (pinned (get_or lent.old.states.now victim.0 0) ≡ false)
+        × (place_of lent.old.rows.now name ≡ found g)
         × (holder.0 < max_holders) }
-    ensures answer { result.answer ≡ loaded_at victim.0 (dirty (get_or states.old victim.0 0)) probes }
-    ensures store_after { with_counts counts.new
-        (memory result.control states.new names.new pool.new free.new
-        heads.new chain.new rows.now store.new)
-        ≡ with_counts (set_count counts.old victim.0 holder.0 1)
-        (load
-        (release
-        (write_back
-        (with_counts counts.old
-        (memory control states.old names.old pool.old free.old heads.old
-        chain.old rows.now store.old)) victim.0) victim.0) name) }
+    ensures answer { result.answer ≡ loaded_at victim.0 (dirty (get_or lent.old.states.now victim.0 0)) probes }
+    ensures store_after { memory_in result.control lent.new
+        ≡ with_counts (set_count lent.old.counts.now victim.0 holder.0 1)
+        (load (release (write_back (memory_in control lent.old) victim.0) victim.0) name) }
+    ensures same_loans { SameLoans lent.new lent.old }
 {
+    let states = &mut *lent.states;
+    let names = &mut *lent.names;
+    let pool = &mut *lent.pool;
+    let free = &mut *lent.free;
+    let heads = &mut *lent.heads;
+    let chain = &mut *lent.chain;
+    let store = &mut *lent.store;
     let wrote = is_dirty(state_of(states, victim));
-    let written = write_back(control, states, names, pool, rows, store, victim);
+    let written = write_back(control, states, names, pool, lent.rows, store, victim);
     let freed = release_buffer(written, states, names, free, heads, chain, victim);
     let after = load_page(
         freed, states, names, pool, free, heads, chain, store, name, victim, g,
     );
-    put_count(counts, holder, victim, 1);
+    put_count(lent.counts, holder, victim, 1);
     Ended {
         control: after,
         answer: Pinned {
@@ -92,52 +82,29 @@ fn pin_victim(
 // No buffer is free: a sweep finds one, or all are pinned.
 pub fn pin_swept(
     control: Control,
-    states: &mut [u32],
-    names: &mut [u32],
-    pool: &mut [u8],
-    free: &mut [i32],
-    heads: &mut [i32],
-    chain: &mut [i32],
-    rows: &[u32],
-    store: &mut [u8],
-    counts: &mut [u16],
+    lent: &mut SlicesMut<'_>,
     holder: Holder,
     name: PageName,
     g: usize,
 ) -> Result<Ended<Pinned>, Refusal>
-    requires { (sized
-        (with_counts counts.old
-        (memory control states.old names.old pool.old free.old heads.old chain.old rows.now store.old)) ≡ true)
-        × (sound
-        (with_counts counts.old
-        (memory control states.old names.old pool.old free.old heads.old chain.old rows.now store.old)) ≡ true)
-        × (place_of rows.now name ≡ found g)
+    requires { (sized (memory_in control lent.old) ≡ true) × (sound (memory_in control lent.old) ≡ true)
+        × (place_of lent.old.rows.now name ≡ found g)
         × (link_of control.top ≡ End)
         × (holder.0 < max_holders) }
     ensures value { answer_of result
         ≡ pinned_of
-        (pin_swept
-        (with_counts counts.old
-        (memory control states.old names.old pool.old free.old heads.old
-        chain.old rows.now store.old)) holder.0 name
-        (sweep_all control.cap states.old control.hand)) }
-    ensures store_after { with_counts counts.new
-        (memory (control_of control result) states.new names.new pool.new free.new
-        heads.new chain.new rows.now store.new)
-        ≡ (pin_swept
-        (with_counts counts.old
-        (memory control states.old names.old pool.old free.old heads.old
-        chain.old rows.now store.old)) holder.0 name
-        (sweep_all control.cap states.old control.hand)).after }
+        (pin_swept (memory_in control lent.old) holder.0 name
+        (sweep_all control.cap lent.old.states.now control.hand)) }
+    ensures store_after { memory_in (ended_control control result) lent.new
+        ≡ (pin_swept (memory_in control lent.old) holder.0 name
+        (sweep_all control.cap lent.old.states.now control.hand)).after }
+    ensures same_loans { SameLoans lent.new lent.old }
 {
     let Victim {
         buffer,
         hand,
         probes,
-    } = sweep(control.cap, states, control.hand).ok_or(Refusal::AllPinned)?;
+    } = sweep(control.cap, lent.states, control.hand).ok_or(Refusal::AllPinned)?;
     let swept = Control { hand, ..control };
-    Ok(pin_victim(
-        swept, states, names, pool, free, heads, chain, rows, store, counts, holder, name, g,
-        buffer, probes,
-    ))
+    Ok(pin_victim(swept, lent, holder, name, g, buffer, probes))
 }

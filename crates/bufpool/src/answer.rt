@@ -3,7 +3,7 @@
 ghost use Rattle.std.specs.Prelude.{◌≡◌, [], ◌∷◌, ℕ, List, length};
 ghost use Rattle.bufmodel.specs.Outcome.{zeros, one};
 ghost use Rattle.bufmodel.specs.Lent.{answer_words};
-ghost use Rattle.bufmodel.specs.Answer.{number_of, words_of, done_words, extend_words, peek_words, pin_words};
+ghost use Rattle.bufmodel.specs.Answer.{result_number, result_words, done_words, extend_words, peek_words, pin_words};
 
 use bufmodel::answer::{Peeked, Pinned};
 use bufmodel::refusal::Refusal;
@@ -70,8 +70,8 @@ impl Answer for Pinned {
 // Stores the words of an answer, zeros where the call is refused, and answers its number.
 pub fn put_answer<T: Answer>(answer: &mut [u64], given: Result<T, Refusal>) -> u32
     requires { length answer.old ≡ answer_words }
-    ensures value { result ≡ number_of given }
-    ensures answer_after { answer.new ≡ words_of T.words given }
+    ensures value { result ≡ result_number given }
+    ensures answer_after { answer.new ≡ result_words T.words given }
 {
     match given {
         Ok(accepted) => {

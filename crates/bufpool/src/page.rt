@@ -13,7 +13,7 @@ use bufcalls::peek::peek_at;
 use bufmem::control::{ANSWER_WORDS, CONTROL_WORDS, read_control};
 use bufmodel::holder::Holder;
 use bufmodel::refusal::Refusal;
-use bufmodel::view::PoolView;
+use bufmodel::view::{PoolView, SlicesMut};
 use bufpin::pin::pin_page;
 use buftag::name::page_name;
 
@@ -52,8 +52,7 @@ pub fn bufpool_pin(
         return refuse(answer);
     }
     let name = page_name(tablespace, database, relation, fork, block);
-    let given = pin_page(
-        read_control(control),
+    let mut lent = SlicesMut {
         states,
         names,
         pool,
@@ -63,6 +62,10 @@ pub fn bufpool_pin(
         rows,
         store,
         counts,
+    };
+    let given = pin_page(
+        read_control(control),
+        &mut lent,
         Holder(holder as usize),
         name,
     );

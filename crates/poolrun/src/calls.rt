@@ -9,24 +9,23 @@ use bufcontrol::back::{checkpoint, flush};
 use bufcontrol::log::log_through;
 use bufcontrol::pin::pin;
 use bufmodel::holder::Holder;
+use bufmodel::view::{PoolView, SlicesMut};
 use buftag::number::BufferNumber;
 
 impl Bench {
     pub(crate) fn pin(&mut self, rt: &impl Print, holder: usize, block: u32) {
-        let said = Said(pin(
-            &mut self.control,
-            &mut self.states,
-            &mut self.names,
-            &mut self.pool,
-            &mut self.free,
-            &mut self.heads,
-            &mut self.chain,
-            &self.rows,
-            &mut self.store,
-            &mut self.counts,
-            Holder(holder),
-            page(block),
-        ));
+        let mut lent = SlicesMut {
+            states: &mut self.states,
+            names: &mut self.names,
+            pool: &mut self.pool,
+            free: &mut self.free,
+            heads: &mut self.heads,
+            chain: &mut self.chain,
+            rows: &self.rows,
+            store: &mut self.store,
+            counts: &mut self.counts,
+        };
+        let said = Said(pin(&mut self.control, &mut lent, Holder(holder), page(block)));
         let hand = self.control.hand;
         let top = Top(self.control.top);
         let _ = println!(rt; "holder {holder}: pin block {block}: {said}, hand {hand}, {top}");
@@ -124,19 +123,19 @@ impl Bench {
     }
 
     pub(crate) fn move_log(&mut self, rt: &impl Print, position: u64) {
-        let end = log_through(
-            self.control,
-            &self.states,
-            &self.names,
-            &self.pool,
-            &self.free,
-            &self.heads,
-            &self.chain,
-            &self.rows,
-            &self.store,
-            &self.counts,
-            position,
-        );
+        let seen = PoolView {
+            control: self.control,
+            states: &self.states,
+            names: &self.names,
+            pool: &self.pool,
+            free: &self.free,
+            heads: &self.heads,
+            chain: &self.chain,
+            rows: &self.rows,
+            store: &self.store,
+            counts: &self.counts,
+        };
+        let end = log_through(&seen, position);
         self.control = end.control;
         let inserted = Said(end.inserted);
         let flushed = Said(end.flushed);

@@ -6,23 +6,26 @@ use Rattle.bufbooks.proofs.BuffersLaws.{row-inside, row-low, block-low, held-pag
 use Rattle.bufbooks.proofs.buffers.held_ok.Goals as goal
 
 pub has_block-requires : goal.has_block-requires
-has_block-requires c = row-inside c.args.lent.now.rows.now _ c.in-Some.ensures
+has_block-requires c = row-inside c.args.tables.now.rows.words.now _ c.in-Some.ensures
 
 pub offset_bounds-tables-row : goal.offset_bounds-tables-row
-offset_bounds-tables-row c = omega (arith, row-low c.args.lent.now.rows.now _ c.in-Some.ensures c.requires.6)
+offset_bounds-tables-row c = omega (arith, row-low c.args.tables.now.rows.words.now _ c.in-Some.ensures c.args.tables.now.rows.sound)
 
 pub bounds-tables-row : goal.bounds-tables-row
-bounds-tables-row c = row-low c.args.lent.now.rows.now _ c.in-Some.ensures c.requires.6
+bounds-tables-row c = row-low c.args.tables.now.rows.words.now _ c.in-Some.ensures c.args.tables.now.rows.sound
 
 pub hash_short-hash-requires : goal.hash_short-hash-requires
 hash_short-hash-requires c =
-    block-low c.args.lent.now.rows.now _ c.in-Some.ensures c.requires.6 (sym c.has_block.ensures ∙ c.if-not-has_block.false)
+    let rows = c.args.tables.now.rows in
+    block-low rows.words.now _ c.in-Some.ensures rows.sound (sym c.has_block.ensures ∙ c.if-not-has_block.false)
 
 pub returns : goal.returns
 returns c =
     let m = c.args.lent.now in
     let named = c.stored-name.ensures in
-    let first = held-first m.names.now m.heads.now m.chain.now m.rows.now c.args.buffer.0 named c.in-Some.ensures
-    c.args.tables.now.hashes c.requires.7 c.hash_short-hash.ensures c.bucket_by-b.ensures (element-back m.heads.now c.bucket_by-b.result (search rules)) c.is_first.ensures in
-    held-page m.names.now m.heads.now m.chain.now m.rows.now c.args.buffer.0 named c.in-Some.ensures
+    let t = c.args.tables.now in
+    let head = element-back m.heads.now c.bucket_by-b.result (search rules) in
+    let first = held-first m.names.now m.heads.now m.chain.now t.rows.words.now c.args.buffer.0 named c.in-Some.ensures
+    t.hashes t.hashed c.hash_short-hash.ensures c.bucket_by-b.ensures head c.is_first.ensures in
+    held-page m.names.now m.heads.now m.chain.now t.rows.words.now c.args.buffer.0 named c.in-Some.ensures
     (sym c.has_block.ensures ∙ c.if-not-has_block.false) first

@@ -10,7 +10,7 @@ pub returns-then-is_file : goal.returns-then-is_file
 unfolding files
 returns-then-is_file c =
     let a = c.args in
-    let rows = a.rows.now in
+    let rows = a.rows.words.now in
     let near = c.from-near.result in
     let same = (says-same-file (file_at rows near) a.file).holds (sym c.is_file.ensures ∙ c.if-is_file.true) in
-    sym (row_is rows ((rows-say rows).holds c.requires) near c.if-near-rows.true) ∙ ap (row_of rows) same
+    sym (row_is rows ((rows-say rows).holds a.rows.sound) near c.if-near-rows.true) ∙ ap (row_of rows) same

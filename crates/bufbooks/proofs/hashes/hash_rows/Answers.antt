@@ -25,13 +25,13 @@ hash_within-requires c =
     omega (
       arith,
       ap (λ (x : FileName). x.fork) c.file_at-file.ensures,
-      ((rows-say c.args.rows.now).holds c.requires).fork c.loop-row.row c.loop-row-test.true,
+      ((rows-say c.args.rows.words.now).holds c.args.rows.sound).fork c.loop-row.row c.loop-row-test.true,
     )
 
 pub bounds-all-row : goal.bounds-all-row
 unfolding files
 bounds-all-row c =
-    omega (arith, c.loop-row-test.true, c.loop-row.invariant.0, ((rows-say c.args.rows.now).holds c.requires).few)
+    omega (arith, c.loop-row-test.true, c.loop-row.invariant.0, ((rows-say c.args.rows.words.now).holds c.args.rows.sound).few)
 
 same : {a b c d : ℕ} → a ≡ b → c ≡ d → begun a c ≡ begun b d
 same e f = rw (e, f)

@@ -1,6 +1,6 @@
 use lib.ListN.{length}
 use mathlib.Core.Path.{◌≡◌}
-use Prim.Native.Nat.{◌*◌, ◌+◌, ◌≤◌, ◌<◌, ◌-◌}
+use Prim.Native.Nat.{◌*◌, ◌+◌, ◌<◌, ◌-◌}
 use Rattle.bufmodel.specs.Sweep.{sweep, sweep_all}
 use Rattle.bufmoves.proofs.sweep.sweep.Given as goal
 

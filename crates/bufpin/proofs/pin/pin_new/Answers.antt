@@ -6,6 +6,7 @@ use Rattle.bufmodel.proofs.GoodLaws.{good_of}
 use Rattle.bufmodel.proofs.FreeListLaws.{top-empty}
 use Rattle.bufmoves.proofs.WholeLaws.{load-whole, good-lodged}
 use Rattle.bufpin.proofs.NewLaws.{top-ends, new-answer, new-after}
+use Rattle.bufpin.proofs.SeenLaws.{same-loans}
 use Rattle.bufpin.proofs.pin.pin_new.Goals as goal
 
 pub pin_swept-requires : goal.pin_swept-requires
@@ -41,5 +42,6 @@ returns c =
     let t = sym (rw top at c.in-To.ensures) in
     let o = load-whole _ c.in-To.i _ _ c.args.name c.args.g _ _ _ _ _ c.load_page-after.ensures in record {
       value = new-answer _ c.args.holder.0 c.args.name c.in-To.i t;
+      same_loans = same-loans c.args.lent.now;
       store_after = new-after _ c.args.holder.0 c.args.name c.in-To.i t c.args.g c.requires.2 o c.put_count.ensures;
     }

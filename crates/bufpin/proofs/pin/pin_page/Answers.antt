@@ -6,40 +6,43 @@ use Rattle.bufmodel.proofs.SizesLaws.{rows-say}
 use Rattle.bufmodel.proofs.GoodLaws.{good-sized, good-sound, passed-good}
 use Rattle.bufmodel.proofs.AnsweredLaws.{promised, pin-answers}
 use Rattle.bufpin.proofs.PinLaws.{pin-early, pin-stranger, pin-nameless}
+use Rattle.bufpin.proofs.SeenLaws.{good-seen, seen-checked, same-loans}
 use Rattle.bufpin.proofs.pin.pin_page.Goals as goal
 
 pub returns-in_err-refusal : goal.returns-in_err-refusal
 returns-in_err-refusal c =
     let p = err_from_is_err_and c.from_residual.result c.from_residual.ensures.1 in
-    let t = promised (pin-answers _ _ _) (pin-early _ c.args.holder.0 c.args.name _ c.in_err-refusal.ensures) in
-    rw (p.1, p.2) (record { value = t.0; number = t.1.0; words = t.1.1.0; store_after = t.1.1.1 })
+    let early = c.in_err-refusal.ensures ∙ seen-checked c.view.ensures in
+    let t = promised (pin-answers _ _ _) (pin-early _ c.args.holder.0 c.args.name _ early) in
+    rw (p.1, p.2) (record { value = t.0; number = t.1.0; words = t.1.1.0; store_after = t.1.1.1; same_loans = same-loans c.args.lent.now })
 
 pub returns-then-not-is_holder : goal.returns-then-not-is_holder
 returns-then-not-is_holder c =
-    let good = passed-good _ c.in_ok-refusal.ensures refl in
+    let good = good-seen c.view.ensures (passed-good _ c.in_ok-refusal.ensures refl) in
     let stranger = sym c.is_holder.ensures ∙ c.if-not-is_holder.true in
     let t = promised (pin-answers _ _ _) (pin-stranger _ c.args.holder.0 c.args.name good stranger) in
-    record { value = t.0; number = t.1.0; words = t.1.1.0; store_after = t.1.1.1 }
+    record { value = t.0; number = t.1.0; words = t.1.1.0; store_after = t.1.1.1; same_loans = same-loans c.args.lent.now }
 
-pub seek-requires : goal.seek-requires
-seek-requires c =
-    (rows-say c.args.rows.now).shown (passed-good _ c.in_ok-refusal.ensures refl).sizes.rows
+pub invariant_of-seek : goal.invariant_of-seek
+invariant_of-seek c =
+    let good = good-seen c.view.ensures (passed-good _ c.in_ok-refusal.ensures refl) in
+    record { sound = (rows-say c.args.lent.now.rows.now).shown good.sizes.rows }
 
 pub pin_at-requires : goal.pin_at-requires
 pin_at-requires c =
-    let good = passed-good _ c.in_ok-refusal.ensures refl in
+    let good = good-seen c.view.ensures (passed-good _ c.in_ok-refusal.ensures refl) in
     let few = ltb-true c.args.holder.0 max_holders (sym c.is_holder.ensures ∙ c.if-not-is_holder.false) in
     (good-sized _ good, good-sound _ good, sym c.in_ok-g.ensures, few)
 
 pub returns-in_err-g : goal.returns-in_err-g
 returns-in_err-g c =
     let p = err_from_is_err_and c.from_residual-in_err-g.result c.from_residual-in_err-g.ensures.1 in
-    let good = passed-good _ c.in_ok-refusal.ensures refl in
+    let good = good-seen c.view.ensures (passed-good _ c.in_ok-refusal.ensures refl) in
     let few = ltb-true c.args.holder.0 max_holders (sym c.is_holder.ensures ∙ c.if-not-is_holder.false) in
     let t = promised (pin-answers _ _ _) (pin-nameless _ c.args.holder.0 c.args.name good few _ (sym c.in_err-g.ensures)) in
-    rw (p.1, p.2) (record { value = t.0; number = t.1.0; words = t.1.1.0; store_after = t.1.1.1 })
+    rw (p.1, p.2) (record { value = t.0; number = t.1.0; words = t.1.1.0; store_after = t.1.1.1; same_loans = same-loans c.args.lent.now })
 
 pub returns : goal.returns
 returns c =
     let t = promised (pin-answers _ _ _) (c.pin_at.ensures.value, c.pin_at.ensures.store_after) in
-    record { value = t.0; number = t.1.0; words = t.1.1.0; store_after = t.1.1.1 }
+    record { value = t.0; number = t.1.0; words = t.1.1.0; store_after = t.1.1.1; same_loans = c.pin_at.ensures.same_loans }

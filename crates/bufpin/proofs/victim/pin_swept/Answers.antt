@@ -6,6 +6,7 @@ use Rattle.std.specs.Prelude.{Ok}
 use Rattle.bufmodel.specs.declared.refusal.Refusal.TheVariants.{AllPinned}
 use Rattle.bufmodel.proofs.GoodLaws.{good_of}
 use Rattle.bufpin.proofs.VictimLaws.{victim-at, victim-none, swept-refused, swept-still, swept-asks, swept-answer, swept-after}
+use Rattle.bufpin.proofs.SeenLaws.{same-loans}
 use Rattle.bufpin.proofs.victim.pin_swept.Goals as goal
 
 pub sweep-requires : goal.sweep-requires
@@ -25,6 +26,7 @@ returns-in_err-buffer c =
     (record {
       value = swept-refused _ k c.args.holder.0 c.args.name e;
       store_after = swept-still _ k c.args.holder.0 c.args.name e c.sweep.ensures.states_after;
+      same_loans = same-loans c.args.lent.now;
     })
 
 pub pin_victim-requires : goal.pin_victim-requires
@@ -44,5 +46,6 @@ returns c =
     let h = c.args.holder.0 in
     let o = c.pin_victim.ensures in record {
       value = ap Ok o.answer ∙ swept-answer _ k h c.args.name e.0 e.1 q e.2;
+      same_loans = o.same_loans;
       store_after = rw (← (swept-after _ k h c.args.name e.0 e.1 q)) (rw top at o.store_after);
     }

@@ -1,4 +1,5 @@
 use mathlib.Core.Path.{◌∙◌}
+use Rattle.std.proofs.Common.{rules}
 use Rattle.bufmodel.proofs.AnsweredLaws.{pin-answers}
 use Rattle.bufpool.proofs.ExportLaws.{export-answer, export-control, call-read, export-made}
 use Rattle.bufpool.proofs.CallLaws.{pin-early}
@@ -18,4 +19,4 @@ returns c =
     let read = call-read _ _ _ (pin-early _ _) _ c.read_control.ensures in
     rw (p.control_after c.read_control.result, ← c.page_name-name.ensures)
     (export-made _ _ _ _ c.if-answer-ne-ANSWER_WORDS.false c.if-control-ne-CONTROL_WORDS.false read (pin-answers _ _ _)
-    (p.value ∙ u.number) (p.answer_after ∙ u.words) u.store_after)
+    (p.value ∙ u.number) (p.answer_after ∙ u.words) (search rules))
