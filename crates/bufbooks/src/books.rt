@@ -7,9 +7,9 @@ ghost use Rattle.bufbooks.specs.Books.{books_test};
 
 use crate::buffers::buffers_ok;
 use crate::lists::lists_ok;
+use crate::sound_rows::SoundRows;
 use crate::tables::tables_of;
 use bufmem::word::cap_ok;
-use bufmodel::rows::SoundRows;
 use bufmodel::view::PoolView;
 
 // Whether they are sound.

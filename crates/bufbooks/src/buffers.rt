@@ -11,11 +11,11 @@ ghost use Rattle.bufmem.specs.Rows.{found_row};
 ghost use Rattle.bufbooks.specs.Buffers.{low_test, held_test, buffer_test};
 
 use crate::guesses::slot_of;
+use crate::sound_rows::SoundRows;
 use crate::tables::Tables;
 use bufmem::page::page_position;
 use bufmem::rows::{ROW_WORDS, find_row, has_block, is_file};
 use bufmem::word::{is_dirty, is_empty};
-use bufmodel::rows::SoundRows;
 use bufmodel::view::PoolView;
 use buftag::bucket::{bucket_by, mask_of};
 use buftag::check::is_first;

@@ -2,9 +2,8 @@
 
 ghost use Rattle.bufbooks.specs.Hashes.{Hashed};
 
-use crate::sound_rows::MAX_FILES;
+use crate::sound_rows::{MAX_FILES, SoundRows};
 use bufmem::rows::{ROW_WORDS, file_at};
-use bufmodel::rows::SoundRows;
 use buftag::name::{hash_database, hash_within};
 
 // Files of one database stand together, mostly: its eight bytes are hashed where it is another than the row before has.

@@ -1,4 +1,4 @@
-// Whether the file rows are sound.
+// Whether the file rows are sound, and those that are.
 
 ghost use Rattle.std.specs.Prelude.{◌≡◌, true, false, ◌+◌, ◌*◌, ◌≤◌, length};
 ghost use Rattle.laws.specs.Every.{all};
@@ -12,6 +12,13 @@ use buftag::name::is_fork;
 pub const MAX_FILES: usize = 64;
 
 pub const MAX_BLOCKS: u64 = 65536;
+
+// Rows that are sound: whoever makes one shows it, and whoever takes one need not ask for it.
+#[derive(Clone, Copy)]
+pub struct SoundRows<'a> {
+    pub words: &'a [u32],
+    pub ghost sound: { sound_rows words.now ≡ true },
+}
 
 // Whether no row before a row has its file.
 #[tactic(auto, using(crate::proofs::TurnsLaws::turns_all), unfolding(bufmodel::specs::Sizes::new_file))]

@@ -5,8 +5,7 @@ ghost use Rattle.bufbooks.specs.Hashes.{Hashed};
 
 use crate::guesses::{SLOTS, guess_rows};
 use crate::hashes::hash_rows;
-use crate::sound_rows::MAX_FILES;
-use bufmodel::rows::SoundRows;
+use crate::sound_rows::{MAX_FILES, SoundRows};
 
 #[derive(Drop)]
 pub struct Tables<'a> {

@@ -13,7 +13,6 @@ use bufmem::seek::seek;
 use bufmodel::answer::Peeked;
 use bufmodel::control::Control;
 use bufmodel::refusal::Refusal;
-use bufmodel::rows::SoundRows;
 use bufmodel::view::PoolView;
 use buftag::lookup::look_up;
 use buftag::name::PageName;
@@ -24,7 +23,7 @@ pub fn peek_at(lent: &PoolView<'_>, name: PageName) -> Result<Peeked, Refusal>
     ensures words { peeked_words result ≡ (peek (memory_of lent.now) name).answer }
 {
     refusal(lent)?;
-    let g = seek(SoundRows { words: lent.rows }, name)?;
+    let g = seek(lent.rows, name)?;
     let size = lent.control.size;
     let Some(buffer) = look_up(lent.heads, lent.chain, lent.names, name) else {
         if !passes_block(lent.store, g, size, name.block) {

@@ -1,11 +1,11 @@
 // Where a page stands in the store, in blocks.
 
-ghost use Rattle.std.specs.Prelude.{◌≡◌};
+ghost use Rattle.std.specs.Prelude.{◌≡◌, true};
+ghost use Rattle.bufmodel.specs.Sizes.{sound_rows};
 ghost use Rattle.bufmem.specs.Place.{placed, place_refusal};
 
 use crate::rows::{block_place, find_row, has_block};
 use bufmodel::refusal::Refusal;
-use bufmodel::rows::SoundRows;
 use buftag::name::PageName;
 
 // Why a page has no place.
@@ -29,10 +29,10 @@ impl From<NoPlace> for Refusal {
 }
 
 #[tactic(auto, unfolding(crate::specs::Place::placed, crate::specs::Place::placed_in))]
-pub fn place_of(rows: SoundRows<'_>, name: PageName) -> Result<usize, NoPlace>
-    ensures { result ≡ placed rows.entry.words.now name }
+pub fn place_of(rows: &[u32], name: PageName) -> Result<usize, NoPlace>
+    requires { sound_rows rows.now ≡ true }
+    ensures { result ≡ placed rows.now name }
 {
-    let rows = rows.words;
     let row = find_row(rows, name.file).ok_or(NoPlace::NoFile)?;
     if !has_block(rows, row, name.block) {
         return Err(NoPlace::NoBlock);

@@ -1,16 +1,17 @@
 // A page's place in the store, or what refuses its name.
 
-ghost use Rattle.std.specs.Prelude.{◌≡◌};
+ghost use Rattle.std.specs.Prelude.{◌≡◌, true};
+ghost use Rattle.bufmodel.specs.Sizes.{sound_rows};
 ghost use Rattle.bufmem.specs.Seek.{sought};
 
 use crate::place::place_of;
 use bufmodel::refusal::Refusal;
-use bufmodel::rows::SoundRows;
 use buftag::name::PageName;
 
 #[tactic(auto, unfolding(crate::specs::Seek::sought))]
-pub fn seek(rows: SoundRows<'_>, name: PageName) -> Result<usize, Refusal>
-    ensures { result ≡ sought rows.entry.words.now name }
+pub fn seek(rows: &[u32], name: PageName) -> Result<usize, Refusal>
+    requires { sound_rows rows.now ≡ true }
+    ensures { result ≡ sought rows.now name }
 {
     Ok(place_of(rows, name)?)
 }

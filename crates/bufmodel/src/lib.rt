@@ -8,5 +8,4 @@ pub mod answer;
 pub mod control;
 pub mod holder;
 pub mod refusal;
-pub mod rows;
 pub mod view;

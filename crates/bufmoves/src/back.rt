@@ -14,7 +14,6 @@ use bufmem::place::place_of;
 use bufmem::state::{put_state, state_of};
 use bufmem::word::{is_dirty, make_clean};
 use bufmodel::control::Control;
-use bufmodel::rows::SoundRows;
 use buftag::names::stored;
 use buftag::number::BufferNumber;
 
@@ -52,7 +51,7 @@ fn put_page(
         store.old (place_of rows.now (name_at names.now buffer.0)) }
 {
     let name = stored(names, buffer);
-    let Ok(g) = place_of(SoundRows { words: rows }, name) else {
+    let Ok(g) = place_of(rows, name) else {
         return;
     };
     page_to_store(store, g, pool, buffer, control.size, name.block);

@@ -23,7 +23,6 @@ use bufmodel::answer::{Ended, Pinned};
 use bufmodel::control::Control;
 use bufmodel::holder::Holder;
 use bufmodel::refusal::Refusal;
-use bufmodel::rows::SoundRows;
 use bufmodel::view::SlicesMut;
 use bufmoves::exchange::load_page;
 use buftag::link::Link;
@@ -122,6 +121,6 @@ pub fn pin_page(
     if !is_holder(holder) {
         return Err(Refusal::NoHolder);
     }
-    let g = seek(SoundRows { words: lent.rows }, name)?;
+    let g = seek(lent.rows, name)?;
     pin_at(control, lent, holder, name, g)
 }

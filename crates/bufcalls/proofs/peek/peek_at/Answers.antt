@@ -14,10 +14,10 @@ returns-in_err-refusal c =
     rw (p.1, p.2) (let t = peek-early (memory_of c.args.lent.now) c.args.name _ c.in_err-refusal.ensures in
     record { value = t.0; number = t.1; words = t.2 })
 
-pub invariant_of-seek : goal.invariant_of-seek
-invariant_of-seek c =
+pub seek-requires : goal.seek-requires
+seek-requires c =
     let g = passed-good (memory_of c.args.lent.now) c.in_ok-refusal.ensures refl in
-    record { sound = (rows-say c.args.lent.now.rows.now).shown g.sizes.rows }
+    (rows-say c.args.lent.now.rows.now).shown g.sizes.rows
 
 pub returns-in_err-g : goal.returns-in_err-g
 returns-in_err-g c =

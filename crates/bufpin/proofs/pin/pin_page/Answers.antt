@@ -23,10 +23,10 @@ returns-then-not-is_holder c =
     let t = promised (pin-answers _ _ _) (pin-stranger _ c.args.holder.0 c.args.name good stranger) in
     record { value = t.0; number = t.1.0; words = t.1.1.0; store_after = t.1.1.1; same_loans = same-loans c.args.lent.now }
 
-pub invariant_of-seek : goal.invariant_of-seek
-invariant_of-seek c =
+pub seek-requires : goal.seek-requires
+seek-requires c =
     let good = good-seen c.view.ensures (passed-good _ c.in_ok-refusal.ensures refl) in
-    record { sound = (rows-say c.args.lent.now.rows.now).shown good.sizes.rows }
+    (rows-say c.args.lent.now.rows.now).shown good.sizes.rows
 
 pub pin_at-requires : goal.pin_at-requires
 pin_at-requires c =
