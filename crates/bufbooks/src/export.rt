@@ -1,4 +1,4 @@
-// The check for C: whether lent memory is acceptable to every call but set up.
+// The check for C: whether lent memory is acceptable to every call but set up. The slices stand one by one, as C lends them.
 
 ghost use Rattle.std.specs.Prelude.{◌≡◌, []};
 ghost use Rattle.bufmodel.specs.Lent.{called};
