@@ -15,17 +15,16 @@ use Rattle.laws.proofs.Every.{all-at, all_of}
 use Rattle.laws.proofs.Says.{says-it, says_eq, says-le, says-lt, says-and, says_all, says_if}
 use Rattle.laws.proofs.Sum.{count-not, count-all}
 use Rattle.laws.proofs.Tests.{and-true, and_left, and_right, never, same_tests, true-or-false}
-use Rattle.buftag.specs.declared.link.Link.{Link}
 use Rattle.buftag.specs.declared.link.Link.TheVariants.{End, Off}
 use Rattle.buftag.specs.Names.{no_name}
-use Rattle.buftag.specs.Link.{link_of, link_at, is_end, Holds}
+use Rattle.buftag.specs.Link.{link_of, link_at, Holds}
 use Rattle.buftag.specs.Lookup.{used}
 use Rattle.buftag.specs.Chain.{ChainsSound, Distinct}
 use Rattle.buftag.specs.Check.{finds_itself, stands, leading}
 use Rattle.buftag.specs.Budget.{spend, spent}
-use Rattle.buftag.proofs.LinkLaws.{is_end-true, holds-says}
+use Rattle.buftag.proofs.LinkLaws.{holds-says}
 use Rattle.buftag.proofs.NameLaws.{says-same-name}
-use Rattle.buftag.proofs.TestLaws.{chains-say}
+use Rattle.buftag.proofs.TestLaws.{chains-say, says-end}
 use Rattle.bufmodel.specs.Word.{pins, empty, dirty, bit, max_cap, sound_cap, sound_word}
 use Rattle.bufmodel.specs.Position.{position}
 use Rattle.bufmodel.specs.Rows.{place_of}
@@ -58,9 +57,6 @@ empty-sound cap w e = rw e
 says-either : (a : Bool) {b c : Bool} {P Q : Type 0} → Says b P → Says c Q → Says (cond a b c) ((a ≡ true → P) × (a ≡ false → Q))
 says-either true s t = record { holds = λ h. (λ e. s.holds h, λ e. never refl e); shown = λ p. s.shown (p.0 refl) }
 says-either false s t = record { holds = λ h. (λ e. never e refl, λ e. t.holds h); shown = λ p. t.shown (p.1 refl) }
-
-says-end : (l : Link) → Says (is_end l) (l ≡ End)
-says-end l = record { holds = is_end-true l; shown = λ e. rw e }
 
 module _ (m : Memory) where
   -- a buffer's word and links

@@ -11,7 +11,7 @@ use buftrace::report::put_line;
 use buftrace::scan::{Reader, break_off, feed, finish, new_reader};
 use std::io::{Read, Stdin, Write};
 
-// What a read left: the reader, and whether there may be more.
+// What a read left: the reader, in both cases, and whether there may be more.
 #[derive(Clone, Copy)]
 struct Piece {
     reader: Reader,

@@ -9,7 +9,7 @@ const PRIME_CUBED: u32 = 1055306571;
 
 const PRIME_FOURTH: u32 = 1345077009;
 
-// The low 32 bits of the product: the program's own multiplication, for names and checksums alike.
+// The low 32 bits of the product: the program's own multiplication, as document 01 has the form, for names and checksums alike.
 pub fn wrapping_mul(a: u32, b: u32) -> u32
     ensures { result ≡ a * b % 2 ^ 32 }
 {

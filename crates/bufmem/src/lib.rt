@@ -1,4 +1,5 @@
 // The leaves over lent memory: control words, state words, private counts, log positions, file rows, blocks of bytes, pages, checksums.
+// That an index or a part lies in its slice is a clause: it is about two values, and a type of both for each pair would be no plainer.
 
 #![tactic(auto)]
 

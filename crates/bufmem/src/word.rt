@@ -117,6 +117,7 @@ pub fn pin_more(cap: u32, w: u32) -> u32
     }
 }
 
+// Lines with names of their own, here and below: with the part of the word as a parameter they would be no plainer.
 pub fn pin_less(w: u32) -> u32
     requires { pinned w ≡ true }
     ensures { result ≡ pin_less w }

@@ -17,6 +17,7 @@ pub mod AnsweredLaws
 pub mod HeldLaws
 -- changes that keep it so
 pub mod LikeLaws
+pub mod CleanLaws
 pub mod FreeListLaws
 pub mod LoadLaws
 pub mod ReleaseLaws

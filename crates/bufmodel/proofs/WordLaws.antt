@@ -90,7 +90,7 @@ pinned-same v w e = rw e
 
 -- ---- the flags as one number
 -- the test of the flags, over the ten bits of that number
-right : ℕ → Bool
+pub right : ℕ → Bool
 right f =
     bit 2 f && bit 3 f && bit 9 f && beq (bit 1 f) (bit 6 f)
     && (not (bit 0 f) && not (bit 4 f) && not (bit 5 f) && not (bit 7 f) && not (bit 8 f))
@@ -104,7 +104,7 @@ unfolding all right known bit
 flags-table = refl
 
 -- bit 22 + k of a word is bit k of its flags
-right-flags : (w : ℕ) → right (flags w) ≡ sound_flags w
+pub right-flags : (w : ℕ) → right (flags w) ≡ sound_flags w
 unfolding right sound_flags valid tag_valid permanent dirty just_dirtied no_other bit flags
 right-flags w = simp div-div-eq-div-mul
 

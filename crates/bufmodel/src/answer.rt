@@ -3,7 +3,7 @@
 use crate::control::Control;
 use buftag::number::BufferNumber;
 
-// Of pin.
+// Of pin: document 01's four values, each of which has a meaning in every case.
 #[derive(Clone, Copy)]
 pub struct Pinned {
     pub buffer: BufferNumber,

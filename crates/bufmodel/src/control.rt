@@ -1,6 +1,6 @@
 // The control record by value.
 
-#[derive(Clone, Copy)]
+#[derive(Clone, Copy, Default)]
 pub struct Control {
     // P, the block size in bytes.
     pub size: usize,

@@ -5,8 +5,7 @@ ghost use Rattle.bufmodel.specs.View.{memory_of, memory_in};
 
 use crate::control::Control;
 
-// To look at.
-
+// All of it to look at.
 #[derive(Clone, Copy)]
 pub struct PoolView<'a> {
     pub control: Control,

@@ -1,9 +1,8 @@
 -- A sweep keeps memory that passes the places 1 and 2 so; one that finds none changes nothing.
 use Prim.Native.Nat.{ℕ, ◌/◌, ◌%◌, ◌^◌, ◌≤◌, ◌<◌}
-use native.Mathlib.Nat.{div-div-eq-div-mul}
 use native.Mathlib.Omega.{arith}
 use mathlib.Core.Path.{◌≡◌, refl, sym, ap, ◌∙◌}
-use mathlib.Core.Bool.{Bool, true, false, not, ◌&&◌, beq}
+use mathlib.Core.Bool.{true, false}
 use mathlib.Core.Logic.{⊎_elim}
 use lib.ListN.{get_or}
 use lib.Dec.{leb}
@@ -11,12 +10,12 @@ use borrow.Author.Tests.{eqb-true, ne_eqb, le-leb}
 use Rattle.laws.specs.First.{missing}
 use Rattle.laws.proofs.Tests.{and_left, and_right, true-or-false, never}
 use Rattle.laws.proofs.First.{found-missing}
-use Rattle.bufmodel.specs.Word.{pins, usage, flags, empty, dirty, pinned, sound_flags, sound_word}
-use Rattle.bufmodel.specs.Word.{bit, valid, tag_valid, just_dirtied, permanent, no_other}
+use Rattle.bufmodel.specs.Word.{pins, usage, flags, empty, pinned, sound_flags, sound_word}
+use Rattle.bufmodel.specs.Word.{bit, valid, no_other}
 use Rattle.bufmodel.specs.Memory.{Memory, buffers, cap_of, word_of, with_states, with_hand}
 use Rattle.bufmodel.specs.Books.{empty_at}
 use Rattle.bufmodel.specs.Sweep.{Swept, Sweeps, sweep_all}
-use Rattle.bufmodel.proofs.WordLaws.{empty-zero}
+use Rattle.bufmodel.proofs.WordLaws.{empty-zero, right, right-flags}
 use Rattle.bufmodel.proofs.GoodLaws.{Good}
 use Rattle.bufmodel.proofs.LikeLaws.{like-good}
 use Rattle.bufmodel.proofs.LessUsedLaws.{LessUsed, less-dirty, less-empty, less-sound}
@@ -25,16 +24,6 @@ use Rattle.bufmodel.proofs.SweepEnds.{sweep_all-relates, sweep-finds, sweep-stuc
 use Rattle.bufpin.proofs.VictimBackLaws.{sound-parts, sound-few}
 
 -- ---- words that lost usage
--- the test of the flags, over the flags as one number
-right : ℕ → Bool
-right f =
-    bit 2 f && bit 3 f && bit 9 f && beq (bit 1 f) (bit 6 f)
-    && (not (bit 0 f) && not (bit 4 f) && not (bit 5 f) && not (bit 7 f) && not (bit 8 f))
-
-right-flags : (w : ℕ) → right (flags w) ≡ sound_flags w
-unfolding right sound_flags valid tag_valid permanent dirty just_dirtied no_other bit flags
-right-flags w = simp div-div-eq-div-mul
-
 -- sound flags have the bit of a valid page
 flags-valid : (w : ℕ) → sound_flags w ≡ true → valid w ≡ true
 unfolding sound_flags

@@ -4,9 +4,8 @@ use native.Mathlib.Omega.{arith}
 use mathlib.Core.Path.{◌≡◌, refl, sym, ap, ◌∙◌, subst}
 use mathlib.Core.Bool.{true, false, ◌&&◌}
 use mathlib.Core.Logic.{inl, ⊎_elim}
-use mathlib.Core.List.{List}
 use lib.ListN.{length, get_or, set, length-set}
-use lib.Seq.{get_or-set_same, get_or-set_other, set-get_or}
+use lib.Seq.{get_or-set_same, get_or-set_other}
 use lib.Dec.{leb}
 use borrow.Author.Tests.{leb-true}
 use Rattle.laws.specs.First.{found}
@@ -17,7 +16,7 @@ use Rattle.bufmodel.specs.Word.{pins, usage, pack, empty, dirty, clean_flags, so
 use Rattle.bufmodel.specs.Position.{position}
 use Rattle.bufmodel.specs.Checksum.{sealed}
 use Rattle.bufmodel.specs.Rows.{place_of, store_blocks}
-use Rattle.bufmodel.specs.Memory.{Memory, buffers, size, cap_of, word_of, name_of, page_of, with_states}
+use Rattle.bufmodel.specs.Memory.{Memory, buffers, size, cap_of, word_of, name_of, page_of}
 use Rattle.bufmodel.specs.Books.{empty_at}
 use Rattle.bufmodel.specs.Moves.{put_at, write_back}
 use Rattle.bufmodel.proofs.WordLaws.{flags-pack, usage-pack, pins-pack, pins-lt, usage-lt, Held, held_by, held-sound, held-lt, dirty-is}
@@ -25,6 +24,7 @@ use Rattle.bufmodel.proofs.ChecksumLaws.{length-sealed}
 use Rattle.bufmodel.proofs.RowsLaws.{place-in}
 use Rattle.bufmodel.proofs.SizesLaws.{sized-least}
 use Rattle.bufmodel.proofs.GoodLaws.{Good}
+use Rattle.bufmodel.proofs.CleanLaws.{back-clean}
 use Rattle.bufmodel.proofs.LikeLaws.{like, like-good}
 
 -- ---- the word
@@ -60,10 +60,6 @@ back-dirty : (m : Memory) (i g : ℕ) → place_of m.rows (name_of m i) ≡ foun
     → write_back m i ≡ back_of m i g
 unfolding write_back put_at
 back-dirty m i g e d = rw (d, e)
-
-back-clean : (m : Memory) → (i : ℕ) → dirty (word_of m i) ≡ false → write_back m i ≡ m
-unfolding write_back
-back-clean m i d = rw d (ap (λ (x : List ℕ). with_states x m) (set-get_or m.states i 0))
 
 -- ---- the books
 module _ (m : Memory) (k : Good m) (i : ℕ) (l : i < buffers m) (full : empty_at m i ≡ false) where

@@ -1,12 +1,11 @@
 // Pin: of a page that is held its holder has one pin more; another is verified and loaded into a free buffer, or into the victim of a
 // sweep.
 
-ghost use Rattle.std.specs.Prelude.{◌≡◌, true, ◌<◌, Ok};
+ghost use Rattle.std.specs.Prelude.{◌≡◌, true, Ok};
 ghost use Rattle.laws.specs.First.{found};
 ghost use Rattle.buftag.specs.Link.{link_of};
 ghost use Rattle.bufmodel.specs.Rows.{place_of};
 ghost use Rattle.bufmodel.specs.View.{memory_in, SameLoans};
-ghost use Rattle.bufmodel.specs.Counts.{max_holders};
 ghost use Rattle.bufmodel.specs.Sizes.{sized};
 ghost use Rattle.bufmodel.specs.Books.{sound};
 ghost use Rattle.bufmodel.specs.Answer.{answer_of, ended_control, pinned_number, pinned_words, pinned_of};
@@ -14,7 +13,8 @@ ghost use Rattle.bufmodel.specs.Pin.{pin_new, pin};
 ghost use Rattle.bufmem.specs.Seek.{sought};
 
 use crate::held::pin_held;
-use crate::victim::pin_swept;
+use crate::victim::{loaded, pin_swept};
+use crate::wanted::Wanted;
 use bufbooks::lent::refusal;
 use bufmem::counts::{is_holder, put_count};
 use bufmem::seal::passes_block;
@@ -34,21 +34,18 @@ use buftag::number::BufferNumber;
 fn pin_new(
     control: Control,
     lent: &mut SlicesMut<'_>,
-    holder: Holder,
-    name: PageName,
-    g: usize,
+    wanted: Wanted,
 ) -> Result<Ended<Pinned>, Refusal>
     requires { (sized (memory_in control lent.old) ≡ true) × (sound (memory_in control lent.old) ≡ true)
-        × (place_of lent.old.rows.now name ≡ found g)
-        × (holder.0 < max_holders) }
+        × (place_of lent.old.rows.now wanted.name ≡ found wanted.place) }
     ensures value { answer_of result
-        ≡ pinned_of (pin_new (memory_in control lent.old) holder.0 name (link_of control.top)) }
+        ≡ pinned_of (pin_new (memory_in control lent.old) wanted.holder.0 wanted.name (link_of control.top)) }
     ensures store_after { memory_in (ended_control control result) lent.new
-        ≡ (pin_new (memory_in control lent.old) holder.0 name (link_of control.top)).after }
+        ≡ (pin_new (memory_in control lent.old) wanted.holder.0 wanted.name (link_of control.top)).after }
     ensures same_loans { SameLoans lent.new lent.old }
 {
     let Link::To(i) = Link::from(control.top) else {
-        return pin_swept(control, lent, holder, name, g);
+        return pin_swept(control, lent, wanted);
     };
     let buffer = BufferNumber(i);
     let states = &mut *lent.states;
@@ -59,46 +56,53 @@ fn pin_new(
     let chain = &mut *lent.chain;
     let store = &mut *lent.store;
     let after = load_page(
-        control, states, names, pool, free, heads, chain, store, name, buffer, g,
+        control,
+        states,
+        names,
+        pool,
+        free,
+        heads,
+        chain,
+        store,
+        wanted.name,
+        buffer,
+        wanted.place,
     );
-    put_count(lent.counts, holder, buffer, 1);
+    put_count(lent.counts, wanted.holder, buffer, 1);
     Ok(Ended {
         control: after,
-        answer: Pinned {
-            buffer,
-            hit: false,
-            wrote: false,
-            probes: 0,
-        },
+        answer: loaded(buffer, false, 0),
     })
 }
 
-// The page `name`, at place `g` of the store: where no buffer has it, its block is verified first.
+// Where no buffer has the page, its block is verified first.
 fn pin_at(
     control: Control,
     lent: &mut SlicesMut<'_>,
-    holder: Holder,
-    name: PageName,
-    g: usize,
+    wanted: Wanted,
 ) -> Result<Ended<Pinned>, Refusal>
     requires { (sized (memory_in control lent.old) ≡ true) × (sound (memory_in control lent.old) ≡ true)
-        × (sought lent.old.rows.now name ≡ Ok g)
-        × (holder.0 < max_holders) }
-    ensures value { answer_of result ≡ pinned_of (pin (memory_in control lent.old) holder.0 name) }
+        × (sought lent.old.rows.now wanted.name ≡ Ok wanted.place) }
+    ensures value { answer_of result ≡ pinned_of (pin (memory_in control lent.old) wanted.holder.0 wanted.name) }
     ensures store_after { memory_in (ended_control control result) lent.new
-        ≡ (pin (memory_in control lent.old) holder.0 name).after }
+        ≡ (pin (memory_in control lent.old) wanted.holder.0 wanted.name).after }
     ensures same_loans { SameLoans lent.new lent.old }
 {
     let seen = lent.view(control);
-    let Some(buffer) = look_up(seen.heads, seen.chain, seen.names, name) else {
-        if !passes_block(seen.store, g, seen.control.size, name.block) {
+    let Some(buffer) = look_up(seen.heads, seen.chain, seen.names, wanted.name) else {
+        if !passes_block(
+            seen.store,
+            wanted.place,
+            seen.control.size,
+            wanted.name.block,
+        ) {
             return Err(Refusal::Checksum);
         }
-        return pin_new(control, lent, holder, name, g);
+        return pin_new(control, lent, wanted);
     };
     let states = &mut *lent.states;
     let counts = &mut *lent.counts;
-    let answer = pin_held(control, states, counts, holder, buffer)?;
+    let answer = pin_held(control, states, counts, wanted.holder, buffer)?;
     Ok(Ended { control, answer })
 }
 
@@ -121,6 +125,14 @@ pub fn pin_page(
     if !is_holder(holder) {
         return Err(Refusal::NoHolder);
     }
-    let g = seek(lent.rows, name)?;
-    pin_at(control, lent, holder, name, g)
+    let place = seek(lent.rows, name)?;
+    pin_at(
+        control,
+        lent,
+        Wanted {
+            holder,
+            name,
+            place,
+        },
+    )
 }

@@ -8,7 +8,7 @@ ghost use Rattle.bufmodel.specs.Word.{pinned, dirty, empty};
 ghost use Rattle.bufmodel.specs.Rows.{place_of};
 ghost use Rattle.bufmodel.specs.Memory.{with_counts};
 ghost use Rattle.bufmodel.specs.View.{memory_in, SameLoans};
-ghost use Rattle.bufmodel.specs.Counts.{max_holders, set_count};
+ghost use Rattle.bufmodel.specs.Counts.{set_count};
 ghost use Rattle.bufmodel.specs.Sizes.{sized};
 ghost use Rattle.bufmodel.specs.Books.{sound};
 ghost use Rattle.bufmodel.specs.Sweep.{sweep_all};
@@ -17,28 +17,37 @@ ghost use Rattle.bufmodel.specs.Answer.{answer_of, ended_control, pinned_of};
 ghost use Rattle.bufmodel.specs.Pin.{pin_swept};
 ghost use Rattle.bufpin.specs.Victim.{loaded_at};
 
+use crate::wanted::Wanted;
 use bufmem::counts::put_count;
 use bufmem::state::state_of;
 use bufmem::word::is_dirty;
 use bufmodel::answer::{Ended, Pinned};
 use bufmodel::control::Control;
-use bufmodel::holder::Holder;
 use bufmodel::refusal::Refusal;
 use bufmodel::view::SlicesMut;
 use bufmoves::back::write_back;
 use bufmoves::exchange::{load_page, release_buffer};
 use bufmoves::sweep::{Victim, sweep};
-use buftag::name::PageName;
 use buftag::number::BufferNumber;
 
-// The victim of a sweep is written back if it is dirty, gives up its page, and the page `name`, at place `g` of the store, is loaded. The
-// holder's count of it becomes 1.
+// What a pin that loads its page answers.
+pub(crate) fn loaded(buffer: BufferNumber, wrote: bool, probes: u64) -> Pinned
+    ensures { result ≡ loaded_at buffer.0 wrote probes }
+{
+    Pinned {
+        buffer,
+        hit: false,
+        wrote,
+        probes,
+    }
+}
+
+// The victim of a sweep is written back if it is dirty, gives up its page, and the wanted page is loaded. The holder's count of it becomes
+// 1.
 fn pin_victim(
     control: Control,
     lent: &mut SlicesMut<'_>,
-    holder: Holder,
-    name: PageName,
-    g: usize,
+    wanted: Wanted,
     victim: BufferNumber,
     probes: u64,
 ) -> Ended<Pinned>
@@ -46,12 +55,11 @@ fn pin_victim(
         × (victim.0 < length lent.old.states.now)
         × (empty (get_or lent.old.states.now victim.0 0) ≡ false)
         × (pinned (get_or lent.old.states.now victim.0 0) ≡ false)
-        × (place_of lent.old.rows.now name ≡ found g)
-        × (holder.0 < max_holders) }
+        × (place_of lent.old.rows.now wanted.name ≡ found wanted.place) }
     ensures answer { result.answer ≡ loaded_at victim.0 (dirty (get_or lent.old.states.now victim.0 0)) probes }
     ensures store_after { memory_in result.control lent.new
-        ≡ with_counts (set_count lent.old.counts.now victim.0 holder.0 1)
-        (load (release (write_back (memory_in control lent.old) victim.0) victim.0) name) }
+        ≡ with_counts (set_count lent.old.counts.now victim.0 wanted.holder.0 1)
+        (load (release (write_back (memory_in control lent.old) victim.0) victim.0) wanted.name) }
     ensures same_loans { SameLoans lent.new lent.old }
 {
     let states = &mut *lent.states;
@@ -65,17 +73,22 @@ fn pin_victim(
     let written = write_back(control, states, names, pool, lent.rows, store, victim);
     let freed = release_buffer(written, states, names, free, heads, chain, victim);
     let after = load_page(
-        freed, states, names, pool, free, heads, chain, store, name, victim, g,
+        freed,
+        states,
+        names,
+        pool,
+        free,
+        heads,
+        chain,
+        store,
+        wanted.name,
+        victim,
+        wanted.place,
     );
-    put_count(lent.counts, holder, victim, 1);
+    put_count(lent.counts, wanted.holder, victim, 1);
     Ended {
         control: after,
-        answer: Pinned {
-            buffer: victim,
-            hit: false,
-            wrote,
-            probes,
-        },
+        answer: loaded(victim, wrote, probes),
     }
 }
 
@@ -83,20 +96,17 @@ fn pin_victim(
 pub fn pin_swept(
     control: Control,
     lent: &mut SlicesMut<'_>,
-    holder: Holder,
-    name: PageName,
-    g: usize,
+    wanted: Wanted,
 ) -> Result<Ended<Pinned>, Refusal>
     requires { (sized (memory_in control lent.old) ≡ true) × (sound (memory_in control lent.old) ≡ true)
-        × (place_of lent.old.rows.now name ≡ found g)
-        × (link_of control.top ≡ End)
-        × (holder.0 < max_holders) }
+        × (place_of lent.old.rows.now wanted.name ≡ found wanted.place)
+        × (link_of control.top ≡ End) }
     ensures value { answer_of result
         ≡ pinned_of
-        (pin_swept (memory_in control lent.old) holder.0 name
+        (pin_swept (memory_in control lent.old) wanted.holder.0 wanted.name
         (sweep_all control.cap lent.old.states.now control.hand)) }
     ensures store_after { memory_in (ended_control control result) lent.new
-        ≡ (pin_swept (memory_in control lent.old) holder.0 name
+        ≡ (pin_swept (memory_in control lent.old) wanted.holder.0 wanted.name
         (sweep_all control.cap lent.old.states.now control.hand)).after }
     ensures same_loans { SameLoans lent.new lent.old }
 {
@@ -106,5 +116,5 @@ pub fn pin_swept(
         probes,
     } = sweep(control.cap, lent.states, control.hand).ok_or(Refusal::AllPinned)?;
     let swept = Control { hand, ..control };
-    Ok(pin_victim(swept, lent, holder, name, g, buffer, probes))
+    Ok(pin_victim(swept, lent, wanted, buffer, probes))
 }

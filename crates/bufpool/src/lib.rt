@@ -1,5 +1,5 @@
 // The pool for programs in C: the thirteen calls over lent memory, a page's checksum, and the interface's number.
-// The slices stand one by one, as the C interface lends them.
+// Slices one by one, and results as numbers: so the C interface has them.
 
 #![tactic(auto)]
 

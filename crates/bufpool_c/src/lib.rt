@@ -1,4 +1,5 @@
 // The pool for programs in C, as `bufpool` has it: the thirteen calls, a page's checksum, and the interface's number.
+// Slices one by one, and results as numbers: so C has them.
 
 #![tactic(auto)]
 

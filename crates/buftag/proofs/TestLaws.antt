@@ -20,7 +20,7 @@ use Rattle.buftag.proofs.LinkLaws.{is_end-true, holds-says}
 use Rattle.buftag.proofs.NameLaws.{says-same-name}
 use Rattle.buftag.proofs.HoldsLaws.{used-in}
 
-says-end : (l : Link) → Says (is_end l) (l ≡ End)
+pub says-end : (l : Link) → Says (is_end l) (l ≡ End)
 says-end l = record { holds = is_end-true l; shown = λ e. rw e }
 
 module _ (words names : List ℕ) where

@@ -8,7 +8,7 @@ pub const NONE: i32 = -1;
 
 pub const OFF: i32 = -2;
 
-// What a link says.
+// What a link says. Four cases, two of them marks: no Option has so many.
 #[derive(Clone, Copy, PartialEq, Eq)]
 pub enum Link {
     // The list goes on at this place.

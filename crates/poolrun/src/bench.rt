@@ -39,14 +39,7 @@ impl Bench {
     // Names, words, links and counts are lent with numbers that set up has to clear.
     fn uncleared() -> Bench {
         Bench {
-            control: Control {
-                size: 0,
-                hand: 0,
-                top: 0,
-                inserted: 0,
-                flushed: 0,
-                cap: 0,
-            },
+            control: Control::default(),
             states: [7; 3],
             names: [7; 15],
             pool: [7; 3072],

@@ -6,7 +6,7 @@ use mathlib.Core.Logic.{◌≢◌, ⊎_elim}
 use mathlib.Core.List.{List}
 use native.Mathlib.Omega.{arith}
 use lib.ListN.{length, length-set}
-use lib.Seq.{get_or-set_same, get_or-set_other, set-get_or}
+use lib.Seq.{get_or-set_same, get_or-set_other}
 use Rattle.laws.specs.First.{found}
 use Rattle.laws.specs.Block.{block, put_block}
 use Rattle.laws.proofs.Tests.{eq-or-ne, never}
@@ -16,7 +16,7 @@ use Rattle.bufmodel.specs.Word.{pins, usage, pinned, dirty, clean_flags, make_cl
 use Rattle.bufmodel.specs.Position.{position}
 use Rattle.bufmodel.specs.Checksum.{bare, sealed, passes}
 use Rattle.bufmodel.specs.Rows.{store_blocks, place_of}
-use Rattle.bufmodel.specs.Memory.{Memory, buffers, size, cap_of, word_of, name_of, page_of, with_states}
+use Rattle.bufmodel.specs.Memory.{Memory, buffers, size, cap_of, word_of, name_of, page_of}
 use Rattle.bufmodel.specs.Moves.{put_at, write_back}
 use Rattle.bufmodel.proofs.ChecksumLaws.{alike-position, bare-sealed, length-sealed, sealed-passes}
 use Rattle.bufmodel.proofs.WordLaws.{pinned-same, Fields, make-clean}
@@ -39,11 +39,6 @@ pub back-dirty : (m : Memory) (i g : ℕ) → place_of m.rows (name_of m i) ≡ 
     → write_back m i ≡ back_of m i g
 unfolding write_back put_at
 back-dirty m i g e d = rw (d, e)
-
--- a page that is not dirty stays as it is
-pub back-clean : (m : Memory) → (i : ℕ) → dirty (word_of m i) ≡ false → write_back m i ≡ m
-unfolding write_back
-back-clean m i d = rw d (ap (λ (x : List ℕ). with_states x m) (set-get_or m.states i 0))
 
 -- as many buffers as before
 pub back-buffers : (m : Memory) (i : ℕ) → buffers (write_back m i) ≡ buffers m

@@ -20,7 +20,9 @@ use Rattle.shelf.specs.Ledger.{is_place}
 use Rattle.shelf.proofs.Kept.{View, ledger_of, Has, Kept}
 use Rattle.shelf.proofs.KeptLaws.{same-position, is_place-self, is_place-other, has-page}
 use Rattle.shelf.proofs.HighestLaws.{Bounds}
-use Rattle.shelf.proofs.BackKept.{back_of, back-dirty, back-clean, view_back}
+use Rattle.bufmodel.proofs.CleanLaws.{back-clean}
+use Rattle.shelf.proofs.BackKept.{back_of, back-dirty, view_back}
+use Rattle.bufmodel.proofs.CleanLaws.{back-clean}
 use Rattle.shelf.proofs.BackKept.{back-own, back-word, back-other, place-below, kept-back_of}
 
 -- ---- what writing back changes

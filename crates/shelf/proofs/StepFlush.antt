@@ -28,7 +28,9 @@ use Rattle.shelf.proofs.ShelfPlaces.{refuses-is}
 use Rattle.shelf.proofs.Refused.{neither-none, call_step}
 use Rattle.shelf.proofs.Accepted.{Accepted, accepted-ended}
 use Rattle.shelf.proofs.HighestLaws.{highest-none, highest-one}
-use Rattle.shelf.proofs.BackKept.{back_of, back-has, back-own, back-dirty, back-clean}
+use Rattle.bufmodel.proofs.CleanLaws.{back-clean}
+use Rattle.shelf.proofs.BackKept.{back_of, back-has, back-own, back-dirty}
+use Rattle.bufmodel.proofs.CleanLaws.{back-clean}
 use Rattle.shelf.proofs.BackKept.{place-below, back_long, back-other, view_back, kept-back_of}
 use Rattle.shelf.proofs.BufferPlaces.{number_same, number-neither, number-page}
 

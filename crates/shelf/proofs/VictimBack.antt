@@ -14,7 +14,8 @@ use Rattle.shelf.specs.Ledger.{is_place}
 use Rattle.shelf.proofs.Kept.{View, Has, Nobody, Kept}
 use Rattle.shelf.proofs.KeptLaws.{same-position, is_place-self, Alike, kept-alike}
 use Rattle.shelf.proofs.PinAccepted.{was_last, view_wrote}
-use Rattle.shelf.proofs.BackKept.{back_of, back-dirty, back-clean, view_back}
+use Rattle.bufmodel.proofs.CleanLaws.{back-clean}
+use Rattle.shelf.proofs.BackKept.{back_of, back-dirty, view_back}
 use Rattle.shelf.proofs.BackKept.{back-own, back-pinned, back-then, back-has, back_long, back-other, kept-back_of}
 
 -- ---- the victim, clean

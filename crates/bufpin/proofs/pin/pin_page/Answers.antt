@@ -31,15 +31,17 @@ seek-requires c =
 pub pin_at-requires : goal.pin_at-requires
 pin_at-requires c =
     let good = good-seen c.view.ensures (passed-good _ c.in_ok-refusal.ensures refl) in
-    let few = ltb-true c.args.holder.0 max_holders (sym c.is_holder.ensures ∙ c.if-not-is_holder.false) in
-    (good-sized _ good, good-sound _ good, sym c.in_ok-g.ensures, few)
+    (good-sized _ good, good-sound _ good, sym c.in_ok-place.ensures)
 
-pub returns-in_err-g : goal.returns-in_err-g
-returns-in_err-g c =
-    let p = err_from_is_err_and c.from_residual-in_err-g.result c.from_residual-in_err-g.ensures.1 in
+pub invariant_of-pin_at : goal.invariant_of-pin_at
+invariant_of-pin_at c = record { few = ltb-true c.args.holder.0 max_holders (sym c.is_holder.ensures ∙ c.if-not-is_holder.false) }
+
+pub returns-in_err-place : goal.returns-in_err-place
+returns-in_err-place c =
+    let p = err_from_is_err_and c.from_residual-in_err-place.result c.from_residual-in_err-place.ensures.1 in
     let good = good-seen c.view.ensures (passed-good _ c.in_ok-refusal.ensures refl) in
     let few = ltb-true c.args.holder.0 max_holders (sym c.is_holder.ensures ∙ c.if-not-is_holder.false) in
-    let t = promised (pin-answers _ _ _) (pin-nameless _ c.args.holder.0 c.args.name good few _ (sym c.in_err-g.ensures)) in
+    let t = promised (pin-answers _ _ _) (pin-nameless _ c.args.holder.0 c.args.name good few _ (sym c.in_err-place.ensures)) in
     rw (p.1, p.2) (record { value = t.0; number = t.1.0; words = t.1.1.0; store_after = t.1.1.1; same_loans = same-loans c.args.lent.now })
 
 pub returns : goal.returns

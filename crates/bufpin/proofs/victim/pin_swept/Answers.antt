@@ -24,8 +24,8 @@ returns-in_err-buffer c =
     let k = good_of _ c.requires.0 c.requires.1 in
     rw (p.1, p.2, q)
     (record {
-      value = swept-refused _ k c.args.holder.0 c.args.name e;
-      store_after = swept-still _ k c.args.holder.0 c.args.name e c.sweep.ensures.states_after;
+      value = swept-refused _ k c.args.wanted.holder.0 c.args.wanted.name e;
+      store_after = swept-still _ k c.args.wanted.holder.0 c.args.wanted.name e c.sweep.ensures.states_after;
       same_loans = same-loans c.args.lent.now;
     })
 
@@ -34,8 +34,8 @@ pin_victim-requires c =
     let top : to_z w32 (of_z w32 c.args.control.top) ≡ c.args.control.top = search rules in
     let e = victim-at _ (sym c.in_ok-buffer.ensures.ok_part ∙ c.sweep.ensures.value) in
     let k = good_of _ c.requires.0 c.requires.1 in
-    let a = swept-asks _ k c.args.holder.0 c.args.name e.0 e.1 c.sweep.ensures.states_after c.requires.3 in
-    rw top (a.0, a.1, a.2, a.3, a.4, c.requires.2, c.requires.4)
+    let a = swept-asks _ k c.args.wanted.holder.0 c.args.wanted.name e.0 e.1 c.sweep.ensures.states_after c.requires.3 in
+    rw top (a.0, a.1, a.2, a.3, a.4, c.requires.2)
 
 pub returns : goal.returns
 returns c =
@@ -43,9 +43,9 @@ returns c =
     let e = victim-at _ (sym c.in_ok-buffer.ensures.ok_part ∙ c.sweep.ensures.value) in
     let k = good_of _ c.requires.0 c.requires.1 in
     let q = c.sweep.ensures.states_after in
-    let h = c.args.holder.0 in
+    let h = c.args.wanted.holder.0 in
     let o = c.pin_victim.ensures in record {
-      value = ap Ok o.answer ∙ swept-answer _ k h c.args.name e.0 e.1 q e.2;
+      value = ap Ok o.answer ∙ swept-answer _ k h c.args.wanted.name e.0 e.1 q e.2;
       same_loans = o.same_loans;
-      store_after = rw (← (swept-after _ k h c.args.name e.0 e.1 q)) (rw top at o.store_after);
+      store_after = rw (← (swept-after _ k h c.args.wanted.name e.0 e.1 q)) (rw top at o.store_after);
     }

@@ -22,19 +22,19 @@ load_page-after-requires c =
     let t = taken-of _ _ q.0 q.1 q.2 q.3 q.4 in
     let u = back-taken _ _ t (back_whole _ _ _ _ _ c.write_back-written.ensures) in
     let v = release-taken _ _ u (release-whole _ _ _ _ _ _ _ _ c.release_buffer-freed.ensures) in
-    good-lodged _ v.0 _ v.1 c.args.name c.args.g q.5
+    good-lodged _ v.0 _ v.1 c.args.wanted.name c.args.wanted.place q.5
 
 pub put_count-requires : goal.put_count-requires
 put_count-requires c =
     let q = c.requires in
     let t = taken-of _ _ q.0 q.1 q.2 q.3 q.4 in
-    omega (arith, t.good.sizes.counts, q.2, q.6)
+    omega (arith, t.good.sizes.counts, q.2, c.args.wanted.few)
 
 pub returns-clause-store_after : goal.returns-clause-store_after
 returns-clause-store_after c =
     let q = c.requires in
     let t = taken-of _ _ q.0 q.1 q.2 q.3 q.4 in
-    load-taken _ c.args.name c.args.victim.0 c.args.g q.5 (back_whole _ _ _ _ _ c.write_back-written.ensures)
+    load-taken _ c.args.wanted.name c.args.victim.0 c.args.wanted.place q.5 (back_whole _ _ _ _ _ c.write_back-written.ensures)
     (release-whole _ _ _ _ _ _ _ _ c.release_buffer-freed.ensures)
-    (load-whole _ _ _ _ c.args.name c.args.g _ _ _ _ _ c.load_page-after.ensures)
+    (load-whole _ _ _ _ c.args.wanted.name c.args.wanted.place _ _ _ _ _ c.load_page-after.ensures)
     c.put_count.ensures
