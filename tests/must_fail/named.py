@@ -1,6 +1,6 @@
 """named.py: whether the edits crates/CRATE/must-fail/FUNCTION-SLIP.edit are as many as they should be, and whose.
 
-Prints a line for each crate: that each public function, and each that a type has by a trait, has two edits at least, and
+Prints a line for each crate: that each public function, a type's too, and each that a type has by a trait, has two edits at least, and
 that each edit is named after a function of the crate.
 The functions of a static library CRATE_c only call those of CRATE by the same names, which have edits there. An edit whose function another
 does the work of now counts for that one: moved.txt has a line for it. Then 'N passed, M failed'."""

@@ -64,6 +64,7 @@ fn held_ok(
     let Some(row) = row_near(tables.rows, guess, name.file) else {
         return false;
     };
+    // tested by itself: where the block is not there, no hash is made
     if !has_block(tables.rows.words, row, name.block) {
         return false;
     }

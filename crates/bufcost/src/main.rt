@@ -18,7 +18,8 @@ struct Piece {
     more: bool,
 }
 
-// A piece that was read: one without a byte is the end, and behind a bad line there is no more to read.
+// A piece that was read: one without a byte is the end, and behind a bad line there is no more to read. The three slices are passed on one
+// by one, as `buftrace` has them.
 fn take_piece(
     s: Reader,
     states: &mut [u32],

@@ -1,4 +1,4 @@
-// Blocks of bytes: one copied into another slice, one cleared.
+// Blocks of bytes: one copied into another slice, one cleared. The library's methods, with contracts in blocks, which callers cite.
 
 ghost use Rattle.std.specs.Prelude.{◌≡◌, ◌+◌, ◌*◌, ◌≤◌, length, replicate};
 ghost use Rattle.laws.specs.Block.{block, put_block};

@@ -67,7 +67,8 @@ impl Answer for Pinned {
     }
 }
 
-// Stores the words of an answer, zeros where the call is refused, and answers its number.
+// Stores the words of an answer, zeros where the call is refused, and answers its number. Words are lent as slices, as C has them: of
+// arrays each of the exports would have to make one.
 pub fn put_answer<T: Answer>(answer: &mut [u64], given: Result<T, Refusal>) -> u32
     requires { length answer.old ≡ answer_words }
     ensures value { result ≡ result_number given }

@@ -12,7 +12,7 @@ pub const NAME_WORDS: usize = 5;
 // The place of the block among a name's words.
 const BLOCK_WORD: usize = 4;
 
-// An empty buffer's name.
+// An empty buffer's name: a default with a contract that callers cite.
 pub fn no_name() -> PageName
     ensures { result ≡ no_name }
 {
