@@ -1,4 +1,4 @@
-// Calls to which the control record is lent: each copies it, makes the call by value, and stores hand, top and log positions back.
+// Calls to which the control record is lent: each makes the call by value, and stores hand, top and log positions back.
 
 #![tactic(auto)]
 
