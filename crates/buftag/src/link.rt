@@ -21,16 +21,16 @@ pub enum Link {
     Bad,
 }
 
-// A signed number, cast to an index after its sign test.
+// A signed number, cast to an index after its sign test, which comes first: a walk takes one test for a place.
 impl From<i32> for Link {
     ghost from_gives = { λ x link. link ≡ link_of x };
 
     fn from(x: i32) -> Link {
         match x {
+            _ if x >= 0 => Link::To(x as usize),
             NONE => Link::End,
             OFF => Link::Off,
-            _ if x < 0 => Link::Bad,
-            _ => Link::To(x as usize),
+            _ => Link::Bad,
         }
     }
 }
@@ -53,5 +53,5 @@ pub fn is_end(l: Link) -> bool
 pub fn leads_to(l: Link, i: usize) -> bool
     ensures { result ≡ is_to i l }
 {
-    l == Link::To(i)
+    matches!(l, Link::To(j) if j == i)
 }
