@@ -29,7 +29,7 @@ position-block p i pool h =
     rw (word-take p 0 page (omega arith), word-take p 4 page (omega arith))
 
 -- bytes stored one by one
-sets-paste : (at : ℕ) (new bytes : List ℕ) → at + length new ≤ length bytes → sets bytes at new ≡ paste at new bytes
+pub sets-paste : (at : ℕ) (new bytes : List ℕ) → at + length new ≤ length bytes → sets bytes at new ≡ paste at new bytes
 unfolding paste
 sets-paste at new bytes h =
     sets-eq new bytes at h ∙ append_assoc (take at bytes) new (drop (at + length new) bytes)

@@ -30,12 +30,19 @@ use Rattle.bufmodel.specs.Calls.{buffer_places, write_places, set_up, unpin, rea
 use Rattle.bufmodel.specs.Calls.{extend_at, extend, drop_at, drop_file, log_inserted, log_flushed}
 
 -- ---- an outcome, and the case that it means
--- it is the one of an accepted call, or refused with the number of a refusal
-pub by-case : (P : Outcome → Type 0) (k : ℕ) (bytes : List ℕ) (m : Memory) (o : Outcome) → k < 20 → P o
+-- it is the one of an accepted call, or refused
+pub by-case : (P : Outcome → Type 0) (k : ℕ) (bytes : List ℕ) (m : Memory) (o : Outcome) → P o → ((j : ℕ) → P (refused (suc j) bytes m))
+    → P (outcome k bytes m o)
+unfolding outcome
+by-case P zero bytes m o p q = p
+by-case P (suc k) bytes m o p q = q k
+
+-- and where its number is a refusal's, refused with such a number
+pub by-case-below : (P : Outcome → Type 0) (k : ℕ) (bytes : List ℕ) (m : Memory) (o : Outcome) → k < 20 → P o
     → ((j : ℕ) → suc j < 20 → P (refused (suc j) bytes m)) → P (outcome k bytes m o)
 unfolding outcome
-by-case P zero bytes m o l p q = p
-by-case P (suc k) bytes m o l p q = q k l
+by-case-below P zero bytes m o l p q = p
+by-case-below P (suc k) bytes m o l p q = q k l
 
 -- the case's number and words are the outcome's, the caller's own bytes are known, and a refused call leaves the memory
 pub record Answers {T : Type 0} (words : T → List ℕ) (of : List ℕ → T) (left : List ℕ) (m : Memory) (o : Outcome) : Type 0 where
@@ -68,7 +75,7 @@ module _ {T : Type 0} {words : T → List ℕ} {of : List ℕ → T} {bytes : Li
 
   -- a call that is done, or refused
   answers-is : (k : ℕ) (o : Outcome) → k < 20 → Answers words of bytes m o → Answers words of bytes m (outcome k bytes m o)
-  answers-is k o l a = by-case (Answers words of bytes m) k bytes m o l a no
+  answers-is k o l a = by-case-below (Answers words of bytes m) k bytes m o l a no
 
 -- ---- the kinds of answer
 abbrev AcceptedIs : List ℕ → Memory → Outcome → Type 0
@@ -105,7 +112,7 @@ module _ (h i : ℕ) where
     -- out is what the call says
     pub read-answers : (m : Memory) → AcceptedIs (read m h i from bytes).bytes m (read m h i from bytes)
     unfolding read buffer_places holder_place
-    read-answers m = by-case (λ o. AcceptedIs o.bytes m o) _ bytes m _ (checked-below m _ refl) (yes refl) no
+    read-answers m = by-case-below (λ o. AcceptedIs o.bytes m o) _ bytes m _ (checked-below m _ refl) (yes refl) no
 
     pub write-answers : (at : ℕ) (m : Memory) → AcceptedIs bytes m (write m h i from bytes at)
     unfolding write write_places buffer_places holder_place
