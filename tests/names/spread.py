@@ -34,9 +34,24 @@ def is_number(function, kind):
     return kind in (['bool'], WORD, ['int', '64'])
 
 
+def all_parts(function, kind):
+    """A type and all in it, with the fields of each named type once; of a reference to the guesses nothing."""
+    seen, left = set(), [kind]
+    while left:
+        node = left.pop()
+        if not isinstance(node, list) or not node or node == ['ref', GUESSES]:
+            continue
+        yield node
+        left.extend(node)
+        if node[0] == 'named' and node[1] not in seen:
+            seen.add(node[1])
+            left.append(function.named[node[1]])
+
+
 def is_lent_bytes(function):
-    lent = [node[1] for kind in function.types for node in parts(kind) if node[0] == 'ref']
-    return any(BYTE in parts(kind) for kind in lent if kind != GUESSES)
+    """Behind a reference, which may be a field of a type that is named, or of one in such a field."""
+    lent = [node[1] for kind in function.types for node in all_parts(function, kind) if node[0] == 'ref']
+    return any(BYTE in all_parts(function, kind) for kind in lent)
 
 
 def read(folder):

@@ -2,6 +2,7 @@
 use mathlib.Core.Path.{◌≡◌, refl, ap, ◌∙◌}
 use mathlib.Core.Bool.{Bool, true, false, not, cond, ◌&&◌}
 use mathlib.Core.Logic.{⊎_elim}
+use mathlib.Core.List.{[]}
 use Prim.Native.Nat.{ℕ, ◌+◌, ◌≤◌, ◌<◌}
 use native.Mathlib.Omega.{arith}
 use lib.Dec.{eqb, leb}
@@ -28,7 +29,7 @@ use Rattle.buftag.proofs.TestLaws.{chains-say, says-end}
 use Rattle.bufmodel.specs.Word.{pins, empty, dirty, bit, max_cap, sound_cap, sound_word}
 use Rattle.bufmodel.specs.Position.{position}
 use Rattle.bufmodel.specs.Rows.{place_of}
-use Rattle.bufmodel.specs.Memory.{Memory, buffers, cap_of, word_of, name_of, page_of}
+use Rattle.bufmodel.specs.Memory.{Memory, buffers, cap_of, word_of, name_of, page_of, with_free}
 use Rattle.bufmodel.specs.Counts.{holders_of}
 use Rattle.bufmodel.specs.Books.{empty_at, sound_counts, sound, BooksSound}
 use Rattle.bufmodel.proofs.BooksLaws.{says-off, says-found, books-say}
@@ -262,6 +263,11 @@ module _ (m : Memory) where
         (λ h.
         let k = (books-say m).holds h in
         and-true (tested-says.shown (sound-tested k)) (counted-says.shown k.counts))
+
+-- the test of a buffer does not look at the free links
+pub buffers_free : (m : Memory) → all (buffers m) (buffer_test (with_free [] m)) ≡ all (buffers m) (buffer_test m)
+unfolding buffer_test empty_at
+buffers_free m = refl
 
 -- a sound cap is few uses
 pub cap_few : (cap : ℕ) → sound_cap cap ≡ true → cap ≤ max_cap

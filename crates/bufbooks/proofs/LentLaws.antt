@@ -15,10 +15,10 @@ use Rattle.buftag.specs.declared.link.Link.TheVariants.{To, Bad}
 use Rattle.buftag.specs.Link as link
 use Rattle.buftag.specs.Link.{link_of, Links, step}
 use Rattle.bufmodel.specs.declared.control.Control.{Control}
-use Rattle.bufmodel.specs.Memory.{Memory, memory, buffers, size, with_top, with_counts}
+use Rattle.bufmodel.specs.Memory.{Memory, memory, buffers, size, with_top, with_store, with_counts}
 use Rattle.bufmodel.specs.Sizes.{sized, sized_for}
 use Rattle.bufmodel.specs.Counts.{max_holders}
-use Rattle.bufmodel.specs.Books.{sound_counts, sound}
+use Rattle.bufmodel.specs.Books.{empty_at, sound_counts, sound}
 use Rattle.bufmodel.specs.Outcome.{Outcome, place, refusal_of, checked, done, zeros}
 use Rattle.bufmodel.specs.Lent.{Lent, one_bits, control_words, answer_words, top_of, control_of, opened, ended, called}
 use Rattle.bufmodel.proofs.SizesLaws.{rows-say, sizes-say, sized-page}
@@ -26,7 +26,7 @@ use Rattle.bufmodel.proofs.BooksLaws.{books-say}
 use Rattle.bufmodel.proofs.GoodLaws.{Good, good-sized, good-sound}
 use Rattle.bufmodel.proofs.OutcomeLaws.{refusal-past, refusal-at, refusal-none, outcome-number}
 use Rattle.bufmem.specs.Control.{top_read, control_read}
-use Rattle.bufbooks.specs.Buffers.{Fitting}
+use Rattle.bufbooks.specs.Buffers.{Fitting, buffer_test}
 use Rattle.bufbooks.specs.Books.{books_test}
 use Rattle.bufbooks.specs.Lent.{check}
 use Rattle.bufbooks.proofs.BooksLaws.{books-is}
@@ -56,7 +56,10 @@ checked-same a b e alike =
     (λ s. sym (checked_sizes a (e ∙ s)) ∙ checked_sizes b s)
     (true-or-false (sized b))
 
--- ---- sizes that fit: the books are checked, but for the last rule, without the counts
+-- ---- sizes that fit: the books are checked without the store, and but for the last rule without the counts
+abbrev pub bare : Memory → Memory
+bare m = with_counts [] (with_store [] m)
+
 pub fits : (m : Memory) → sized m ≡ true → Fitting m
 unfolding sized
 fits m h =
@@ -73,6 +76,10 @@ fits m h =
       rows = (rows-say m.rows).shown s.rows;
     }
 
+books-bare : (m : Memory) → books_test (bare m) ≡ books_test m
+unfolding books_test buffer_test empty_at
+books-bare m = refl
+
 module _ (m : Memory) (s : sized m ≡ true) where
   pub counts-fit : buffers m * max_holders ≤ length m.counts
   unfolding sized
@@ -80,6 +87,24 @@ module _ (m : Memory) (s : sized m ≡ true) where
 
   pub sound_both : (books_test m && sound_counts m) ≡ sound m
   sound_both = books-is m (fits m s)
+
+  pub bare-fits : Fitting (bare m)
+  bare-fits =
+      let f = fits m s in
+      record {
+        page = f.page;
+        buckets = f.buckets;
+        few = f.few;
+        narrow = f.narrow;
+        names = f.names;
+        pool = f.pool;
+        free = f.free;
+        chain = f.chain;
+        rows = f.rows;
+      }
+
+  pub sound_bare : (books_test (bare m) && sound_counts m) ≡ sound m
+  sound_bare = rw (books-bare m) sound_both
 
 -- ---- the top of the free list: a word that no link can be, read in two ways, makes the books unsound
 links-to : {ls : List ℤ} {w : ℕ} {xs : List ℕ} → Links ls (To w) xs → w < length ls

@@ -1,11 +1,11 @@
 // The pass over the buffers: each one's log position, name and place in its chain.
 
-ghost use Rattle.std.specs.Prelude.{◌≡◌, ◌+◌, ◌*◌, ◌≤◌, ◌<◌, length};
+ghost use Rattle.std.specs.Prelude.{◌≡◌, [], ◌+◌, ◌*◌, ◌≤◌, ◌<◌, length};
 ghost use Rattle.laws.specs.Every.{all};
 ghost use Rattle.buftag.specs.Bucket.{Masks};
 ghost use Rattle.buftag.specs.Names.{name_words};
 ghost use Rattle.bufmodel.specs.Rows.{row_of};
-ghost use Rattle.bufmodel.specs.View.{memory_of};
+ghost use Rattle.bufmodel.specs.Memory.{memory};
 ghost use Rattle.bufmodel.specs.Sizes.{max_buffers, max_buckets};
 ghost use Rattle.bufmem.specs.Rows.{found_row};
 ghost use Rattle.bufbooks.specs.Buffers.{low_test, held_test, buffer_test};
@@ -16,7 +16,7 @@ use crate::tables::Tables;
 use bufmem::page::page_position;
 use bufmem::rows::{ROW_WORDS, find_row, has_block, is_file};
 use bufmem::word::{is_dirty, is_empty};
-use bufmodel::view::PoolView;
+use bufmodel::control::Control;
 use buftag::bucket::{bucket_by, mask_of};
 use buftag::check::is_first;
 use buftag::name::{FileName, hash_short};
@@ -25,12 +25,11 @@ use buftag::number::BufferNumber;
 
 // Whether a buffer in use is clean, or its log position is at most inserted.
 #[tactic(auto, unfolding(crate::specs::Buffers::low_test))]
-fn is_low(lent: &PoolView<'_>, w: u32, buffer: BufferNumber) -> bool
-    requires { (8 ≤ lent.now.control.size)
-        × (buffer.0 * lent.now.control.size + lent.now.control.size ≤ length lent.now.pool.now) }
-    ensures { result ≡ low_test lent.now.control lent.now.pool.now w buffer.0 }
+fn is_low(control: Control, pool: &[u8], w: u32, buffer: BufferNumber) -> bool
+    requires { (8 ≤ control.size) × (buffer.0 * control.size + control.size ≤ length pool.now) }
+    ensures { result ≡ low_test control pool.now w buffer.0 }
 {
-    !is_dirty(w) || page_position(lent.pool, lent.control.size, buffer) <= lent.control.inserted
+    !is_dirty(w) || page_position(pool, control.size, buffer) <= control.inserted
 }
 
 // The row of a file, by a guess that need not be right.
@@ -48,18 +47,19 @@ fn row_near(rows: SoundRows<'_>, guess: u8, file: FileName) -> Option<usize>
 // Whether a buffer's name names a block that its file has, and a look-up of it finds the buffer.
 #[tactic(auto, using(crate::proofs::BuffersLaws::held), unfolding(bufmodel::specs::Rows::files))]
 fn held_ok(
-    lent: &PoolView<'_>,
+    names: &[u32],
+    heads: &[i32],
+    chain: &[i32],
     tables: &Tables<'_>,
     mask: Option<u32>,
     buffer: BufferNumber,
 ) -> bool
-    requires { (0 < length lent.now.heads.now) × (length lent.now.heads.now ≤ max_buckets)
-        × (length lent.now.chain.now ≤ max_buffers)
-        × Masks (length lent.now.heads.now) mask
-        × (length lent.now.names.now ≡ name_words * length lent.now.chain.now) × (buffer.0 < length lent.now.chain.now) }
-    ensures { result ≡ held_test lent.now.names.now lent.now.heads.now lent.now.chain.now tables.now.rows.words.now buffer.0 }
+    requires { (0 < length heads.now) × (length heads.now ≤ max_buckets) × (length chain.now ≤ max_buffers)
+        × Masks (length heads.now) mask
+        × (length names.now ≡ name_words * length chain.now) × (buffer.0 < length chain.now) }
+    ensures { result ≡ held_test names.now heads.now chain.now tables.now.rows.words.now buffer.0 }
 {
-    let name = stored(lent.names, buffer);
+    let name = stored(names, buffer);
     let guess = tables.guesses[slot_of(name.file)];
     let Some(row) = row_near(tables.rows, guess, name.file) else {
         return false;
@@ -69,28 +69,37 @@ fn held_ok(
         return false;
     }
     let hash = hash_short(tables.hashes[row], name.block);
-    let b = bucket_by(hash, lent.heads.len() as u32, mask) as usize;
-    is_first(lent.chain, lent.names, lent.heads[b], buffer)
+    let b = bucket_by(hash, heads.len() as u32, mask) as usize;
+    is_first(chain, names, heads[b], buffer)
 }
 
 // Whether every buffer's page and name are sound.
 #[tactic(auto, using(crate::proofs::TurnsLaws::turns_all), unfolding(crate::specs::Buffers::buffer_test, bufmodel::specs::Books::empty_at))]
-pub fn buffers_ok(lent: &PoolView<'_>, tables: &Tables<'_>) -> bool
-    requires { (8 ≤ lent.now.control.size) × (0 < length lent.now.heads.now) × (length lent.now.heads.now ≤ max_buckets)
-        × (length lent.now.states.now ≤ max_buffers)
-        × (length lent.now.names.now ≡ name_words * length lent.now.states.now)
-        × (length lent.now.pool.now ≡ length lent.now.states.now * lent.now.control.size)
-        × (length lent.now.chain.now ≡ length lent.now.states.now)
-        × (lent.now.rows.now ≡ tables.now.rows.words.now) }
-    ensures { result ≡ all (length lent.now.states.now) (buffer_test (memory_of lent.now)) }
+pub fn buffers_ok(
+    control: Control,
+    states: &[u32],
+    names: &[u32],
+    pool: &[u8],
+    heads: &[i32],
+    chain: &[i32],
+    tables: &Tables<'_>,
+) -> bool
+    requires { (8 ≤ control.size) × (0 < length heads.now) × (length heads.now ≤ max_buckets) × (length states.now ≤ max_buffers)
+        × (length names.now ≡ name_words * length states.now) × (length pool.now ≡ length states.now * control.size)
+        × (length chain.now ≡ length states.now) }
+    ensures { result
+        ≡ all (length states.now)
+        (buffer_test
+        (memory control states.now names.now pool.now [] heads.now chain.now
+        tables.now.rows.words.now [])) }
 {
-    let mask = mask_of(lent.heads.len() as u32);
-    for (i, &w) in lent.states.iter().enumerate() {
+    let mask = mask_of(heads.len() as u32);
+    for (i, &w) in states.iter().enumerate() {
         let buffer = BufferNumber(i);
         let sound = if is_empty(w) {
-            holds(lent.names, buffer, no_name())
+            holds(names, buffer, no_name())
         } else {
-            is_low(lent, w, buffer) && held_ok(lent, tables, mask, buffer)
+            is_low(control, pool, w, buffer) && held_ok(names, heads, chain, tables, mask, buffer)
         };
         if !sound {
             return false;

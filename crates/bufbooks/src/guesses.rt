@@ -21,14 +21,14 @@ pub fn slot_of(file: FileName) -> usize
 
 // Of the files that share a slot, the last one has it.
 #[tactic(auto, using(crate::proofs::GuessesLaws::guesses_more), unfolding(bufmodel::specs::Rows::files, crate::specs::Guesses::guesses_of))]
-pub fn guess_rows(rows: &[u32], before: [u8; SLOTS]) -> [u8; SLOTS]
+pub fn guess_rows(rows: &[u32], guesses: &mut [u8; SLOTS])
     requires { files rows.now ≤ max_files }
-    ensures { result ≡ guesses_of rows.now (files rows.now) before }
+    ensures { guesses.new ≡ guesses_of rows.now (files rows.now) guesses.old }
 {
-    let mut guesses = before;
+    // as a slice, whose length a proof knows
+    let all = &mut guesses[..];
     let n = rows.len() / ROW_WORDS;
     for row in 0..n {
-        guesses[slot_of(file_at(rows, row))] = row as u8;
+        all[slot_of(file_at(rows, row))] = row as u8;
     }
-    guesses
 }

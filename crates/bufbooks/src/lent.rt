@@ -19,7 +19,17 @@ pub fn refusal(lent: &PoolView<'_>) -> Result<(), Refusal>
     if !sizes_ok(lent) {
         return Err(Refusal::Sizes);
     }
-    if !(books_ok(lent) && counts_ok(lent.states, lent.counts)) {
+    let books = books_ok(
+        lent.control,
+        lent.states,
+        lent.names,
+        lent.pool,
+        lent.free,
+        lent.heads,
+        lent.chain,
+        lent.rows,
+    );
+    if !(books && counts_ok(lent.states, lent.counts)) {
         return Err(Refusal::Books);
     }
     Ok(())

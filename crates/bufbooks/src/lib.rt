@@ -1,4 +1,5 @@
 // Whether lent memory may be used: its sizes first (1), then its books (2); and the control record read from its words.
+// What needs a part of the memory takes that part: of nine slices to look at, books_ok takes seven and buffers_ok five.
 
 #![tactic(auto)]
 

@@ -7,25 +7,29 @@ use crate::guesses::{SLOTS, guess_rows};
 use crate::hashes::hash_rows;
 use crate::sound_rows::{MAX_FILES, SoundRows};
 
-#[derive(Drop)]
+#[derive(Clone, Copy)]
 pub struct Tables<'a> {
     pub rows: SoundRows<'a>,
     // The hash of each row's file.
-    pub hashes: [u32; MAX_FILES],
+    pub hashes: &'a [u32; MAX_FILES],
     // Which row a file is likely to have, by its slot.
-    pub guesses: [u8; SLOTS],
-    pub ghost hashed: { Hashed rows.words.now hashes },
+    pub guesses: &'a [u8; SLOTS],
+    pub ghost hashed: { Hashed rows.words.now hashes.now },
 }
 
 #[tactic(auto, using(crate::proofs::SizesLaws::rows_few), unfolding(bufmodel::specs::Rows::files))]
-pub fn tables_of(rows: SoundRows<'_>) -> Tables<'_>
+pub fn tables_of<'a>(
+    rows: SoundRows<'a>,
+    hashes: &'a mut [u32; MAX_FILES],
+    guesses: &'a mut [u8; SLOTS],
+) -> Tables<'a>
     ensures { result.rows.words.now ≡ rows.entry.words.now }
 {
-    let mut hashes = [0; MAX_FILES];
-    hash_rows(rows, &mut hashes);
+    hash_rows(rows, hashes);
+    guess_rows(rows.words, guesses);
     Tables {
         rows,
         hashes,
-        guesses: guess_rows(rows.words, [0; SLOTS]),
+        guesses,
     }
 }

@@ -21,11 +21,11 @@ hash_short-hash-requires c =
 
 pub returns : goal.returns
 returns c =
-    let m = c.args.lent.now in
+    let a = c.args in
     let named = c.stored-name.ensures in
-    let t = c.args.tables.now in
-    let head = element-back m.heads.now c.bucket_by-b.result (search rules) in
-    let first = held-first m.names.now m.heads.now m.chain.now t.rows.words.now c.args.buffer.0 named c.in-Some.ensures
-    t.hashes t.hashed c.hash_short-hash.ensures c.bucket_by-b.ensures head c.is_first.ensures in
-    held-page m.names.now m.heads.now m.chain.now t.rows.words.now c.args.buffer.0 named c.in-Some.ensures
+    let t = a.tables.now in
+    let head = element-back a.heads.now c.bucket_by-b.result (search rules) in
+    let first = held-first a.names.now a.heads.now a.chain.now t.rows.words.now a.buffer.0 named c.in-Some.ensures
+    t.hashes.now t.hashed c.hash_short-hash.ensures c.bucket_by-b.ensures head c.is_first.ensures in
+    held-page a.names.now a.heads.now a.chain.now t.rows.words.now a.buffer.0 named c.in-Some.ensures
     (sym c.has_block.ensures ∙ c.if-not-has_block.false) first

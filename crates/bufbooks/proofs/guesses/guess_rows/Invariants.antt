@@ -4,4 +4,4 @@ use Rattle.bufbooks.specs.Guesses.{guesses_of}
 use Rattle.bufbooks.proofs.guesses.guess_rows.Given as goal
 
 abbrev pub invariant-loop-row : goal.invariant-loop-row
-invariant-loop-row l = (length l.guesses ≡ 256) × (l.guesses ≡ guesses_of l.rows l.row l.fn.before)
+invariant-loop-row l = (length l.all ≡ 256) × (l.all ≡ guesses_of l.rows l.row l.initial.all)
