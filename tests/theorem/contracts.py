@@ -70,7 +70,7 @@ FUNCTIONS = {
         'fn take_piece': 's: Reader, %s, bytes: &[u8]) -> Piece requires { Ready s states.old held.old place.old } ' % LENT
         + 'ensures { Ready result.reader %s place.new } ' % AFTER
         + 'ensures { scan_of result.reader %s ≡ feds (scan_of s %s) bytes.now } ' % (AFTER, BEFORE)
-        + 'ensures { result.more ≡ (not (eqb (length bytes.now) 0) && is_none result.reader.bad) }',
+        + 'ensures { result.more ≡ (not (eqb (length bytes.now) 0) && eqb result.reader.bad 0) }',
         'fn sum_up': 't: Reader, %s, out: &mut [u8; 64]) -> usize requires { Ready t states.old held.old place.old } ' % LENT
         + 'ensures { IsPrefixLen result out.new } '
         + 'ensures { take result out.new ≡ printed (finished (scan_of t %s)) }' % BEFORE,
@@ -94,7 +94,7 @@ FROM = {
     'bufcost': {
         **dict.fromkeys(('Ready', 'scan_of', 'feds', 'finished'), SCAN),
         **dict.fromkeys(('Wrote', 'printed'), REPORT),
-        **dict.fromkeys(('take', 'length', 'eqb', 'not', 'is_none'), PRELUDE),
+        **dict.fromkeys(('take', 'length', 'eqb', 'not'), PRELUDE),
     },
 }
 GHOST = re.compile(r'^ghost use (\S+)\.\{(.*?)\};', re.M | re.S)

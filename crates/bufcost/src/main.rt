@@ -2,7 +2,7 @@
 
 #![tactic(auto)]
 
-ghost use Rattle.std.specs.Prelude.{◌≡◌, not, ◌&&◌, length, take, eqb, is_none};
+ghost use Rattle.std.specs.Prelude.{◌≡◌, not, ◌&&◌, length, take, eqb};
 ghost use Rattle.io.specs.Counts.{IsPrefixLen};
 ghost use Rattle.buftrace.specs.Scan.{Ready, Fed, scan_of, feds, finished};
 ghost use Rattle.buftrace.specs.Report.{Wrote, printed};
@@ -31,12 +31,12 @@ fn take_piece(
     ensures ready { Ready result.reader states.new held.new place.new }
     ensures held_after { scan_of result.reader states.new held.new
         ≡ feds (scan_of s states.old held.old) bytes.now }
-    ensures more_value { result.more ≡ (not (eqb (length bytes.now) 0) && is_none result.reader.bad) }
+    ensures more_value { result.more ≡ (not (eqb (length bytes.now) 0) && eqb result.reader.bad 0) }
 {
     let reader = feed(s, states, held, place, bytes);
     Piece {
         reader,
-        more: !bytes.is_empty() && reader.bad.is_none(),
+        more: !bytes.is_empty() && reader.bad == 0,
     }
 }
 

@@ -2,13 +2,13 @@
 use Prim.Native.Nat.{ℕ, zero, suc, ◌+◌, ◌-◌, ◌*◌, ◌≤◌, ◌<◌}
 use native.Mathlib.Omega.{arith}
 use mathlib.Core.Path.{◌≡◌, refl, sym, ap, ◌∙◌}
-use mathlib.Core.Logic.{◌≢◌}
-use mathlib.Core.Bool.{true, false, ◌&&◌}
+use mathlib.Core.Logic.{◌≢◌, ◌⊎◌, inl, inr}
+use mathlib.Core.Bool.{true, false, ◌&&◌, ◌||◌}
 use mathlib.Core.List.{List, [], ◌∷◌}
 use lib.ListN.{length, get_or, drop}
-use lib.Dec.{leb}
-use borrow.Author.Tests.{leb-true, eq-eqb, ne_eqb, le-leb, lt-leb, lt-ltb, le-ltb}
-use Rattle.laws.proofs.Tests.{and_left}
+use lib.Dec.{leb, ltb}
+use borrow.Author.Tests.{leb-true, ltb-true, ltb-false, eq-eqb, ne_eqb, le-leb, lt-leb, lt-ltb, le-ltb}
+use Rattle.laws.proofs.Tests.{and_left, or-neither, true-or-false}
 use Rattle.bufmodel.specs.Sizes.{max_blocks}
 use Rattle.buftrace.specs.Input.{newline, is_digit}
 use Rattle.buftrace.specs.Scan.{
@@ -38,6 +38,20 @@ digit-least b e = leb-true 48 b (and_left (leb 48 b) (leb b 57) e)
 pub digit-test : (b : ℕ) → is_digit b ≡ (leb 48 b && leb b 57)
 unfolding is_digit
 digit-test b = refl
+
+pub digit-none : (b : ℕ) → (ltb b 48 || ltb 57 b) ≡ true → is_digit b ≡ false
+unfolding is_digit
+digit-none b o = go (true-or-false (ltb b 48))
+  where
+    go : (ltb b 48 ≡ true) ⊎ (ltb b 48 ≡ false) → (leb 48 b && leb b 57) ≡ false
+    go (inl l) = rw (lt-leb 48 b (ltb-true b 48 l)) refl
+    go (inr l) = rw (le-leb 48 b (ltb-false b 48 l), lt-leb b 57 (ltb-true 57 b (rw (l) at o))) refl
+
+pub digit-some : (b : ℕ) → (ltb b 48 || ltb 57 b) ≡ false → is_digit b ≡ true
+unfolding is_digit
+digit-some b o =
+    let n = or-neither (ltb b 48) (ltb 57 b) o in
+    rw (le-leb 48 b (ltb-false b 48 n.0), le-leb b 57 (ltb-false 57 b n.1)) refl
 
 module _ (s : Scan) (b : ℕ) where
   pub stepped-past : s.line ≡ max_lines → stepped s b ≡ spoilt s
@@ -145,3 +159,9 @@ module _ (s : Scan) where
   pub finished-late : s.bad ≢ 0 → finished s ≡ s
   unfolding finished
   finished-late n = ap closed (last-late n) ∙ closed-late n
+
+  pub finished-whole : s.bad ≡ 0 → s.digits ≡ false → finished s ≡ closed s
+  finished-whole e d = finished-is ∙ ap closed (last-whole e d)
+
+  pub finished_open : s.bad ≡ 0 → s.digits ≡ true → finished s ≡ closed (ended s)
+  finished_open e d = finished-is ∙ ap closed (last-open e d)

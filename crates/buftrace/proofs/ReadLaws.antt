@@ -73,7 +73,6 @@ new-ready =
       none = λ e. refl;
       some = λ l. absurd (omega (arith, l));
       uses = omega arith;
-      told = λ e. never e refl;
     }
 
 pub fed-from : (r : Reader) (states held : List ℕ) {t : Scan} → r ≡ new_reader → Fed (scan_of r states held) t → Fed start t

@@ -2,11 +2,12 @@
 use Prim.Native.Nat.{ℕ, suc, ◌+◌, ◌-◌, ◌*◌, ◌≤◌, ◌<◌}
 use native.Mathlib.Omega.{arith}
 use mathlib.Core.Path.{◌≡◌, refl, sym, ap, ◌∙◌}
-use mathlib.Core.Logic.{◌≢◌}
-use mathlib.Core.Bool.{true, false}
+use mathlib.Core.Logic.{◌≢◌, ◌⊎◌, inl, inr}
+use mathlib.Core.Bool.{Bool, true, false, ◌&&◌, ◌||◌}
 use mathlib.Core.List.{List}
-use Rattle.std.specs.Prelude.{Option, Some, None, is_some, unwrap_or}
-use Rattle.laws.proofs.Tests.{never}
+use lib.Dec.{eqb, ltb}
+use borrow.Author.Tests.{eq-eqb, ne_eqb, ltb-true, ltb-false}
+use Rattle.laws.proofs.Tests.{or-neither, true-or-false, never}
 use Rattle.bufmodel.specs.Sizes.{max_buffers, max_blocks}
 use Rattle.buftrace.specs.declared.trace.Tally.{Tally}
 use Rattle.buftrace.specs.declared.scan.Reader.{Reader}
@@ -15,7 +16,6 @@ use Rattle.buftrace.specs.Scan.{
   Scan,
   Ready,
   Becomes,
-  onward,
   max_lines,
   spoilt_reader,
   broken_reader,
@@ -24,23 +24,10 @@ use Rattle.buftrace.specs.Scan.{
   spoilt,
   ended,
   digit,
-  last_line,
   closed,
   broken,
 }
-use Rattle.buftrace.proofs.FeedLaws.{
-  one_more_is,
-  digit-grown,
-  digit-great,
-  closed-short,
-  closed-long,
-  closed-late,
-  last-late,
-  last-whole,
-  last-open,
-  broken-good,
-  broken-late,
-}
+use Rattle.buftrace.proofs.FeedLaws.{one_more_is, digit-grown, digit-great}
 use Rattle.buftrace.proofs.EndLaws.{
   ended-none,
   ended-buffers,
@@ -51,9 +38,8 @@ use Rattle.buftrace.proofs.EndLaws.{
   ended-outside,
 }
 
-pub none-zero : (o : Option ℕ) → is_some o ≡ false → unwrap_or o 0 ≡ 0
-none-zero None e = refl
-none-zero (Some v) e = never refl e
+or-second : {a b : Bool} → a ≡ false → (a || b) ≡ true → b ≡ true
+or-second {a} {b} e o = rw (e) at o
 
 -- a pool of more buffers, before any is used
 fit-more : (n : ℕ) (c : Tally) (states held place : List ℕ) → n ≤ max_buffers → Fit 0 c states held place → Fit n c states held place
@@ -79,9 +65,8 @@ module _ (s : Reader) where
       → blocks ≤ max_blocks
       → 0 < buffers
       → many c.totals ≤ s.line + 1 - 2
-      → (is_some s.bad ≡ true → 0 < unwrap_or s.bad 0)
       → Ready (onward_reader s buffers blocks c) states held place
-  onward-ready buffers blocks c states held place l f u n m t =
+  onward-ready buffers blocks c states held place l f u n m =
       record {
         fit = f;
         line = omega (arith, l);
@@ -91,7 +76,6 @@ module _ (s : Reader) where
         none = λ e. absurd (omega (arith, e));
         some = λ e. n;
         uses = m;
-        told = t;
       }
 
   -- with another bad line, and with another line
@@ -99,8 +83,8 @@ module _ (s : Reader) where
   marked bad states held =
       record {
         line = s.line;
-        digits = is_some s.value;
-        value = unwrap_or s.value 0;
+        digits = s.digits;
+        value = s.value;
         buffers = s.buffers;
         blocks = s.blocks;
         bad = bad;
@@ -115,7 +99,7 @@ module _ (s : Reader) where
         value = 0;
         buffers = buffers;
         blocks = blocks;
-        bad = unwrap_or s.bad 0;
+        bad = s.bad;
         trace = trace_of c states held;
       }
 
@@ -137,7 +121,6 @@ module _ (s : Reader) where
                 none = k.none;
                 some = k.some;
                 uses = k.uses;
-                told = λ e. omega arith;
               },
             );
       }
@@ -159,81 +142,78 @@ module _ (s : Reader) where
   becomes-is e b = rw (e) b
 
   -- nothing changes
-  stays : {f : Scan → Scan}
-      → ((states held place : List ℕ) → Ready s states held place → f (scan_of s states held) ≡ scan_of s states held)
-      → Becomes f s s
-  stays same = record { each = λ states held place k. (sym (same states held place k), k) }
+  stays : {f : Scan → Scan} → ((states held : List ℕ) → f (scan_of s states held) ≡ scan_of s states held) → Becomes f s s
+  stays same = record { each = λ states held place k. (sym (same states held), k) }
 
   -- ---- a line ends
-  pub none-becomes : {r : Reader} → s.value ≡ None → Becomes spoilt s r → Becomes ended s r
-  none-becomes e = becomes-as (λ states held place k. ended-none (scan_of s states held) (ap is_some e))
+  pub none-becomes : {r : Reader} → s.digits ≡ false → Becomes spoilt s r → Becomes ended s r
+  none-becomes d = becomes-as (λ states held place k. ended-none (scan_of s states held) d)
 
-  pub stays-ended : {r : Reader} → ((states held : List ℕ) → ended (scan_of s states held) ≡ spoilt (scan_of s states held))
+  pub under-becomes : {r : Reader} → s.line ≡ 0 → s.digits ≡ true → s.value < 1 → Becomes spoilt s r → Becomes ended s r
+  under-becomes e d l = becomes-as (λ states held place k. ended-under (scan_of s states held) e d l)
+
+  pub over-becomes : {r : Reader} → s.line ≡ 0 → s.digits ≡ true → max_buffers < s.value → Becomes spoilt s r → Becomes ended s r
+  over-becomes e d l = becomes-as (λ states held place k. ended-over (scan_of s states held) e d l)
+
+  pub head-becomes : {r : Reader} → s.line ≡ 0 → s.digits ≡ true → (ltb s.value 1 || ltb max_buffers s.value) ≡ true
       → Becomes spoilt s r
       → Becomes ended s r
-  stays-ended same = becomes-as (λ states held place k. same states held)
+  head-becomes {r} e d o b = go (true-or-false (ltb s.value 1))
+    where
+      go : (ltb s.value 1 ≡ true) ⊎ (ltb s.value 1 ≡ false) → Becomes ended s r
+      go (inl l) = under-becomes e d (ltb-true s.value 1 l) b
+      go (inr l) = over-becomes e d (ltb-true max_buffers s.value (or-second l o)) b
 
-  module _ (v : ℕ) (h : s.value ≡ Some v) where
-    has : is_some s.value ≡ true
-    has = ap is_some h
+  pub outside-becomes : {r : Reader} → 1 < s.line → s.digits ≡ true → s.blocks ≤ s.value → Becomes spoilt s r → Becomes ended s r
+  outside-becomes l d u = becomes-as (λ states held place k. ended-outside (scan_of s states held) l d u)
 
-    value-is : unwrap_or s.value 0 ≡ v
-    value-is = ap (λ o. unwrap_or o 0) h
+  pub buffers-becomes : s.line ≡ 0 → s.digits ≡ true → (ltb s.value 1 || ltb max_buffers s.value) ≡ false
+      → Becomes ended s (onward_reader s s.value s.blocks s.tally)
+  buffers-becomes e d o =
+      let l = ltb-false s.value 1 (or-neither (ltb s.value 1) (ltb max_buffers s.value) o).0 in
+      let u = ltb-false max_buffers s.value (or-neither (ltb s.value 1) (ltb max_buffers s.value) o).1 in
+      record {
+        each =
+            λ states held place k. (
+              ap (begins s.value s.blocks s.tally states held) (one_more_is s.line)
+                  ∙ sym (ended-buffers (scan_of s states held) e d l u),
+              onward-ready s.value s.blocks s.tally states held place (omega (arith, e))
+                  (fit-more s.value s.tally states held place u
+                  (rw (k.none e) at k.fit))
+                  k.blocks l (omega (arith, k.uses, e)),
+            );
+      }
 
-    pub under-becomes : {r : Reader} → s.line ≡ 0 → v < 1 → Becomes spoilt s r → Becomes ended s r
-    under-becomes e l = stays-ended (λ states held. ended-under (scan_of s states held) e has (omega (arith, value-is, l)))
-
-    pub over-becomes : {r : Reader} → s.line ≡ 0 → max_buffers < v → Becomes spoilt s r → Becomes ended s r
-    over-becomes e l = stays-ended (λ states held. ended-over (scan_of s states held) e has (omega (arith, value-is, l)))
-
-    pub outside-becomes : {r : Reader} → 1 < s.line → s.blocks ≤ v → Becomes spoilt s r → Becomes ended s r
-    outside-becomes l u = stays-ended (λ states held. ended-outside (scan_of s states held) l has (omega (arith, value-is, u)))
-
-    pub buffers-becomes : s.line ≡ 0 → 1 ≤ v → v ≤ max_buffers → Becomes ended s (onward_reader s v s.blocks s.tally)
-    buffers-becomes e l u =
-        record {
-          each =
-              λ states held place k. (
-                ap (begins v s.blocks s.tally states held) (one_more_is s.line)
-                    ∙ ap (λ n. onward (scan_of s states held) n s.blocks (trace_of s.tally states held)) (sym value-is)
-                    ∙ sym (ended-buffers (scan_of s states held) e has (omega (arith, value-is, l)) (omega (arith, value-is, u))),
-                onward-ready v s.blocks s.tally states held place (omega (arith, e))
-                    (fit-more v s.tally states held place u
-                    (rw (k.none e) at k.fit))
-                    k.blocks l (omega (arith, k.uses, e)) k.told,
-              );
-        }
-
-    pub blocks-becomes : s.line ≡ 1 → Becomes ended s (onward_reader s s.buffers v s.tally)
-    blocks-becomes e =
-        record {
-          each =
-              λ states held place k. (
-                ap (begins s.buffers v s.tally states held) (one_more_is s.line)
-                    ∙ ap (λ n. onward (scan_of s states held) s.buffers n (trace_of s.tally states held)) (sym value-is)
-                    ∙ sym (ended-blocks (scan_of s states held) e has k.value),
-                onward-ready s.buffers v s.tally states held place (omega (arith, e)) k.fit (omega (arith, k.value, value-is))
-                    (k.some (omega (arith, e))) (omega (arith, k.uses, e)) k.told,
-              );
-        }
+  pub blocks-becomes : s.line ≡ 1 → s.digits ≡ true → Becomes ended s (onward_reader s s.buffers s.value s.tally)
+  blocks-becomes e d =
+      record {
+        each =
+            λ states held place k. (
+              ap (begins s.buffers s.value s.tally states held) (one_more_is s.line)
+                  ∙ sym (ended-blocks (scan_of s states held) e d k.value),
+              onward-ready s.buffers s.value s.tally states held place (omega (arith, e)) k.fit k.value
+                  (k.some (omega (arith, e))) (omega (arith, k.uses, e)),
+            );
+      }
 
   -- ---- a digit more
-  pub digit-becomes : (b x d : ℕ) → x ≡ unwrap_or s.value 0 → d ≡ b - 48 → s.line < max_lines → x * 10 + d ≤ max_blocks
+  pub digit-becomes : (b d : ℕ) → d ≡ b → s.line < max_lines → s.value * 10 + (d - 48) ≤ max_blocks
       → Becomes (λ s. digit s b) s
       (record {
         line = s.line;
-        value = Some (x * 10 + d);
+        digits = true;
+        value = s.value * 10 + (d - 48);
         buffers = s.buffers;
         blocks = s.blocks;
         bad = s.bad;
         tally = s.tally;
       })
   unfolding digit
-  digit-becomes b x d q e l u =
+  digit-becomes b d e l u =
       record {
         each =
             λ states held place k. (
-              rw (q, e) (sym (digit-grown (scan_of s states held) b (rw (q, e) at u))),
+              rw (e) (sym (digit-grown (scan_of s states held) b (rw (e) at u))),
               record {
                 fit = k.fit;
                 line = k.line;
@@ -243,80 +223,85 @@ module _ (s : Reader) where
                 none = k.none;
                 some = k.some;
                 uses = k.uses;
-                told = k.told;
               },
             );
       }
 
-  pub digit-spoils : {r : Reader} (b x d : ℕ) → x ≡ unwrap_or s.value 0 → d ≡ b - 48 → max_blocks < x * 10 + d → Becomes spoilt s r
+  pub digit-spoils : {r : Reader} (b d : ℕ) → d ≡ b → max_blocks < s.value * 10 + (d - 48) → Becomes spoilt s r
       → Becomes (λ s. digit s b) s r
-  digit-spoils b x d q e u = becomes-as (λ states held place k. digit-great (scan_of s states held) b (rw (q, e) at u))
+  digit-spoils b d e u = becomes-as (λ states held place k. digit-great (scan_of s states held) b (rw (e) at u))
 
   -- ---- the end of the input, and a read that fails
-  -- no line is bad, or one is
-  module _ (e : is_some s.bad ≡ false) where
-    pub good-is : unwrap_or s.bad 0 ≡ 0
-    good-is = none-zero s.bad e
+  closed-bad : (states held : List ℕ) → (eqb s.bad 0 && ltb s.line 2) ≡ true
+      → closed (scan_of s states held) ≡ spoilt (scan_of s states held)
+  unfolding closed
+  closed-bad states held e = rw (e) refl
 
-    pub last-whole-becomes : is_some s.value ≡ false → Becomes last_line s s
-    last-whole-becomes d = stays (λ states held place k. last-whole (scan_of s states held) good-is d)
+  closed-kept : (states held : List ℕ) → (eqb s.bad 0 && ltb s.line 2) ≡ false → closed (scan_of s states held) ≡ scan_of s states held
+  unfolding closed
+  closed-kept states held e = rw (e) refl
 
-    pub last-open-is : (states held : List ℕ) → is_some s.value ≡ true → last_line (scan_of s states held) ≡ ended (scan_of s states held)
-    last-open-is states held d = last-open (scan_of s states held) good-is d
+  pub closed-spoils : {r : Reader} → (eqb s.bad 0 && ltb s.line 2) ≡ true → Becomes spoilt s r → Becomes closed s r
+  closed-spoils e = becomes-as (λ states held place k. closed-bad states held e)
 
-    pub closed-spoils : {r : Reader} → s.line < 2 → Becomes spoilt s r → Becomes closed s r
-    closed-spoils l = becomes-as (λ states held place k. closed-short (scan_of s states held) good-is l)
+  pub closed-stays : (eqb s.bad 0 && ltb s.line 2) ≡ false → Becomes closed s s
+  closed-stays e = stays (λ states held. closed-kept states held e)
 
-    pub closed-stays : 2 ≤ s.line → Becomes closed s s
-    closed-stays l = stays (λ states held place k. closed-long (scan_of s states held) good-is l)
+  broken-bad : (states held : List ℕ) → s.bad ≡ 0 → broken (scan_of s states held) ≡ spoilt (scan_of s states held)
+  unfolding broken
+  broken-bad states held e = rw (eq-eqb s.bad 0 e) refl
 
-    pub broken-first : broken_reader s ≡ spoilt_reader s
-    unfolding broken_reader
-    broken-first = rw (e) refl
+  broken-late : (states held : List ℕ) → s.bad ≢ 0 → broken (scan_of s states held) ≡ scan_of s states held
+  unfolding broken
+  broken-late states held n = rw (ne_eqb s.bad 0 n) refl
 
-    pub broken-spoils : {r : Reader} → Becomes spoilt s r → Becomes broken s r
-    broken-spoils = becomes-as (λ states held place k. broken-good (scan_of s states held) good-is)
+  pub broken-first : s.bad ≡ 0 → broken_reader s ≡ spoilt_reader s
+  unfolding broken_reader
+  broken-first e = rw (eq-eqb s.bad 0 e) refl
 
-  module _ (e : is_some s.bad ≡ true) where
-    pub bad-is : {states held place : List ℕ} → Ready s states held place → unwrap_or s.bad 0 ≢ 0
-    bad-is k z = omega (arith, k.told e, z)
+  pub broken-kept : s.bad ≢ 0 → broken_reader s ≡ s
+  unfolding broken_reader
+  broken-kept n = rw (ne_eqb s.bad 0 n) refl
 
-    pub last-was : Becomes last_line s s
-    last-was = stays (λ states held place k. last-late (scan_of s states held) (bad-is k))
+  pub broken-spoils : {r : Reader} → s.bad ≡ 0 → Becomes spoilt s r → Becomes broken s r
+  broken-spoils e = becomes-as (λ states held place k. broken-bad states held e)
 
-    pub closed-was : Becomes closed s s
-    closed-was = stays (λ states held place k. closed-late (scan_of s states held) (bad-is k))
-
-    pub broken-kept : broken_reader s ≡ s
-    unfolding broken_reader
-    broken-kept = rw (e) refl
-
-    pub broken-was : Becomes broken s s
-    broken-was = stays (λ states held place k. broken-late (scan_of s states held) (bad-is k))
+  pub broken-was : s.bad ≢ 0 → Becomes broken s s
+  broken-was n = stays (λ states held. broken-late states held n)
 
   -- ---- a block is used, and the slices have changed
-  module _ (v : ℕ) (h : s.value ≡ Some v) where
-    used-next : (c : Tally) (states held states₁ held₁ : List ℕ) → 1 < s.line → v < s.blocks
-        → trace_of c states₁ held₁ ≡ use1 s.buffers (trace_of s.tally states held) v
-        → scan_of (onward_reader s s.buffers s.blocks c) states₁ held₁ ≡ ended (scan_of s states held)
-    used-next c states held states₁ held₁ l u e =
-        ap (begins s.buffers s.blocks c states₁ held₁) (one_more_is s.line)
-        ∙ ap (onward (scan_of s states held) s.buffers s.blocks)
-        (e ∙ ap (use1 s.buffers (trace_of s.tally states held)) (sym (value-is v h)))
-        ∙ sym (ended-use (scan_of s states held) l (has v h) (omega (arith, value-is v h, u)))
+  used-next : (c : Tally) (states held states₁ held₁ : List ℕ) → 1 < s.line → s.digits ≡ true → s.value < s.blocks
+      → trace_of c states₁ held₁ ≡ use1 s.buffers (trace_of s.tally states held) s.value
+      → scan_of (onward_reader s s.buffers s.blocks c) states₁ held₁ ≡ ended (scan_of s states held)
+  used-next c states held states₁ held₁ l d u e =
+      ap (begins s.buffers s.blocks c states₁ held₁) (one_more_is s.line)
+      ∙ ap
+      (λ t.
+      record {
+        line = suc s.line;
+        digits = false;
+        value = 0;
+        buffers = s.buffers;
+        blocks = s.blocks;
+        bad = s.bad;
+        trace = t;
+      })
+      e
+      ∙ sym (ended-use (scan_of s states held) l d u)
 
-    pub used-ready : (c : Tally) (states held place states₁ held₁ place₁ : List ℕ) (r : Reader) → Ready s states held place
-        → s.line < max_lines
-        → 1 < s.line
-        → v < s.blocks
-        → trace_of c states₁ held₁ ≡ use1 s.buffers (trace_of s.tally states held) v
-        → Fit s.buffers c states₁ held₁ place₁
-        → many c.totals ≡ suc (many s.tally.totals)
-        → r ≡ onward_reader s s.buffers s.blocks c
-        → (scan_of r states₁ held₁ ≡ ended (scan_of s states held)) × Ready r states₁ held₁ place₁
-    used-ready c states held place states₁ held₁ place₁ r k m l u e f n i = (
-      ap (λ r. scan_of r states₁ held₁) i ∙ used-next c states held states₁ held₁ l u e,
-      rw (i)
-          (onward-ready s.buffers s.blocks c states₁ held₁ place₁ m f k.blocks (k.some (omega (arith, l)))
-          (omega (arith, n, k.uses, l)) k.told),
-    )
+  pub used-ready : (c : Tally) (states held place states₁ held₁ place₁ : List ℕ) (r : Reader) → Ready s states held place
+      → s.line < max_lines
+      → 1 < s.line
+      → s.digits ≡ true
+      → s.value < s.blocks
+      → trace_of c states₁ held₁ ≡ use1 s.buffers (trace_of s.tally states held) s.value
+      → Fit s.buffers c states₁ held₁ place₁
+      → many c.totals ≡ suc (many s.tally.totals)
+      → r ≡ onward_reader s s.buffers s.blocks c
+      → (scan_of r states₁ held₁ ≡ ended (scan_of s states held)) × Ready r states₁ held₁ place₁
+  used-ready c states held place states₁ held₁ place₁ r k m l d u e f n i = (
+    ap (λ r. scan_of r states₁ held₁) i ∙ used-next c states held states₁ held₁ l d u e,
+    rw (i)
+        (onward-ready s.buffers s.blocks c states₁ held₁ place₁ m f k.blocks (k.some (omega (arith, l)))
+        (omega (arith, n, k.uses, l))),
+  )

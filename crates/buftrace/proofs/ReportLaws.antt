@@ -2,20 +2,16 @@
 use Prim.Native.Nat.{ℕ, ◌≤◌, ◌<◌}
 use native.Mathlib.Omega.{arith}
 use mathlib.Core.Path.{◌≡◌, refl, sym, ap, ◌∙◌}
-use mathlib.Core.Bool.{cond}
 use mathlib.Core.List.{List}
-use lib.Dec.{eqb}
 use borrow.Author.Tests.{ne_eqb}
-use Rattle.std.specs.Prelude.{Option, Some, None, IsSome, unwrap_or}
 use Rattle.laws.specs.Times.{times}
 use Rattle.bufmodel.specs.Sizes.{block_sizes, max_buffers, max_blocks}
-use Rattle.buftrace.specs.declared.usage.Totals.{Totals}
 use Rattle.buftrace.specs.declared.scan.Reader.{Reader}
 use Rattle.buftrace.specs.Input.{Given, lines_of, parse}
 use Rattle.buftrace.specs.Usage.{Below, used_on}
 use Rattle.buftrace.specs.Trace.{unused, uses, trace_of}
-use Rattle.buftrace.specs.Scan.{Scan, Ready, start, feds, fed_pieces, together, finished, scan_of, Fed}
-use Rattle.buftrace.specs.Report.{totals_line, bad_line, reported, report, printed, line_for, printed_of, Wrote, Served, served-bad, served-given}
+use Rattle.buftrace.specs.Scan.{Scan, start, feds, fed_pieces, together, finished, scan_of, Fed}
+use Rattle.buftrace.specs.Report.{totals_line, bad_line, reported, report, printed, printed_of, Wrote, Served, served-bad, served-given}
 use Rattle.buftrace.proofs.UsageLaws.{Fresh, set-up-done, trace-is, served}
 use Rattle.buftrace.proofs.ScanLaws.{Tells, tells-bad, tells-given, pieces_are, input-is}
 
@@ -46,14 +42,9 @@ reported-is g s (tells-bad {k} l e) = printed-bad s k l e
 reported-is g s (tells-given {n} {blocks} {bs} e t l m b below) =
     printed-given s e ∙ ap (λ u. totals_line u.totals) t ∙ ap totals_line (sym (used-is n blocks bs l m b below))
 
-printed-as : (bad : Option ℕ) (totals : Totals) → (IsSome bad → 0 < unwrap_or bad 0)
-    → cond (eqb (unwrap_or bad 0) 0) (totals_line totals) (bad_line (unwrap_or bad 0)) ≡ line_for bad totals
-printed-as None totals told = refl
-printed-as (Some k) totals told = let l = told refl in rw (ne_eqb k 0 (λ z. absurd (omega (arith, z, l)))) refl
-
-pub printed-of : {r : Reader} {states held place : List ℕ} → Ready r states held place → printed (scan_of r states held) ≡ printed_of r
+pub printed-of : (r : Reader) (states held : List ℕ) → printed (scan_of r states held) ≡ printed_of r
 unfolding printed printed_of trace_of
-printed-of {r} k = printed-as r.bad r.tally.totals k.told
+printed-of r states held = refl
 
 pub costs : (input : List ℕ) → printed (finished (feds start input)) ≡ report input
 unfolding report

@@ -1,5 +1,5 @@
 -- The printed line.
-use Rattle.std.specs.Prelude.{ℕ, zero, suc, ◌+◌, ◌/◌, ◌%◌, ◌≡◌, true, cond, List, [], ◌∷◌, ◌++◌, eqb, ltb, Option, Some, None}
+use Rattle.std.specs.Prelude.{ℕ, zero, suc, ◌+◌, ◌/◌, ◌%◌, ◌≡◌, true, cond, List, [], ◌∷◌, ◌++◌, eqb, ltb}
 use Rattle.buftrace.specs.declared.usage.Totals.{Totals}
 use Rattle.buftrace.specs.declared.scan.Reader.{Reader}
 use Rattle.buftrace.specs.Input.{Given, given, bad, newline, lines_of, parse}
@@ -50,12 +50,10 @@ printed s =
     cond (eqb s.bad 0) totals (bad_line s.bad)
 
 -- the same of what the code keeps, which lent slices do not change
-abbrev pub line_for : Option ℕ → Totals → List ℕ
-line_for None totals = totals_line totals
-line_for (Some k) totals = bad_line k
-
 unfoldable pub printed_of : Reader → List ℕ
-printed_of r = line_for r.bad r.tally.totals
+printed_of r =
+    let totals = totals_line r.tally.totals in
+    cond (eqb r.bad 0) totals (bad_line r.bad)
 
 -- ---- what the program writes: the line of some input. Which one was read, no contract can say
 pub record Wrote (line : List ℕ) : Type 0 where

@@ -1,5 +1,5 @@
 -- The input byte by byte, and what is used at the end of each line: what the program keeps between two pieces of it.
-use Rattle.std.specs.Prelude.{ℕ, zero, suc, ◌+◌, ◌-◌, ◌*◌, ◌≤◌, ◌<◌, ◌≡◌, Bool, true, false, ◌&&◌, cond, List, [], ◌∷◌, ◌++◌, eqb, leb, ltb, Some, None, is_some, unwrap_or, IsSome}
+use Rattle.std.specs.Prelude.{ℕ, zero, suc, ◌+◌, ◌-◌, ◌*◌, ◌≤◌, ◌<◌, ◌≡◌, Bool, true, false, ◌&&◌, cond, List, [], ◌∷◌, ◌++◌, eqb, leb, ltb}
 use Rattle.laws.specs.First.{Found, found, missing}
 use Rattle.bufmodel.specs.Sizes.{max_buffers, max_blocks}
 use Rattle.buftrace.specs.declared.trace.Tally.{Tally}
@@ -131,11 +131,11 @@ abbrev pub scan_of : Reader → List ℕ → List ℕ → Scan
 scan_of r states held =
     record {
       line = r.line;
-      digits = is_some r.value;
-      value = unwrap_or r.value 0;
+      digits = r.digits;
+      value = r.value;
       buffers = r.buffers;
       blocks = r.blocks;
-      bad = unwrap_or r.bad 0;
+      bad = r.bad;
       trace = trace_of r.tally states held;
     }
 
@@ -144,10 +144,11 @@ abbrev pub new_reader : Reader
 new_reader =
     record {
       line = 0;
-      value = None;
+      digits = false;
+      value = 0;
       buffers = 0;
       blocks = 0;
-      bad = None;
+      bad = 0;
       tally = record { used = 0; hand = 0; totals = none_yet };
     }
 
@@ -156,28 +157,27 @@ abbrev pub spoilt_reader : Reader → Reader
 spoilt_reader r =
     record {
       line = r.line;
+      digits = r.digits;
       value = r.value;
       buffers = r.buffers;
       blocks = r.blocks;
-      bad = Some (r.line + 1);
+      bad = r.line + 1;
       tally = r.tally;
     }
 
 unfoldable pub broken_reader : Reader → Reader
-broken_reader r = cond (is_some r.bad) r (spoilt_reader r)
+broken_reader r = cond (eqb r.bad 0) (spoilt_reader r) r
 
 -- what a piece of the input asks of the reader and lent slices, and leaves
 pub record Ready (r : Reader) (states held place : List ℕ) : Type 0 where
   pub fit : Fit r.buffers r.tally states held place
   pub line : r.line ≤ max_lines
-  pub begun : IsSome r.value → r.line < max_lines
-  pub value : unwrap_or r.value 0 ≤ max_blocks
+  pub begun : r.digits ≡ true → r.line < max_lines
+  pub value : r.value ≤ max_blocks
   pub blocks : r.blocks ≤ max_blocks
   pub none : r.line ≡ 0 → r.buffers ≡ 0
   pub some : 0 < r.line → 0 < r.buffers
   pub uses : many r.tally.totals ≤ r.line - 2
-  -- there is no line 0
-  pub told : IsSome r.bad → 0 < unwrap_or r.bad 0
 
 -- the reader becomes r, whatever is lent beside it and stays as it is
 pub record Becomes (f : Scan → Scan) (s r : Reader) : Type 0 where
@@ -187,7 +187,7 @@ pub record Becomes (f : Scan → Scan) (s r : Reader) : Type 0 where
 -- a line ends, and this is known after it
 abbrev pub onward_reader : Reader → ℕ → ℕ → Tally → Reader
 onward_reader s buffers blocks tally =
-    record { line = s.line + 1; value = None; buffers = buffers; blocks = blocks; bad = s.bad; tally = tally }
+    record { line = s.line + 1; digits = false; value = 0; buffers = buffers; blocks = blocks; bad = s.bad; tally = tally }
 
 -- what reads make of a scan: some bytes were fed. No contract can say which. A read that fails is as a byte that is no digit (`broken-is`)
 pub record Fed (s t : Scan) : Type 0 where

@@ -47,8 +47,8 @@ pub fn put_line(s: Reader, out: &mut [u8; 64]) -> usize
 {
     // as a slice, whose length a proof knows; that of an array behind a reference it does not
     let all = &mut out[..];
-    if let Some(line) = s.bad {
-        return put_bad(all, line);
+    if s.bad != 0 {
+        return put_bad(all, s.bad);
     }
     let totals = s.tally.totals;
     let a = put_number(all, 0, totals.hits, b' ');

@@ -1,6 +1,6 @@
 // The input in pieces: lines of digits, each used at its end.
 
-ghost use Rattle.std.specs.Prelude.{◌≡◌, true, ◌≤◌, ◌<◌, Some, unwrap_or};
+ghost use Rattle.std.specs.Prelude.{◌≡◌, true, ◌≤◌, ◌<◌};
 ghost use Rattle.bufmodel.specs.Sizes.{max_blocks};
 ghost use Rattle.buftrace.specs.Input.{is_digit};
 ghost use Rattle.buftrace.specs.Scan.{
@@ -36,14 +36,16 @@ const MAX_LINES: u64 = 1000002;
 pub struct Reader {
     // Lines that have ended.
     pub line: u64,
-    // The value of the line begun, once it has a digit.
-    pub value: Option<usize>,
+    // Whether the line begun has a digit, and its value. Two marks: a value without a digit, which `feed` and `finish` take too, no Option
+    // says.
+    pub digits: bool,
+    pub value: usize,
     // N and the number of blocks, 0 before they are read. `line` says whether they are: with an Option of each, a use would have branches
     // that no line comes to.
     pub buffers: usize,
     pub blocks: usize,
-    // The first bad line, counted from 1.
-    pub bad: Option<u64>,
+    // The first bad line, 0 for none. With an Option, callers would be asked that it is no line 0.
+    pub bad: u64,
     pub tally: Tally,
 }
 
@@ -61,7 +63,7 @@ fn spoil(s: Reader) -> Reader
     ensures becomes { Becomes spoilt s result }
 {
     Reader {
-        bad: Some(s.line + 1),
+        bad: s.line + 1,
         ..s
     }
 }
@@ -73,7 +75,8 @@ fn go_on(s: Reader, buffers: usize, blocks: usize, tally: Tally) -> Reader
 {
     Reader {
         line: s.line + 1,
-        value: None,
+        digits: false,
+        value: 0,
         buffers,
         blocks,
         tally,
@@ -81,18 +84,18 @@ fn go_on(s: Reader, buffers: usize, blocks: usize, tally: Tally) -> Reader
     }
 }
 
-// One of the first two lines ends, with a number.
-fn end_head(s: Reader, value: usize) -> Reader
-    requires { (s.line < 2) × (s.value ≡ Some value) }
+// One of the first two lines ends.
+fn end_head(s: Reader) -> Reader
+    requires { (s.line < 2) × (s.digits ≡ true) }
     ensures { Becomes ended s result }
 {
     if s.line == 1 {
-        return go_on(s, s.buffers, value, s.tally);
+        return go_on(s, s.buffers, s.value, s.tally);
     }
-    if value < 1 || value > MAX_BUFFERS {
+    if s.value < 1 || s.value > MAX_BUFFERS {
         return spoil(s);
     }
-    go_on(s, value, s.blocks, s.tally)
+    go_on(s, s.value, s.blocks, s.tally)
 }
 
 // A line ends. Inlined, so that the reader stays in registers from byte to byte: else a list takes three times as long.
@@ -103,30 +106,31 @@ fn end_line(s: Reader, states: &mut [u32], held: &mut [u16], place: &mut [u16]) 
     ensures held_after { scan_of result states.new held.new ≡ ended (scan_of s states.old held.old) }
     ensures ready_2 { Ready result states.new held.new place.new }
 {
-    let Some(value) = s.value else {
+    if !s.digits {
         return spoil(s);
-    };
+    }
     if s.line < 2 {
-        return end_head(s, value);
+        return end_head(s);
     }
-    if value >= s.blocks {
+    if s.value >= s.blocks {
         return spoil(s);
     }
-    let tally = use_block(s.buffers, s.tally, states, held, place, value);
+    let tally = use_block(s.buffers, s.tally, states, held, place, s.value);
     go_on(s, s.buffers, s.blocks, tally)
 }
 
 // The line begun has a digit more.
 fn add_digit(s: Reader, b: u8) -> Reader
-    requires { (s.line < max_lines) × (unwrap_or s.value 0 ≤ max_blocks) × (is_digit b ≡ true) }
+    requires { (s.line < max_lines) × (s.value ≤ max_blocks) × (is_digit b ≡ true) }
     ensures { Becomes (λ s. digit s b) s result }
 {
-    let v = s.value.unwrap_or(0) * 10 + usize::from(b - b'0');
+    let v = s.value * 10 + usize::from(b - b'0');
     if v > MAX_BLOCKS {
         return spoil(s);
     }
     Reader {
-        value: Some(v),
+        digits: true,
+        value: v,
         ..s
     }
 }
@@ -164,7 +168,7 @@ pub fn feed(
 {
     let mut t = s;
     for &b in bytes {
-        if t.bad.is_some() {
+        if t.bad != 0 {
             return t;
         }
         t = step(t, states, held, place, b);
@@ -177,7 +181,7 @@ fn close(s: Reader) -> Reader
     requires { s.line ≤ max_lines }
     ensures { Becomes closed s result }
 {
-    if s.bad.is_none() && s.line < 2 {
+    if s.bad == 0 && s.line < 2 {
         return spoil(s);
     }
     s
@@ -189,7 +193,7 @@ pub fn finish(s: Reader, states: &mut [u32], held: &mut [u16], place: &mut [u16]
     ensures held_after { scan_of result states.new held.new ≡ finished (scan_of s states.old held.old) }
     ensures ready { Ready result states.new held.new place.new }
 {
-    let t = if s.bad.is_none() && s.value.is_some() {
+    let t = if s.bad == 0 && s.digits {
         end_line(s, states, held, place)
     } else {
         s
@@ -203,7 +207,7 @@ pub fn break_off(s: Reader) -> Reader
     ensures value { result ≡ broken_reader s }
     ensures becomes { Becomes broken s result }
 {
-    if s.bad.is_some() {
+    if s.bad != 0 {
         return s;
     }
     spoil(s)

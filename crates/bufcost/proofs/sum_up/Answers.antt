@@ -5,4 +5,4 @@ use Rattle.bufcost.proofs.sum_up.Goals as goal
 
 pub returns-clause-out_after : goal.returns-clause-out_after
 returns-clause-out_after c =
-    c.put_line.ensures.out_after ∙ sym (printed-of c.finish-end.ensures.ready) ∙ ap printed c.finish-end.ensures.held_after
+    c.put_line.ensures.out_after ∙ sym (printed-of _ _ _) ∙ ap printed c.finish-end.ensures.held_after
