@@ -1,6 +1,7 @@
-// The log's positions.
+// The log's positions. The slices stand one by one: beside the record that is lent, a view, which has one of its own, would say it twice.
 
 ghost use Rattle.std.specs.Prelude.{◌≡◌};
+ghost use Rattle.bufmodel.specs.Memory.{memory, with_counts};
 ghost use Rattle.bufmodel.specs.View.{memory_of};
 ghost use Rattle.bufmodel.specs.Answer.{accepted_number, accepted_words, accepted_of};
 ghost use Rattle.bufmodel.specs.Calls.{log_inserted, log_flushed};
@@ -12,28 +13,112 @@ use bufmodel::refusal::Refusal;
 use bufmodel::view::PoolView;
 
 // The log is inserted up to a position.
-pub fn log_inserted_to(lent: &mut PoolView<'_>, position: u64) -> Result<(), Refusal>
-    ensures value { result ≡ accepted_of (log_inserted (memory_of lent.old) position) }
-    ensures number { accepted_number result ≡ (log_inserted (memory_of lent.old) position).refusal }
-    ensures words { accepted_words result ≡ (log_inserted (memory_of lent.old) position).answer }
-    ensures store_after { memory_of lent.new ≡ (log_inserted (memory_of lent.old) position).after }
-    ensures same_slices { lent.new ≡ record lent.old { control = lent.new.control } }
+pub fn log_inserted_to(
+    control: &mut Control,
+    states: &[u32],
+    names: &[u32],
+    pool: &[u8],
+    free: &[i32],
+    heads: &[i32],
+    chain: &[i32],
+    rows: &[u32],
+    store: &[u8],
+    counts: &[u16],
+    position: u64,
+) -> Result<(), Refusal>
+    ensures value { result
+        ≡ accepted_of
+        (log_inserted
+        (with_counts counts.now
+        (memory control.old states.now names.now pool.now free.now
+        heads.now chain.now rows.now store.now)) position) }
+    ensures number { accepted_number result
+        ≡ (log_inserted
+        (with_counts counts.now
+        (memory control.old states.now names.now pool.now free.now
+        heads.now chain.now rows.now store.now)) position).refusal }
+    ensures words { accepted_words result
+        ≡ (log_inserted
+        (with_counts counts.now
+        (memory control.old states.now names.now pool.now free.now
+        heads.now chain.now rows.now store.now)) position).answer }
+    ensures store_after { with_counts counts.now
+        (memory control.new states.now names.now pool.now free.now
+        heads.now chain.now rows.now store.now)
+        ≡ (log_inserted
+        (with_counts counts.now
+        (memory control.old states.now names.now pool.now free.now
+        heads.now chain.now rows.now store.now)) position).after }
 {
-    let after = log_inserted(lent, position)?;
-    store_back(&mut lent.control, after);
+    let seen = PoolView {
+        control: *control,
+        states,
+        names,
+        pool,
+        free,
+        heads,
+        chain,
+        rows,
+        store,
+        counts,
+    };
+    let after = log_inserted(&seen, position)?;
+    store_back(control, after);
     Ok(())
 }
 
 // The log is flushed up to a position, or further.
-pub fn log_flushed_to(lent: &mut PoolView<'_>, position: u64) -> Result<(), Refusal>
-    ensures value { result ≡ accepted_of (log_flushed (memory_of lent.old) position) }
-    ensures number { accepted_number result ≡ (log_flushed (memory_of lent.old) position).refusal }
-    ensures words { accepted_words result ≡ (log_flushed (memory_of lent.old) position).answer }
-    ensures store_after { memory_of lent.new ≡ (log_flushed (memory_of lent.old) position).after }
-    ensures same_slices { lent.new ≡ record lent.old { control = lent.new.control } }
+pub fn log_flushed_to(
+    control: &mut Control,
+    states: &[u32],
+    names: &[u32],
+    pool: &[u8],
+    free: &[i32],
+    heads: &[i32],
+    chain: &[i32],
+    rows: &[u32],
+    store: &[u8],
+    counts: &[u16],
+    position: u64,
+) -> Result<(), Refusal>
+    ensures value { result
+        ≡ accepted_of
+        (log_flushed
+        (with_counts counts.now
+        (memory control.old states.now names.now pool.now free.now
+        heads.now chain.now rows.now store.now)) position) }
+    ensures number { accepted_number result
+        ≡ (log_flushed
+        (with_counts counts.now
+        (memory control.old states.now names.now pool.now free.now
+        heads.now chain.now rows.now store.now)) position).refusal }
+    ensures words { accepted_words result
+        ≡ (log_flushed
+        (with_counts counts.now
+        (memory control.old states.now names.now pool.now free.now
+        heads.now chain.now rows.now store.now)) position).answer }
+    ensures store_after { with_counts counts.now
+        (memory control.new states.now names.now pool.now free.now
+        heads.now chain.now rows.now store.now)
+        ≡ (log_flushed
+        (with_counts counts.now
+        (memory control.old states.now names.now pool.now free.now
+        heads.now chain.now rows.now store.now)) position).after }
 {
-    let after = log_flushed(lent, position)?;
-    store_back(&mut lent.control, after);
+    let seen = PoolView {
+        control: *control,
+        states,
+        names,
+        pool,
+        free,
+        heads,
+        chain,
+        rows,
+        store,
+        counts,
+    };
+    let after = log_flushed(&seen, position)?;
+    store_back(control, after);
     Ok(())
 }
 
@@ -60,11 +145,35 @@ pub fn log_through(seen: &PoolView<'_>, position: u64) -> LogEnd
     ensures store_value { memory_of (record seen.now { control = result.control })
         ≡ (log_flushed (log_inserted (memory_of seen.now) position).after position).after }
 {
-    let mut lent = *seen;
-    let inserted = log_inserted_to(&mut lent, position);
-    let flushed = log_flushed_to(&mut lent, position);
+    let mut lent = seen.control;
+    let inserted = log_inserted_to(
+        &mut lent,
+        seen.states,
+        seen.names,
+        seen.pool,
+        seen.free,
+        seen.heads,
+        seen.chain,
+        seen.rows,
+        seen.store,
+        seen.counts,
+        position,
+    );
+    let flushed = log_flushed_to(
+        &mut lent,
+        seen.states,
+        seen.names,
+        seen.pool,
+        seen.free,
+        seen.heads,
+        seen.chain,
+        seen.rows,
+        seen.store,
+        seen.counts,
+        position,
+    );
     LogEnd {
-        control: lent.control,
+        control: lent,
         inserted,
         flushed,
     }

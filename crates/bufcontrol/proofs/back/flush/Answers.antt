@@ -1,6 +1,6 @@
 use Rattle.bufmodel.proofs.FixedLaws.{flush-fixed}
-use Rattle.bufcontrol.proofs.StoredLaws.{stored}
+use Rattle.bufcontrol.proofs.StoredLaws.{stored-fixed}
 use Rattle.bufcontrol.proofs.back.flush.Goals as goal
 
 pub store_back-requires : goal.store_back-requires
-store_back-requires c = stored c.in_ok-end.ensures.store_after (flush-fixed _ c.args.holder.0 c.args.buffer.0)
+store_back-requires c = stored-fixed c.in_ok-end.ensures.store_after (flush-fixed _ c.args.holder.0 c.args.buffer.0)
