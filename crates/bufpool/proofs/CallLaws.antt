@@ -9,12 +9,11 @@ use Rattle.bufmodel.specs.Memory.{Memory}
 use Rattle.bufmodel.specs.Sizes.{sized_for}
 use Rattle.bufmodel.specs.Outcome.{Outcome, outcome}
 use Rattle.bufmodel.specs.Lent.{Lent, opened, ended}
-use Rattle.bufmodel.specs.Pin.{holder_place, name_places, page_places, pin}
-use Rattle.bufmodel.specs.Calls.{buffer_places, set_up, fresh, unpin, read, write, flush, give_back, checkpoint, peek, extend, drop_file}
+use Rattle.bufmodel.specs.Pin.{pin}
+use Rattle.bufmodel.specs.Calls.{set_up, fresh, unpin, read, write, flush, give_back, checkpoint, peek, extend, drop_file}
 use Rattle.bufmodel.specs.Calls.{log_inserted, log_flushed}
 use Rattle.bufmodel.proofs.AnswerLaws.{end-first}
 use Rattle.bufmodel.proofs.AnsweredLaws.{by-case}
-use Rattle.bufmodel.proofs.RefusalLaws.{checked-below}
 use Rattle.bufpool.proofs.ExportLaws.{Early, under, ended_by}
 
 -- ---- set up: it looks at no control record
@@ -46,8 +45,8 @@ module _ (h i : ℕ) where
 
     -- the memory stays
     pub read_left : (m : Memory) → m ≡ (read m h i from bytes).after
-    unfolding read buffer_places holder_place
-    read_left m = by-case (λ o. m ≡ o.after) _ bytes m _ (checked-below m _ refl) refl (λ j l. refl)
+    unfolding read
+    read_left m = by-case (λ o. m ≡ o.after) _ bytes m _ refl (λ j. refl)
 
     pub write-early : (at : ℕ) → Early (λ m. write m h i from bytes at) bytes
     unfolding write
@@ -90,8 +89,8 @@ module _ (n : PageName) where
   peek-early m k e h = end-first m _ [] _ e h
 
   pub peek-left : (m : Memory) → m ≡ (peek m n).after
-  unfolding peek page_places name_places
-  peek-left m = by-case (λ o. m ≡ o.after) _ [] m _ (checked-below m _ refl) refl (λ j l. refl)
+  unfolding peek
+  peek-left m = by-case (λ o. m ≡ o.after) _ [] m _ refl (λ j. refl)
 
   pub pin-early : (h : ℕ) → Early (λ m. pin m h n) []
   unfolding pin
