@@ -19,7 +19,8 @@ pub fn is_first(chain: &[i32], names: &[u32], first: i32, buffer: BufferNumber) 
 
 // The same where the chain does not start with the buffer: the walk looks at each place's next link.
 // It takes the numbers as they are stored, by a sign test and a cast, since the buffer's own is compared with each as it stands there.
-// The steps are counted down: counted up, a step takes two branches in place of one, and a chain of all names half as long again.
+// The steps are counted down: a step takes one branch, counted up two. By where the linker puts either, a chain of all names takes a tenth
+// more or less.
 fn is_later(chain: &[i32], names: &[u32], first: i32, buffer: BufferNumber) -> bool
     requires { (length names.now ≡ name_words * length chain.now) × (buffer.0 < length chain.now) × (buffer.0 < 2 ^ 31)
         × (is_to buffer.0 (link_of first) ≡ false) }
